@@ -1,0 +1,16 @@
+use Rattle.std.proofs.Common.{rules, ◌≡◌, true, false, inl, ◌∙◌, ap, Err}
+use Rattle.std.proofs.lemmas.Result.{err_from_is_err_and}
+use Rattle.outside.specs.Memory.{is_listed, counted}
+use Rattle.outside.proofs.memory_files.MemoryFilesFiles.find.Goals as goal
+
+pub returns-then-contains-clause-step : goal.returns-then-contains-clause-step
+returns-then-contains-clause-step c =
+    let listed : is_listed c.args.self.now.fails (counted c.args.self.now.calls) ≡ true = search rules in
+    (inl listed, search rules)
+
+pub returns-in_err-source-in-Some-file_named-clause-step : goal.returns-in_err-source-in-Some-file_named-clause-step
+returns-in_err-source-in-Some-file_named-clause-step c =
+    let passed = err_from_is_err_and c.from_residual.result c.from_residual.ensures.1 in
+    let memory = passed.1 ∙ ap Err passed.2 in
+    let listed : is_listed c.args.self.now.fails (counted c.args.self.now.calls) ≡ false = search rules in
+    rw memory (listed, search rules)

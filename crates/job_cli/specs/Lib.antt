@@ -1,0 +1,10 @@
+pub mod Begun
+pub mod Causes
+pub mod Counting
+pub mod Entries
+pub mod Faults
+pub mod Front
+pub mod Limits
+pub mod LinesUnderWay
+pub mod Pipes
+pub mod Run

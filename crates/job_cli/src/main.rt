@@ -1,0 +1,34 @@
+//! Runs a job: counts the lines of a file, as the job's text says, and prints the counts.
+//!
+//! It stands on all other crates. `top` is the program over the world that it is handed; what it
+//! answers and writes is said by its contract, in the words of `specs/Run.antt`. `main` hands it the
+//! real files and the standard output.
+#![tactic(auto)]
+
+mod counts;
+mod input;
+mod lines;
+mod output;
+mod pipe;
+mod top;
+
+use flow_defs::{ListOf, Word};
+use outside::{DirFiles, StdSink};
+use std::process::ExitCode;
+use std::{env, io};
+
+fn main(rt: HostRuntime) -> io::Result<ExitCode> {
+    let alloc = rt.alloc();
+    let mut words = ListOf::new(alloc);
+    for word in env::args(&rt)?.skip(1) {
+        words.push(Word::of(alloc, word.as_str())?)?;
+    }
+    let status = top::top(
+        &rt,
+        alloc,
+        &words,
+        &mut DirFiles::new(&rt),
+        &mut StdSink::new(&rt),
+    );
+    Ok(ExitCode::from(status))
+}

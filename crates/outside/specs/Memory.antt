@@ -1,5 +1,5 @@
 -- A source and a sink in memory: which of their calls fail, and what the others do.
-use Rattle.std.specs.Prelude.{◌≡◌, ℕ, ◌+◌, ◌-◌, ◌==◌, Bool, true, false, nat_le, min, List, [], ◌++◌, length, drop, if◌then◌else◌, Option, Result, Ok, Err}
+use Rattle.std.specs.Prelude.{◌≡◌, ℕ, ◌+◌, ◌-◌, ◌==◌, Bool, true, false, nat_le, min, List, [], length, drop, if◌then◌else◌, Option, Result, Ok, Err}
 use Rattle.std.specs.Option.{option_map_or}
 use Rattle.std.specs.List.{list_any}
 use Rattle.outside.specs.declared.source.Failed.{Failed}

@@ -1,7 +1,7 @@
 use Rattle.std.proofs.Common.{rules, ◌∙◌, ap, sym}
 use Rattle.std.specs.FinMap as map
 use Rattle.std.proofs.lemmas.Fn.{always_returns_same}
-use Rattle.flow_defs.specs.Rows.{row_pairs, IsSortedByKeys}
+use Rattle.flow_defs.specs.Rows.{row_pairs}
 use Rattle.flow_defs.proofs.TableLemmas.{order_at, searched_found, searched_absent, sorted_after, table_after}
 use Rattle.flow_defs.proofs.table.Table.set.Goals as goal
 

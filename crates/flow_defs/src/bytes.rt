@@ -3,6 +3,8 @@ ghost use Rattle.std.specs.Prelude.{◌≡◌, ◌+◌, ◌<◌, ◌≤◌, [], 
 ghost use Rattle.std.specs.Option.{option_to_list};
 
 use std::alloc::{AllocError, Global};
+use std::cmp::Ordering;
+use std::hash::{Hash, Hasher};
 use std::marker::Model;
 
 /// A list of bytes. It keeps the allocator that it was made with.
@@ -89,5 +91,79 @@ impl Bytes {
         ensures value { result.now ≡ self.old.items }
     {
         self.bytes.as_mut_slice()
+    }
+}
+
+// Bytes are compared, ordered and hashed by their items alone.
+
+impl PartialEq for Bytes {
+    ghost use Rattle.std.specs.Prelude.{◌==◌};
+    ghost use Rattle.std.specs.Ordering.{on};
+    ghost use Rattle.std.specs.Cmp.Lexicographic.{pointwise};
+    ghost use Rattle.std.specs.Cmp.Rules.{comparing};
+    ghost use Rattle.std.proofs.Common.{rules};
+
+    ghost eq = { on (λ b. b.items) (pointwise ◌==◌) };
+
+    ghost laws = { Prim.search (comparing, rules) };
+
+    fn eq(&self, other: &Self) -> bool {
+        self.bytes.as_slice() == other.bytes.as_slice()
+    }
+}
+
+impl Eq for Bytes {
+    ghost use Rattle.std.specs.Cmp.Rules.{comparing};
+    ghost use Rattle.std.proofs.Common.{rules};
+
+    ghost laws = { Prim.search (comparing, rules) };
+}
+
+impl PartialOrd for Bytes {
+    ghost use Rattle.std.specs.Ordering.{nat_cmp, on, as_partial_cmp};
+    ghost use Rattle.std.specs.Cmp.{partial_order_from_own_ties};
+    ghost use Rattle.std.specs.Cmp.Lexicographic.{slice_cmp};
+    ghost use Rattle.std.specs.Cmp.Rules.{comparing};
+    ghost use Rattle.std.proofs.Common.{rules};
+
+    ghost partial_cmp = { as_partial_cmp (on (λ b. b.items) (slice_cmp nat_cmp)) };
+
+    ghost laws = { partial_order_from_own_ties (Prim.search (comparing, rules)) (Prim.search (comparing, rules)) };
+
+    fn partial_cmp(&self, other: &Self) -> Option<Ordering> {
+        Some(self.cmp(other))
+    }
+}
+
+impl Ord for Bytes {
+    ghost use Rattle.std.specs.Ordering.{nat_cmp, on};
+    ghost use Rattle.std.specs.Cmp.Lexicographic.{slice_cmp};
+    ghost use Rattle.std.specs.Cmp.Rules.{comparing};
+    ghost use Rattle.std.proofs.Common.{rules};
+
+    ghost cmp = { on (λ b. b.items) (slice_cmp nat_cmp) };
+
+    ghost total = { Prim.search (comparing, rules) };
+
+    ghost matches_partial_cmp = { Prim.search (comparing, rules) };
+
+    ghost matches_eq = { Prim.search (comparing, rules) };
+
+    fn cmp(&self, other: &Self) -> Ordering {
+        self.bytes.as_slice().cmp(&other.bytes.as_slice())
+    }
+}
+
+impl Hash for Bytes {
+    ghost use Rattle.std.specs.Prelude.{◌∷◌, []};
+    ghost use Rattle.std.specs.Cmp.Lexicographic.{same_text};
+    ghost use Rattle.std.proofs.Common.{ap, sym};
+
+    ghost hash_input = { λ b. b.items ∷ [] };
+
+    ghost respects_eq = { λ a b same. ap (λ l. l ∷ []) (same_text a.items b.items (sym same)) };
+
+    fn hash<H: Hasher>(&self, state: &mut H) {
+        state.write(&self.bytes);
     }
 }

@@ -1,7 +1,6 @@
 -- A map's entries, seen as a finite map under the bytes of their keys.
 use Rattle.std.proofs.Common.{◌≡◌, ◌≢◌, ℕ, ◌+◌, ◌%◌, ◌^◌, Bool, true, false, cond, T, List, [], ◌∷◌, Option, Some, None, Ordering, Less, Equal, Greater, refl, sym, ap, subst, ◌∙◌, unwrap_or}
-use Rattle.std.specs.Prelude.{Vec, nat_eq}
-use Rattle.std.specs.declared.alloc.Global.{Global}
+use Rattle.std.specs.Prelude.{nat_eq}
 use Rattle.std.specs.Option.{option_or}
 use Rattle.std.specs.Ordering.{is_eq, eq_by_cmp}
 use Rattle.std.specs.Cmp.{IsEquivalence}
@@ -14,11 +13,12 @@ use Rattle.std.specs.List.{IsDistinct, AllByRecursion}
 use Rattle.std.specs.List.Sorted.{IsStrictlySortedBy}
 use Rattle.std.proofs.lemmas.Cmp.{nat_list_cmp_total, eq_by_cmp_equiv, on_equiv}
 use Rattle.std.proofs.lemmas.Map.Keys.{sorted_head, sorted_tail}
+use Rattle.flow_defs.specs.Items.{Items}
 use Rattle.flow_defs.specs.Tables.{Values, key_cmp}
 use Rattle.job_cli.specs.Entries.{entry_pair, entry_pairs}
 
 abbrev pub Key : Type 0
-Key = Vec ℕ Global
+Key = Items ℕ
 
 -- the key has these bytes
 abbrev pub has_bytes : List ℕ → Key → Bool
@@ -51,25 +51,9 @@ exact x y is = slice_cmp-IsAntisymmetric nat_cmp-IsAntisymmetric x y (is_equal _
 tied_itself : (x : List ℕ) → eq_by_cmp key_cmp x x ≡ true
 tied_itself x = (eq_by_cmp_equiv nat_list_cmp_total).refl x
 
--- what is found stands under a key with these bytes
-key_of : (entries : List (Key × ℕ)) (bytes : List ℕ) (n : ℕ) → find key_cmp bytes (entry_pairs entries) ≡ Some n → (key : Key) × (bytes ≡ key.items)
-key_of [] bytes n found = absurd (cc)
-key_of (e ∷ entries) bytes n found =
-    elim (eq_by_cmp key_cmp bytes e.0.items) as (λ b. eq_by_cmp key_cmp bytes e.0.items ≡ b → cond b (Some e.1) (find key_cmp bytes (entry_pairs entries)) ≡ Some n → (key : Key) × (bytes ≡ key.items)) [
-      | true ↦ λ is _. (e.0, exact bytes e.0.items is)
-      | false ↦ λ is later. key_of entries bytes n later
-    ] refl found
-
--- entries in which the keys find the same have the same under all bytes
-pub same_finds : (first second : List (Key × ℕ)) → ((key : Key) → find key_cmp key.items (entry_pairs first) ≡ find key_cmp key.items (entry_pairs second)) → (bytes : List ℕ) → find key_cmp bytes (entry_pairs first) ≡ find key_cmp bytes (entry_pairs second)
-same_finds first second same bytes =
-    elim (find key_cmp bytes (entry_pairs first)) as (λ r. find key_cmp bytes (entry_pairs first) ≡ r → r ≡ find key_cmp bytes (entry_pairs second)) [
-      | Some n ↦ λ is. let key = key_of first bytes n is in sym is ∙ subst (λ b. find key_cmp b (entry_pairs first) ≡ find key_cmp b (entry_pairs second)) (sym key.1) (same key.0)
-      | None ↦ λ is. elim (find key_cmp bytes (entry_pairs second)) as (λ r. find key_cmp bytes (entry_pairs second) ≡ r → None ≡ r) [
-        | Some n ↦ λ other. let key = key_of second bytes n other in sym is ∙ subst (λ b. find key_cmp b (entry_pairs first) ≡ find key_cmp b (entry_pairs second)) (sym key.1) (same key.0) ∙ other
-        | None ↦ λ _. refl
-      ] refl
-    ] refl
+-- a key of these bytes
+abbrev key_of : List ℕ → Key
+key_of bytes = record { items = bytes; room = 0 }
 
 -- ---- one more entry
 
@@ -79,10 +63,9 @@ pub inserted : (old new : List (Key × ℕ)) (key : Key) (n : ℕ) → ((k : Key
 inserted old new key n updates =
     same_map nat_list_cmp_total (slice_cmp-IsAntisymmetric nat_cmp-IsAntisymmetric) _ _ (λ bytes.
     get-from_entries nat_list_cmp_total (entry_pairs new) bytes
-    ∙ same_finds new ((key, n) ∷ old) (λ k.
-    sym (lookup-entry_pairs new k.items) ∙ updates k
-    ∙ ap (λ b. cond b (Some n) (lookup (has_bytes k.items) old)) ((nat_list_eq_equiv).symm key.items k.items)
-    ∙ lookup-entry_pairs ((key, n) ∷ old) k.items) bytes
+    ∙ sym (lookup-entry_pairs new bytes) ∙ updates (key_of bytes)
+    ∙ ap (λ b. cond b (Some n) (lookup (has_bytes bytes) old)) ((nat_list_eq_equiv).symm key.items bytes)
+    ∙ lookup-entry_pairs ((key, n) ∷ old) bytes
     ∙ ap (cond (eq_by_cmp key_cmp bytes key.items) (Some n)) (sym (get-from_entries nat_list_cmp_total (entry_pairs old) bytes))
     ∙ sym (get-insert nat_list_cmp_total (from_entries (entry_pairs old)) key.items n bytes))
 
@@ -166,7 +149,7 @@ all_put_is sorted others ordered same =
     get-all_put sorted empty ordered bytes
     ∙ ap (option_or (find key_cmp bytes (entry_pairs sorted))) (get-empty key_cmp bytes)
     ∙ or_none (find key_cmp bytes (entry_pairs sorted))
-    ∙ same_finds sorted others (λ key. sym (by_order key.items sorted) ∙ same key ∙ lookup-entry_pairs others key.items) bytes
+    ∙ sym (by_order bytes sorted) ∙ same (key_of bytes) ∙ lookup-entry_pairs others bytes
     ∙ sym (get-from_entries nat_list_cmp_total (entry_pairs others) bytes))
   where
     by_order : (bytes : List ℕ) (entries : List (Key × ℕ)) → lookup (λ (k : Key). is_eq (slice_cmp nat_cmp bytes k.items)) entries ≡ find key_cmp bytes (entry_pairs entries)

@@ -1,10 +1,10 @@
 -- The entries of std's maps from records to counts.
-use Rattle.std.specs.Prelude.{ℕ, List, map, Vec}
-use Rattle.std.specs.declared.alloc.Global.{Global}
+use Rattle.std.specs.Prelude.{ℕ, List, map}
+use Rattle.flow_defs.specs.Items.{Items}
 
 -- An entry as the pair of its bytes and its count.
-abbrev pub entry_pair : Vec ℕ Global × ℕ → List ℕ × ℕ
+abbrev pub entry_pair : Items ℕ × ℕ → List ℕ × ℕ
 entry_pair entry = (entry.0.items, entry.1)
 
-abbrev pub entry_pairs : List (Vec ℕ Global × ℕ) → List (List ℕ × ℕ)
+abbrev pub entry_pairs : List (Items ℕ × ℕ) → List (List ℕ × ℕ)
 entry_pairs entries = map entry_pair entries

@@ -4,7 +4,7 @@ ghost use Rattle.std.specs.FinMap as map;
 ghost use Rattle.flow_defs.specs.Aggregates.{count};
 ghost use Rattle.flow_defs.specs.Tables.{add};
 
-use flow_defs::Table;
+use flow_defs::{Bytes, Table};
 use std::alloc::{AllocError, Global};
 use std::collections::{BTreeMap, HashMap};
 use std::marker::Model;
@@ -13,7 +13,7 @@ use std::marker::Model;
 #[derive(Drop)]
 pub struct Counts {
     alloc: Global,
-    numbers: HashMap<Vec<u8>, u64>,
+    numbers: HashMap<Bytes, u64>,
 }
 
 impl Model for Counts {
@@ -42,17 +42,17 @@ impl Counts {
     }
 
     /// Counts one more record. A record that came before takes no memory.
-    pub fn add(&mut self, record: &[u8]) -> Result<(), AllocError>
-        ensures ok { OnOk result (self.new ≡ add count self.old record.now) }
+    pub fn add(&mut self, record: Bytes) -> Result<(), AllocError>
+        ensures ok { OnOk result (self.new ≡ add count self.old record.items) }
         ensures err { OnErr result (self.new ≡ self.old) }
     {
-        match self.numbers.get_mut(record) {
+        match self.numbers.get_mut(&record) {
             Some(number) => {
                 *number = number.wrapping_add(1);
                 Ok(())
             }
             None => {
-                self.numbers.insert(record.to_vec(self.alloc)?, 1)?;
+                self.numbers.insert(record, 1)?;
                 Ok(())
             }
         }
@@ -62,7 +62,7 @@ impl Counts {
     pub fn into_table(self) -> Result<Table, AllocError>
         ensures { IfOk result (λ table. table ≡ self) }
     {
-        let sorted: BTreeMap<Vec<u8>, u64> = self.numbers.into_iter().collect(self.alloc)?;
+        let sorted: BTreeMap<Bytes, u64> = self.numbers.into_iter().collect(self.alloc)?;
         let mut table = Table::new(self.alloc);
         for (key, number) in sorted {
             table.set(key.as_slice(), number)?;

@@ -85,10 +85,10 @@ impl Lines {
         ensures { (ended : List (List ℕ)) → IsUnderWay self.old ended →
             OnOk result (HasCounted self.new.pipe.counts (laid self.new.pipe) [] (ended ++ lines (self.old.line.items ++ []))) }
     {
-        if self.line.is_empty() {
-            return Ok(());
+        if !self.line.is_empty() {
+            self.put_line()?;
         }
-        self.put_line()
+        Ok(())
     }
 
     // Hands the line to the pipe, and begins another.

@@ -10,6 +10,8 @@ mod input;
 mod lines;
 mod output;
 mod pipe;
+#[cfg(test)]
+mod tests;
 mod top;
 
 use flow_defs::{ListOf, Word};

@@ -95,7 +95,7 @@ impl Pipe {
         self.filled = 0;
         'records: loop {
             match self.reader.next() {
-                Ok(Some(record)) => self.counts.add(record.as_slice())?,
+                Ok(Some(record)) => self.counts.add(record)?,
                 Ok(None) => return Ok(()),
                 Err(NextFault::TooLong { len: _ }) => unreachable!(),
                 Err(NextFault::Memory) => return Err(AllocError),

@@ -14,7 +14,7 @@ use Rattle.job_cli.proofs.counts.Counts.add.Goals as goal
 pub returns-in-Some-clause-ok : goal.returns-in-Some-clause-ok
 returns-in-Some-clause-ok c =
     let entries = c.self.inside.numbers.entries in
-    let bytes = c.args.record.now in
+    let bytes = c.args.record.items in
     let number = c.in-Some.number.now in
     let next = (number + 1) % 2 ^ 64 in
     let found : lookup (has_bytes bytes) entries ≡ Some number = sym c.in-Some.ensures.value in
@@ -27,14 +27,12 @@ returns-in-Some-clause-ok c =
 pub returns-in_ok-insert-in-None-clause-ok : goal.returns-in_ok-insert-in-None-clause-ok
 returns-in_ok-insert-in-None-clause-ok c =
     let entries = c.self.inside.numbers.entries in
-    let bytes = c.args.record.now in
-    let key = c.in_ok-to_vec-in-None.field-0 in
+    let bytes = c.args.record.items in
+    let key = c.args.record in
     let missed : lookup (has_bytes bytes) entries ≡ None = sym c.in-None.ensures.value in
     let had : get c.args.self.now bytes ≡ None = ap (λ (t : Values). get t bytes) (sym c.self.view_is) ∙ get-entries entries bytes ∙ missed in
-    let copied : key.items ≡ bytes = search rules in
     inserted entries c.insert.new.self.entries key 1 (λ k.
     c.in_ok-insert-in-None.ensures.updates.0 k
     ∙ ap (λ (m : HashMap Key ℕ (BuildHasherDefault FoldHasher)). cond (pointwise nat_eq key.items k.items) (Some 1) (lookup (has_bytes k.items) m.entries)) c.get_mut.follows.holds-at-none)
-    ∙ ap (λ (k : List ℕ). insert (from_entries (entry_pairs entries)) k 1) copied
     ∙ ap (λ (t : Values). insert t bytes 1) c.self.view_is
     ∙ ap (λ (o : Option ℕ). insert c.args.self.now bytes ((unwrap_or o 0 + 1) % 2 ^ 64)) (sym had)

@@ -25,7 +25,7 @@ loop-key-init c =
 
 pub loop-key-preserved : goal.loop-key-preserved
 loop-key-preserved c =
-    ap (λ (t : Values). all_put t (entry_pairs c.next.new.self)) (c.in_ok-set.ensures.ok ∙ ap (λ (k : List ℕ). insert c.loop-key.table k c.in-Some.number) c.as_slice.ensures.value)
+    ap (λ (t : Values). all_put t (entry_pairs c.next.new.self)) (c.in_ok-set.ensures.ok ∙ ap (λ (k : List ℕ). insert c.loop-key.table k c.in-Some.number) c.as_slice.ensures)
     ∙ sym (ap (λ (es : List (Key × ℕ)). all_put c.loop-key.table (entry_pairs es)) c.in-Some.ensures.steps)
     ∙ c.loop-key.invariant
 

@@ -2,6 +2,8 @@
 ghost use Rattle.std.specs.Prelude.{◌≡◌, ℕ, List, ◌∷◌, ◌++◌, IfSome, IfNone};
 ghost use Rattle.flow_defs.specs.Lines.{lines, onto_first_line};
 
+use memchr::memchr;
+
 /// The bytes before the first newline, and those after it.
 ///
 /// Whatever comes after these bytes, the first part is then their first line, and the lines of the
@@ -14,6 +16,6 @@ pub fn cut_line(bytes: &[u8]) -> Option<(&[u8], &[u8])>
     ensures none { IfNone result ((more : List ℕ) →
         lines (bytes.now ++ more) ≡ onto_first_line bytes.now (lines more)) }
 {
-    let newline = bytes.iter().position(|byte| *byte == b'\n')?;
+    let newline = memchr(b'\n', bytes)?;
     Some((&bytes[..newline], &bytes[newline + 1..]))
 }

@@ -41,18 +41,18 @@ impl Counts {
         }
     }
 
-    /// Counts one more record. A record that came before takes no memory.
-    pub fn add(&mut self, record: Bytes) -> Result<(), AllocError>
-        ensures ok { OnOk result (self.new ≡ add count self.old record.items) }
+    /// Counts one more record with this key. A key that came before takes no memory.
+    pub fn add(&mut self, key: Bytes) -> Result<(), AllocError>
+        ensures ok { OnOk result (self.new ≡ add count self.old key.items) }
         ensures err { OnErr result (self.new ≡ self.old) }
     {
-        match self.numbers.get_mut(&record) {
+        match self.numbers.get_mut(&key) {
             Some(number) => {
                 *number = number.wrapping_add(1);
                 Ok(())
             }
             None => {
-                self.numbers.insert(record, 1)?;
+                self.numbers.insert(key, 1)?;
                 Ok(())
             }
         }

@@ -42,17 +42,17 @@ impl Pipe {
         })
     }
 
-    /// Lays one more record down. It is counted once its segment is full, or at the end.
-    pub fn put(&mut self, record: &[u8]) -> Result<(), AllocError>
-        requires short { IsShort record.now }
+    /// Lays one more line down as a record. It is counted once its segment is full, or at the end.
+    pub fn put(&mut self, line: &[u8]) -> Result<(), AllocError>
+        requires short { IsShort line.now }
         requires counted { (ended : List (List ℕ)) × HasCounted self.old.counts (laid self.old) [] ended }
         ensures { (ended : List (List ℕ)) → HasCounted self.old.counts (laid self.old) [] ended →
-            OnOk result (HasCounted self.new.counts (laid self.new) [] (ended ++ record.now ∷ [])) }
+            OnOk result (HasCounted self.new.counts (laid self.new) [] (ended ++ line.now ∷ [])) }
     {
         let mut done = 0;
-        'spans: while done < record.len() + 4 {
+        'spans: while done < line.len() + 4 {
             self.make_room()?;
-            let count = fill(self.segment.as_mut_slice(), self.filled, record, done);
+            let count = fill(self.segment.as_mut_slice(), self.filled, line, done);
             self.filled += count;
             done += count;
         }
@@ -104,13 +104,13 @@ impl Pipe {
     }
 }
 
-// Lays the record's encoding from its byte `done` on down behind what is filled, as much as fits.
-fn fill(segment: &mut [u8], filled: usize, record: &[u8], done: usize) -> usize
+// Lays the line's encoding from its byte `done` on down behind what is filled, as much as fits.
+fn fill(segment: &mut [u8], filled: usize, line: &[u8], done: usize) -> usize
     requires within { filled ≤ length segment.old }
-    requires short { IsShort record.now }
-    requires begun { done ≤ length record.now + 4 }
-    ensures count { result ≡ min (length segment.old - filled) (length record.now + 4 - done) }
-    ensures laid { take (filled + result) segment.new ≡ take filled segment.old ++ take result (drop done (encoded record.now)) }
+    requires short { IsShort line.now }
+    requires begun { done ≤ length line.now + 4 }
+    ensures count { result ≡ min (length segment.old - filled) (length line.now + 4 - done) }
+    ensures laid { take (filled + result) segment.new ≡ take filled segment.old ++ take result (drop done (encoded line.now)) }
 {
-    write_span(record, done, &mut segment[filled..])
+    write_span(line, done, &mut segment[filled..])
 }

@@ -119,6 +119,7 @@ fn dir_files_read_what_was_written(rt: HostRuntime) -> Result<(), Fail> {
         Ok(_) => Err("a file that is not there")?,
         Err(fault) => assert_eq!(rt; fault, FindFault::Failed),
     }
+    std::fs::remove_file(&rt, "in")?;
     Ok(())
 }
 

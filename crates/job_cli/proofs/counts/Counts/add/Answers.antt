@@ -14,7 +14,7 @@ use Rattle.job_cli.proofs.counts.Counts.add.Goals as goal
 pub returns-in-Some-clause-ok : goal.returns-in-Some-clause-ok
 returns-in-Some-clause-ok c =
     let entries = c.self.inside.numbers.entries in
-    let bytes = c.args.record.items in
+    let bytes = c.args.key.items in
     let number = c.in-Some.number.now in
     let next = (number + 1) % 2 ^ 64 in
     let found : lookup (has_bytes bytes) entries ≡ Some number = sym c.in-Some.ensures.value in
@@ -27,8 +27,8 @@ returns-in-Some-clause-ok c =
 pub returns-in_ok-insert-in-None-clause-ok : goal.returns-in_ok-insert-in-None-clause-ok
 returns-in_ok-insert-in-None-clause-ok c =
     let entries = c.self.inside.numbers.entries in
-    let bytes = c.args.record.items in
-    let key = c.args.record in
+    let bytes = c.args.key.items in
+    let key = c.args.key in
     let missed : lookup (has_bytes bytes) entries ≡ None = sym c.in-None.ensures.value in
     let had : get c.args.self.now bytes ≡ None = ap (λ (t : Values). get t bytes) (sym c.self.view_is) ∙ get-entries entries bytes ∙ missed in
     inserted entries c.insert.new.self.entries key 1 (λ k.

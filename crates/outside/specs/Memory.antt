@@ -58,6 +58,8 @@ WriteStep old len (Ok n) new =
     (is_listed old.fails (counted old.calls) ≡ false)
     × (n ≡ (if has_stopped old.nothing_from (counted old.calls) then 0 else min len old.spare))
     × (new.spare ≡ old.spare - n)
+    × (new.fails ≡ old.fails)
+    × (new.nothing_from ≡ old.nothing_from)
     × (new.calls ≡ counted old.calls)
     × (new.faults ≡ (if n == 0 then counted old.faults else old.faults))
 WriteStep old len (Err e) new =

@@ -1,5 +1,5 @@
 -- Files in memory: which of their calls fail, and what the others give.
-use Rattle.std.specs.Prelude.{◌≡◌, ◌⊎◌, ℕ, ◌+◌, ◌≤◌, true, false, nat_eq, List, [], ◌∷◌, if◌then◌else◌, Option, Some, None, Result, Ok, Err}
+use Rattle.std.specs.Prelude.{◌≡◌, ◌⊎◌, ℕ, ◌+◌, ◌-◌, ◌≤◌, ◌==◌, true, false, nat_eq, List, [], ◌∷◌, if◌then◌else◌, Option, Some, None, Result, Ok, Err}
 use Rattle.std.specs.Option.{option_map}
 use Rattle.std.specs.Cmp.Lexicographic.{pointwise}
 use Rattle.outside.specs.declared.memory_files.MemoryFile.{MemoryFile}
@@ -46,3 +46,8 @@ FindStep old name (Err Failed) new =
 FindStep old name (Err Memory) new =
     (is_listed old.fails (counted old.calls) ≡ false)
     × (new ≡ record old { calls = counted old.calls })
+
+-- A back takes one input off those that are out. It counts a fault where the input has some.
+abbrev pub BackStep : FilesState → SourceState → FilesState → Type 0
+BackStep old input new =
+    new ≡ record old { faults = (if input.faults == 0 then old.faults else counted old.faults); lent = old.lent - 1 }

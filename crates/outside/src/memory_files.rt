@@ -2,7 +2,7 @@
 ghost use Rattle.std.specs.Prelude.{◌≡◌, ◌+◌, ◌-◌, ◌<◌, ◌≤◌, Some, None, Err, IfOk, IfSome, IfNone, OnOk, OnErr};
 ghost use Rattle.outside.specs.Faults.{HasRisen};
 ghost use Rattle.outside.specs.Memory.{source_of};
-ghost use Rattle.outside.specs.MemoryFiles.{AllGive, named, contents_in, FindStep};
+ghost use Rattle.outside.specs.MemoryFiles.{AllGive, named, contents_in, BackStep, FindStep};
 
 use crate::{Files, FindFault, MemorySource};
 use flow_defs::{Bytes, ListOf, Word};
@@ -128,7 +128,16 @@ impl Files for MemoryFiles {
         }
     }
 
-    fn back(&mut self, input: MemorySource) {
+    fn back(&mut self, input: MemorySource)
+        ensures same { contents_in self.new.files ≡ contents_in self.old.files }
+        ensures rises { 0 < input.faults → HasRisen self.old.faults self.new.faults }
+        ensures stays { input.faults ≡ 0 → self.new.faults ≡ self.old.faults }
+        ensures never_falls { self.old.faults ≤ self.new.faults }
+        ensures returns { self.new.lent ≡ self.old.lent - 1 }
+
+        // What is counted, and that nothing else changes.
+        ensures step { BackStep self.old input self.new }
+    {
         self.lent = self.lent.saturating_sub(1);
         if input.faults() > 0 {
             self.faults = self.faults.saturating_add(1);

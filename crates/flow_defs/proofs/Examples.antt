@@ -6,9 +6,8 @@ use Rattle.std.specs.FinMap.{entries, empty, len-entries, len-empty, entries-ins
 use Rattle.std.proofs.lemmas.Cmp.{nat_list_cmp_total}
 use Rattle.flow_defs.specs.Lines.{lines}
 use Rattle.flow_defs.specs.Records.{length_bytes, all_encoded}
-use Rattle.flow_defs.specs.Aggregates.{count}
-use Rattle.flow_defs.specs.Tables.{key_cmp, table_text}
-use Rattle.flow_defs.specs.Tally.{tally}
+use Rattle.flow_defs.specs.declared.job.AggKind.TheVariants.{Count}
+use Rattle.flow_defs.specs.Tables.{key_cmp, table_of, table_text}
 
 lines_three : lines (codes "a\nb\na\n") ≡ codes "a" ∷ codes "b" ∷ codes "a" ∷ []
 lines_three = refl
@@ -34,14 +33,14 @@ entries-empty : entries (empty {X = ℕ} {R = key_cmp}) ≡ []
 entries-empty = none_of_length _ (sym (len-entries empty) ∙ len-empty key_cmp ℕ)
 
 -- a source of three lines, two of them alike
-text_of_three : table_text (tally count (codes "a\nb\na\n")) ≡ codes "a\t2\nb\t1\n"
+text_of_three : table_text (table_of Count (lines (codes "a\nb\na\n"))) ≡ codes "a\t2\nb\t1\n"
 unfolding digits
 text_of_three = simp (entries-insert {X = ℕ} nat_list_cmp_total, get-insert {X = ℕ} nat_list_cmp_total, get-empty {X = ℕ} key_cmp, entries-empty)
 
 -- an empty line, and a rest without a newline
-text_with_rest : table_text (tally count (codes "b\n\na")) ≡ codes "\t1\na\t1\nb\t1\n"
+text_with_rest : table_text (table_of Count (lines (codes "b\n\na"))) ≡ codes "\t1\na\t1\nb\t1\n"
 unfolding digits
 text_with_rest = simp (entries-insert {X = ℕ} nat_list_cmp_total, get-insert {X = ℕ} nat_list_cmp_total, get-empty {X = ℕ} key_cmp, entries-empty)
 
-text_of_none : table_text (tally count []) ≡ []
+text_of_none : table_text (table_of Count (lines [])) ≡ []
 text_of_none = simp entries-empty

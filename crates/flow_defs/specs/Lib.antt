@@ -4,5 +4,7 @@ pub mod Records
 pub mod Lines
 pub mod Aggregates
 pub mod Tables
-pub mod Tally
+pub mod Stages
+pub mod Routes
+pub mod Jobs
 pub mod Rows

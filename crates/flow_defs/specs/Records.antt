@@ -1,9 +1,10 @@
 -- Records and their encoding. As in Flink's network stack a record is laid down as its length and
 -- then its bytes, end to end with the others, and is cut wherever a buffer is full. The limit of a
 -- record and the width of its length are this project's own.
-use Rattle.std.specs.Prelude.{◌≡◌, ℕ, ◌≤◌, List, ◌++◌, length, flat_map}
+use Rattle.std.specs.Prelude.{◌≡◌, ℕ, zero, suc, ◌≤◌, ◌||◌, nat_lt, List, [], ◌∷◌, ◌++◌, length, take, drop, flat_map, if◌then◌else◌, Option, Some, None}
+use Rattle.std.specs.Option.{option_map_or}
 use Rattle.std.specs.List.{AllByRecursion}
-use Rattle.std.specs.Int.{w32, to_be_bytes}
+use Rattle.std.specs.Int.{w32, to_be_bytes, from_be_bytes}
 use Rattle.flow_defs.specs.declared.TheConstants.{RECORD_MAX}
 
 -- A length as four bytes, the highest first.
@@ -26,3 +27,19 @@ IsShort r = length r ≤ RECORD_MAX
 pub record IsSpans (bytes : List ℕ) (records : List (List ℕ)) : Type 0 where
   pub whole : all_encoded records ≡ bytes
   pub short : AllByRecursion IsShort records
+
+-- The first record that the bytes encode, with what stands behind it, where a whole one stands there.
+abbrev pub first_record : List ℕ → Option (List ℕ × List ℕ)
+first_record bytes =
+    let len = from_be_bytes w32 (take 4 bytes) in
+    let behind = drop 4 bytes in
+    if nat_lt (length bytes) 4 || nat_lt RECORD_MAX len || nat_lt (length behind) len then None else Some (take len behind, drop len behind)
+
+-- The records that the bytes encode, at most so many.
+abbrev pub spans_within : ℕ → List ℕ → List (List ℕ)
+spans_within zero bytes = []
+spans_within (suc most) bytes = option_map_or (λ found. found.0 ∷ spans_within most found.1) (first_record bytes) []
+
+-- The records that the bytes encode, from the first on. Where records span the bytes these are they, and no others do.
+unfoldable pub spans : List ℕ → List (List ℕ)
+spans bytes = spans_within (length bytes) bytes

@@ -1,5 +1,5 @@
 // A list of bytes.
-ghost use Rattle.std.specs.Prelude.{◌≡◌, ◌+◌, ◌<◌, ◌≤◌, [], ◌∷◌, ◌++◌, length, IsOk, IsSome, OnOk, OnErr, ◌↔◌};
+ghost use Rattle.std.specs.Prelude.{◌≡◌, ◌+◌, ◌<◌, ◌≤◌, [], ◌∷◌, ◌++◌, length, IfOk, IsOk, IsSome, OnOk, OnErr, ◌↔◌};
 ghost use Rattle.std.specs.Option.{option_to_list};
 
 use std::alloc::{AllocError, Global};
@@ -40,6 +40,15 @@ impl Bytes {
         }
     }
 
+    /// A copy of these bytes.
+    pub fn of(alloc: Global, bytes: &[u8]) -> Result<Self, AllocError>
+        ensures { IfOk result (λ copy. copy.items ≡ bytes.now) }
+    {
+        let mut copy = Bytes::new(alloc);
+        copy.extend(bytes)?;
+        Ok(copy)
+    }
+
     /// Adds a byte at the end, in constant time over many calls.
     pub fn push(&mut self, item: u8) -> Result<(), AllocError>
         ensures ok { OnOk result (self.new.items ≡ self.old.items ++ item ∷ []) }
@@ -76,6 +85,14 @@ impl Bytes {
         ensures room { self.new.room ≡ self.old.room + length (option_to_list result) }
     {
         self.bytes.pop()
+    }
+
+    /// Takes all bytes out. Their places are room again.
+    pub fn clear(&mut self)
+        ensures items { self.new.items ≡ [] }
+        ensures room { self.new.room ≡ self.old.room + length self.old.items }
+    {
+        self.bytes.clear()
     }
 
     /// The bytes.

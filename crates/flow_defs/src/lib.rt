@@ -7,18 +7,28 @@
 //! finite map.
 #![tactic(auto)]
 
+mod aggregates;
 mod bytes;
+mod image;
+mod job;
 mod lines;
 mod list_of;
+mod routes;
 mod table;
+mod task;
 #[cfg(test)]
 mod tests;
 mod word;
 
+pub use aggregates::{fold_value, key_len, value_of};
 pub use bytes::Bytes;
+pub use image::{Image, Saved, Snapshot, TakeRun};
+pub use job::{AggKind, Exchange, Job, Mode, SOURCES_MAX, STAGES_MAX, Stage, StageKind, TASKS_MAX};
 pub use lines::cut_line;
 pub use list_of::ListOf;
+pub use routes::{needed, route};
 pub use table::{Row, Table};
+pub use task::{BarrierKind, ChannelId, Head, TaskId};
 pub use word::Word;
 
 /// The largest number of bytes in a record.

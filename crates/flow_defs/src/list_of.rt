@@ -49,10 +49,23 @@ impl<T> ListOf<T> {
         Ok(self.list.push(item)?)
     }
 
+    /// Adds copies of these items at the end, all of them or none.
+    pub fn extend(&mut self, piece: &[T]) -> Result<(), AllocError>
+    where
+        T: Copy,
+        ensures ok { OnOk result (self.new.items ≡ self.old.items ++ piece.now) }
+        ensures err { OnErr result (self.new.items ≡ self.old.items) }
+        ensures succeeds { length piece.now ≤ self.old.room → IsOk result }
+        ensures room { self.old.room ≤ self.new.room + length piece.now }
+    {
+        self.list.extend_from_slice(piece)
+    }
+
     /// Makes room for so many further items.
     pub fn reserve(&mut self, more: usize) -> Result<(), AllocError>
         ensures items { self.new.items ≡ self.old.items }
         ensures ok { OnOk result (more ≤ self.new.room) }
+        ensures succeeds { more ≤ self.old.room → IsOk result }
         ensures keeps { self.old.room ≤ self.new.room }
     {
         self.list.reserve(more)

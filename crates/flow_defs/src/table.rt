@@ -1,5 +1,5 @@
 // A table of keys and their values.
-ghost use Rattle.std.specs.Prelude.{◌≡◌, IfOk, OnOk, OnErr};
+ghost use Rattle.std.specs.Prelude.{◌≡◌, OnOk, OnErr};
 ghost use Rattle.std.specs.FinMap as map;
 ghost use Rattle.flow_defs.specs.Tables.{key_cmp};
 
@@ -84,7 +84,7 @@ impl Table {
                 Ok(())
             }
             Err(place) => {
-                let key = copy_of(self.alloc, key)?;
+                let key = Bytes::of(self.alloc, key)?;
                 self.rows.insert(place, Row { key, value })?;
                 Ok(())
             }
@@ -97,12 +97,4 @@ fn key_order(row: &Row, key: &[u8]) -> Ordering
     ensures { result ≡ key_cmp row.now.key.items key.now }
 {
     row.key.as_slice().cmp(key)
-}
-
-fn copy_of(alloc: Global, bytes: &[u8]) -> Result<Bytes, AllocError>
-    ensures { IfOk result (λ copy. copy.items ≡ bytes.now) }
-{
-    let mut copy = Bytes::new(alloc);
-    copy.extend(bytes)?;
-    Ok(copy)
 }

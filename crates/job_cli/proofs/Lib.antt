@@ -1,6 +1,9 @@
 pub mod CountLemmas
 pub mod CountingLemmas
-pub mod Encoding
 pub mod LinesLemmas
+pub mod PlanLemmas
+pub mod RunLemmas
+pub mod SourceLemmas
+pub mod TopLemmas
 pub mod Told
 pub mod Written

@@ -1,15 +1,10 @@
 -- A count under way.
-use Rattle.std.specs.Prelude.{◌≡◌, ℕ, List, ◌++◌}
-use Rattle.flow_defs.specs.Records.{IsSpans}
-use Rattle.flow_defs.specs.Aggregates.{count}
-use Rattle.flow_defs.specs.Tables.{Values, add_all, table_of}
+use Rattle.std.specs.Prelude.{ℕ, List, flat_map}
+use Rattle.flow_defs.specs.declared.job.Job.{Job}
+use Rattle.flow_defs.specs.Jobs.{last_edge}
+use Rattle.flow_defs.specs.Tables.{Values, add_all}
+use Rattle.plain_machine.specs.Worth.{reach}
 
--- These records were counted, or are on their way: the counts, with the records that span the bytes and those to come, are theirs.
-pub record HasCounted (counts : Values) (bytes coming : List ℕ) (ended : List (List ℕ)) : Type 0 where
-  pub pending : List (List ℕ)
-  pub spans : IsSpans (bytes ++ coming) pending
-  pub total : add_all count counts pending ≡ table_of count ended
-
--- With some bytes to come these are spanned by records.
-abbrev pub IsFront : List ℕ → Type 0
-IsFront bytes = (coming : List ℕ) × ((records : List (List ℕ)) × IsSpans (bytes ++ coming) records)
+-- The counts, with all that comes to the aggregate of these lines added.
+abbrev pub add_lines : Job → Values → List (List ℕ) → Values
+add_lines job counts lines = add_all job.agg counts (flat_map (reach job 0 (last_edge job)) lines)

@@ -1,47 +1,88 @@
--- What a run of a job does, and when it is refused.
-use Rattle.std.specs.Prelude.{◌≡◌, ◌⊎◌, ◌<◌, ◌≤◌, ℕ, length, List, ◌++◌, Option, Some, IfSome}
-use Rattle.flow_defs.specs.Aggregates.{count}
+-- What a run of a job does, and why it is refused.
+use Rattle.std.specs.Prelude.{◌≡◌, ◌⊎◌, ⊤, ◌<◌, ◌≤◌, ℕ, length, List, ◌++◌, Option, Some, None, IfSome}
+use Rattle.flow_defs.specs.declared.job.Job.{Job}
+use Rattle.flow_defs.specs.Jobs.{tasks}
+use Rattle.flow_defs.specs.Lines.{lines}
 use Rattle.flow_defs.specs.Tables.{table_text}
-use Rattle.flow_defs.specs.Tally.{tally}
-use Rattle.job_text.specs.Words.{IsRun}
-use Rattle.job_text.specs.JobText.{IsJob}
-use Rattle.job_cli.specs.declared.top.TheConstants.{JOB_MAX}
+use Rattle.plain_machine.specs.Worth.{tally}
+use Rattle.stage_fns.specs.Functions.{Functions}
+use Rattle.job_text.specs.declared.fault.JobFault.{JobFault}
+use Rattle.job_text.specs.Words.{IsRun, usage_fault}
+use Rattle.job_text.specs.JobText.{IsJobText}
+use Rattle.job_text.specs.JobFaults.{first_fault}
+use Rattle.job_cli.specs.declared.run.TheConstants.{JOB_MAX}
+use Rattle.job_cli.specs.declared.fault.Fault.{Fault}
+use Rattle.job_cli.specs.declared.fault.Fault.TheVariants.{Usage, JobLine, JobInput, SourceInput, Output, LongJob, LongLine, BigSource, Memory}
+use Rattle.job_cli.specs.Causes.{status_of}
+use Rattle.job_cli.specs.FaultTexts.{fault_line}
 use Rattle.job_cli.specs.Front.{GotFront}
 use Rattle.job_cli.specs.Limits.{IsOverLimit}
+use Rattle.job_cli.specs.Sources.{source_name, IsSourceFault}
+
+-- The job's sources are told to have these bytes.
+abbrev pub TellsSources : Job → (List ℕ → Option (List ℕ)) → (ℕ → List ℕ) → Type 0
+TellsSources job contents bytes = (a : ℕ) → a < tasks job 0 → contents (source_name job a) ≡ Some (bytes a)
 
 -- The words are a command's.
 abbrev pub NamesCommand : List (List ℕ) → Type 0
 NamesCommand words = (job : List ℕ) × IsRun words job
 
+-- None of a job's sources passes a limit.
+abbrev pub AreWithinLimits : Job → (ℕ → List ℕ) → Type 0
+AreWithinLimits job bytes = (a : ℕ) → a < tasks job 0 → IsOverLimit (bytes a) → ⊥
+
 -- The words name a job, and its text, where it is told, has P.
 abbrev pub NamesJob : List (List ℕ) → (List ℕ → Option (List ℕ)) → (List ℕ → Type 0) → Type 0
 NamesJob words contents P = (job : List ℕ) × IsRun words job × IfSome (contents job) P
 
--- The text names a source, and its bytes, where they are told, have P.
-abbrev pub NamesSource : List ℕ → (List ℕ → Option (List ℕ)) → (List ℕ → Type 0) → Type 0
-NamesSource text contents P = (source : List ℕ) × IsJob text source × IfSome (contents source) P
+-- The words name a job that has P, and its text is within its limit and has no fault.
+abbrev pub NamesGoodJob : List (List ℕ) → Functions → (List ℕ → Option (List ℕ)) → (Job → Type 0) → Type 0
+NamesGoodJob words functions contents P =
+    NamesJob words contents (λ text. (length text ≤ JOB_MAX) × (first_fault functions text ≡ None) × ((job : Job) × IsJobText functions text job × P job))
 
--- The words name a job and its text a source, both are within their limits, and P holds of the text of the source's tally.
-abbrev pub RunsTo : List (List ℕ) → (List ℕ → Option (List ℕ)) → (List ℕ → Type 0) → Type 0
-RunsTo words contents P =
-    NamesJob words contents (λ text. (length text ≤ JOB_MAX) × NamesSource text contents (λ bytes.
-    (IsOverLimit bytes → ⊥) × P (table_text (tally count bytes))))
+-- The words name a job. Whatever its sources are told to have is within their limits, and P holds of the text of their tally.
+abbrev pub RunsTo : List (List ℕ) → Functions → (List ℕ → Option (List ℕ)) → (List ℕ → Type 0) → Type 0
+RunsTo words functions contents P =
+    NamesGoodJob words functions contents (λ job. (bytes : ℕ → List ℕ) → TellsSources job contents bytes →
+    AreWithinLimits job bytes × P (table_text (tally job (λ a. lines (bytes a)))))
 
 -- The output got the text of the tally behind what was there, and nothing else.
-abbrev pub HasRun : List (List ℕ) → (List ℕ → Option (List ℕ)) → Option (List ℕ) → Option (List ℕ) → Type 0
-HasRun words contents before after = RunsTo words contents (λ text. IfSome before (λ had. after ≡ Some (had ++ text)))
+abbrev pub HasRun : List (List ℕ) → Functions → (List ℕ → Option (List ℕ)) → Option (List ℕ) → Option (List ℕ) → Type 0
+HasRun words functions contents before after = RunsTo words functions contents (λ text. IfSome before (λ had. after ≡ Some (had ++ text)))
 
 -- The output got a front of that text, and nothing else.
-abbrev pub HasRunInPart : List (List ℕ) → (List ℕ → Option (List ℕ)) → Option (List ℕ) → Option (List ℕ) → Type 0
-HasRunInPart words contents before after = RunsTo words contents (λ text. IfSome before (λ had. GotFront had text after))
+abbrev pub HasRunInPart : List (List ℕ) → Functions → (List ℕ → Option (List ℕ)) → Option (List ℕ) → Option (List ℕ) → Type 0
+HasRunInPart words functions contents before after = RunsTo words functions contents (λ text. IfSome before (λ had. GotFront had text after))
+
+-- The fault is the first of the words, of the text of the job that they name, or of that job's sources, as far as these are told.
+abbrev pub IsFaultOf : List (List ℕ) → Functions → (List ℕ → Option (List ℕ)) → Fault → Type 0
+IsFaultOf words functions contents (Usage kind) = usage_fault words ≡ Some kind
+IsFaultOf words functions contents JobInput = NamesJob words contents (λ text. ⊤)
+IsFaultOf words functions contents LongJob = NamesJob words contents (λ text. JOB_MAX < length text)
+IsFaultOf words functions contents (JobLine line kind) = NamesJob words contents (λ text. (length text ≤ JOB_MAX) × (first_fault functions text ≡ Some (line, kind)))
+IsFaultOf words functions contents (SourceInput a) = NamesGoodJob words functions contents (λ job. IsSourceFault job contents (SourceInput a))
+IsFaultOf words functions contents (LongLine a) = NamesGoodJob words functions contents (λ job. IsSourceFault job contents (LongLine a))
+IsFaultOf words functions contents (BigSource a) = NamesGoodJob words functions contents (λ job. IsSourceFault job contents (BigSource a))
+IsFaultOf words functions contents Output = RunsTo words functions contents (λ text. ⊤)
+IsFaultOf words functions contents Memory = NamesCommand words
+
+-- The output for errors got nothing with the status 0. With another one it got the line of a fault with this status, as far as it took it.
+abbrev pub IsTold : List (List ℕ) → Functions → (List ℕ → Option (List ℕ)) → Option (List ℕ) → Option (List ℕ) → Type 0 → ℕ → Type 0
+IsTold words functions contents before after risen status =
+    ((status ≡ 0) × (after ≡ before))
+    ⊎ ((fault : Fault) × (status ≡ status_of fault) × IsFaultOf words functions contents fault
+    × IfSome before (λ had. GotFront had (fault_line fault) after)
+    × ((risen → ⊥) → IfSome before (λ had. after ≡ Some (had ++ fault_line fault))))
 
 -- The text is within its limit, and is no job's.
-abbrev pub IsNoJob : List ℕ → Type 0
-IsNoJob text = (length text ≤ JOB_MAX) × ((source : List ℕ) → IsJob text source → ⊥)
+abbrev pub IsNoJob : Functions → List ℕ → Type 0
+IsNoJob functions text = (length text ≤ JOB_MAX) × ((fault : ℕ × JobFault) × (first_fault functions text ≡ Some fault))
 
--- The job's text is over its limit, or its source is over one of its own.
-abbrev pub PassesLimit : List (List ℕ) → (List ℕ → Option (List ℕ)) → Type 0
-PassesLimit words contents = NamesJob words contents (λ text. (JOB_MAX < length text) ⊎ NamesSource text contents IsOverLimit)
+-- The job's text is over its limit, or one of its sources is over one of its own.
+abbrev pub PassesLimit : List (List ℕ) → Functions → (List ℕ → Option (List ℕ)) → Type 0
+PassesLimit words functions contents =
+    NamesJob words contents (λ text. (JOB_MAX < length text)
+    ⊎ ((job : Job) × IsJobText functions text job × ((a : ℕ) × (a < tasks job 0) × IfSome (contents (source_name job a)) IsOverLimit)))
 
 -- The words name a job, and this is told to be its text.
 pub record TellsJob (words : List (List ℕ)) (contents : List ℕ → Option (List ℕ)) (text : List ℕ) : Type 0 where
@@ -49,11 +90,10 @@ pub record TellsJob (words : List (List ℕ)) (contents : List ℕ → Option (L
   pub is_run : IsRun words job
   pub told : contents job ≡ Some text
 
--- The words name a job, its text is told and within its limit, and these are told to be the bytes of the source that it names.
-pub record TellsSource (words : List (List ℕ)) (contents : List ℕ → Option (List ℕ)) (bytes : List ℕ) : Type 0 where
+-- The words name this job, its text is told and within its limit, and its sources are told to have these bytes.
+pub record TellsRun (words : List (List ℕ)) (functions : Functions) (contents : List ℕ → Option (List ℕ)) (job : Job) (bytes : ℕ → List ℕ) : Type 0 where
   pub text : List ℕ
   pub tells : TellsJob words contents text
   pub fits : length text ≤ JOB_MAX
-  pub source : List ℕ
-  pub is_job : IsJob text source
-  pub told : contents source ≡ Some bytes
+  pub is_job : IsJobText functions text job
+  pub sources : TellsSources job contents bytes

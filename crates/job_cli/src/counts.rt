@@ -1,19 +1,24 @@
-// The running count of records.
-ghost use Rattle.std.specs.Prelude.{◌≡◌, IfOk, OnOk, OnErr};
+// The running count of records, by the function of the aggregate.
+ghost use Rattle.std.specs.Prelude.{◌≡◌, ◌≤◌, length, take, IfOk, OnOk, OnErr};
 ghost use Rattle.std.specs.FinMap as map;
-ghost use Rattle.flow_defs.specs.Aggregates.{count};
+ghost use Rattle.flow_defs.specs.Aggregates.{key_of, value_of, folded};
+ghost use Rattle.flow_defs.specs.Records.{IsShort};
 ghost use Rattle.flow_defs.specs.Tables.{add};
+ghost use Rattle.stage_fns.specs.Meets.{MeetsAgg};
 
-use flow_defs::{Bytes, Table};
+use flow_defs::{AggKind, Bytes, Table};
+use stage_fns::AggFn;
 use std::alloc::{AllocError, Global};
 use std::collections::{BTreeMap, HashMap};
 use std::marker::Model;
 
-/// How often each record came. Contracts see a finite map from records to counts.
+/// The values of keys so far. Contracts see a finite map.
 #[derive(Drop)]
 pub struct Counts {
     alloc: Global,
     numbers: HashMap<Bytes, u64>,
+    // The key that was looked up last. It is kept so that a look-up takes no memory.
+    key: Bytes,
 }
 
 impl Model for Counts {
@@ -38,21 +43,29 @@ impl Counts {
         Counts {
             alloc,
             numbers: HashMap::new(alloc),
+            key: Bytes::new(alloc),
         }
     }
 
-    /// Counts one more record with this key. A key that came before takes no memory.
-    pub fn add(&mut self, key: Bytes) -> Result<(), AllocError>
-        ensures ok { OnOk result (self.new ≡ add count self.old key.items) }
+    /// Adds one more record by the function of the aggregate. A key that came before takes no memory,
+    /// once a longer one was looked up.
+    pub fn add(&mut self, agg: AggKind, f: &AggFn, record: &[u8]) -> Result<(), AllocError>
+        requires meets { MeetsAgg agg (AggFn.pre f.now) (AggFn.post f.now) }
+        requires short { IsShort «record».now }
+        ensures ok { OnOk result (self.new ≡ add agg self.old «record».now) }
         ensures err { OnErr result (self.new ≡ self.old) }
     {
-        match self.numbers.get_mut(&key) {
+        let (len, first) = answer(agg, f, record, 0);
+        self.key.clear();
+        self.key.extend(&record[..len])?;
+        match self.numbers.get_mut(&self.key) {
             Some(number) => {
-                *number = number.wrapping_add(1);
+                *number = answer(agg, f, record, *number).1;
                 Ok(())
             }
             None => {
-                self.numbers.insert(key, 1)?;
+                let key = Bytes::of(self.alloc, self.key.as_slice())?;
+                self.numbers.insert(key, first)?;
                 Ok(())
             }
         }
@@ -69,4 +82,15 @@ impl Counts {
         }
         Ok(table)
     }
+}
+
+// What the function of an aggregate of this kind answers.
+fn answer(agg: AggKind, f: &AggFn, record: &[u8], old: u64) -> (usize, u64)
+    requires meets { MeetsAgg agg (AggFn.pre f.now) (AggFn.post f.now) }
+    requires short { IsShort «record».now }
+    ensures within { result.0 ≤ length «record».now }
+    ensures key { take result.0 «record».now ≡ key_of agg «record».now }
+    ensures value { result.1 ≡ folded agg old (value_of agg «record».now) }
+{
+    f(record, old)
 }

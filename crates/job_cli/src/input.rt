@@ -1,12 +1,14 @@
 // Reads files to their ends.
-ghost use Rattle.std.specs.Prelude.{◌≡◌, ◌<◌, ◌≤◌, ◌^◌, ◌++◌, [], Err, IfOk, IfSome, OnOk, length};
-ghost use Rattle.flow_defs.specs.Aggregates.{count};
-ghost use Rattle.flow_defs.specs.Tally.{tally};
-ghost use Rattle.job_cli.specs.Limits.{IsOverLimit};
+ghost use Rattle.std.specs.Prelude.{◌≡◌, ◌≢◌, ◌<◌, ◌≤◌, ◌^◌, ◌++◌, [], Err, IfOk, IfSome, OnOk, length};
+ghost use Rattle.flow_defs.specs.Lines.{lines as lines_of};
+ghost use Rattle.job_cli.specs.Counting.{add_lines};
+ghost use Rattle.job_cli.specs.Limits.{HasLongLine, IsOverLimit};
+ghost use Rattle.job_cli.specs.Plans.{CanRun};
+ghost use Rattle.stage_fns.specs.Kinds.{kinds};
 ghost use Rattle.outside.specs.Faults.{HasRisen};
 
-use crate::counts::Counts;
 use crate::lines::{LineFault, Lines};
+use crate::plan::Plan;
 use flow_defs::Bytes;
 use outside::{Failed, Files, FindFault, Source};
 use std::alloc::{AllocError, Global};
@@ -21,7 +23,10 @@ pub const SOURCE_MAX: u64 = 1_099_511_627_776;
 #[derive(Clone, Copy, Debug, PartialEq, Eq)]
 pub enum InputFault {
     Failed,
-    Limit,
+    /// It has more bytes than it may have.
+    TooBig,
+    /// A line is longer than a record may be.
+    LongLine,
     Memory,
 }
 
@@ -65,7 +70,7 @@ impl From<LineFault> for InputFault {
 
     fn from(fault: LineFault) -> Self {
         match fault {
-            LineFault::TooLong => InputFault::Limit,
+            LineFault::TooLong => InputFault::LongLine,
             LineFault::Memory => InputFault::Memory,
         }
     }
@@ -81,7 +86,8 @@ pub fn read_file<F: Files>(
     requires { most < 2 ^ 32 }
     ensures told { IfOk result (λ bytes. IfSome (F.contents files.old name.now) (λ held. bytes.items ≡ held)) }
     ensures fits { IfOk result (λ bytes. length bytes.items ≤ most) }
-    ensures limit { result ≡ Err InputFault.Limit → IfSome (F.contents files.old name.now) (λ held. most < length held) }
+    ensures limit { result ≡ Err InputFault.TooBig → IfSome (F.contents files.old name.now) (λ held. most < length held) }
+    ensures no_lines { result ≢ Err InputFault.LongLine }
     ensures same { F.contents files.new ≡ F.contents files.old }
     ensures never_falls { F.faults files.old ≤ F.faults files.new }
     ensures failed { result ≡ Err InputFault.Failed → HasRisen (F.faults files.old) (F.faults files.new) }
@@ -98,7 +104,8 @@ fn read_all<S: Source>(alloc: Global, source: &mut S, most: usize) -> Result<Byt
     requires { most < 2 ^ 32 }
     ensures told { IfOk result (λ bytes. IfSome (S.left source.old) (λ left. bytes.items ≡ left)) }
     ensures fits { IfOk result (λ bytes. length bytes.items ≤ most) }
-    ensures limit { result ≡ Err InputFault.Limit → IfSome (S.left source.old) (λ left. most < length left) }
+    ensures limit { result ≡ Err InputFault.TooBig → IfSome (S.left source.old) (λ left. most < length left) }
+    ensures no_lines { result ≢ Err InputFault.LongLine }
     ensures never_falls { S.faults source.old ≤ S.faults source.new }
     ensures failed { result ≡ Err InputFault.Failed → HasRisen (S.faults source.old) (S.faults source.new) }
 {
@@ -111,43 +118,61 @@ fn read_all<S: Source>(alloc: Global, source: &mut S, most: usize) -> Result<Byt
         }
         bytes.extend(&room[..count])?;
     }
-    Err(InputFault::Limit)
+    Err(InputFault::TooBig)
 }
 
-/// The counts of the lines of the file of this name.
-pub fn count_file<F: Files>(alloc: Global, files: &mut F, name: &str) -> Result<Counts, InputFault>
-    ensures told { IfOk result (λ counts. IfSome (F.contents files.old name.now) (λ held. counts ≡ tally count held)) }
+/// Counts what comes of the lines of the file of this name.
+pub fn count_file<F: Files>(
+    files: &mut F,
+    name: &str,
+    plan: &Plan<'_>,
+    lines: &mut Lines,
+) -> Result<(), InputFault>
+    requires can_run { CanRun (kinds plan.now.functions.now) plan.now.job.now }
+    requires line { lines.old.line.items ≡ [] }
+    ensures told { OnOk result (IfSome (F.contents files.old name.now) (λ held.
+        lines.new.counts ≡ add_lines plan.now.job.now lines.old.counts (lines_of held))) }
+    ensures line { OnOk result (lines.new.line.items ≡ []) }
     ensures within { OnOk result (IfSome (F.contents files.old name.now) (λ held. IsOverLimit held → ⊥)) }
-    ensures limit { result ≡ Err InputFault.Limit → IfSome (F.contents files.old name.now) IsOverLimit }
+    ensures too_big { result ≡ Err InputFault.TooBig → IfSome (F.contents files.old name.now) (λ held. SOURCE_MAX < length held) }
+    ensures long_line { result ≡ Err InputFault.LongLine → IfSome (F.contents files.old name.now) (λ held. HasLongLine (lines_of held)) }
     ensures same { F.contents files.new ≡ F.contents files.old }
     ensures never_falls { F.faults files.old ≤ F.faults files.new }
     ensures failed { result ≡ Err InputFault.Failed → HasRisen (F.faults files.old) (F.faults files.new) }
     ensures given_back { F.lent files.new ≡ F.lent files.old }
 {
-    let mut input = files.find(alloc, name)?;
-    let counts = count_lines(alloc, &mut input);
+    let mut input = files.find(plan.alloc, name)?;
+    let counted = count_source(&mut input, plan, lines);
     files.back(input);
-    counts
+    counted
 }
 
-// The counts of the lines that are left of the source.
-fn count_lines<S: Source>(alloc: Global, source: &mut S) -> Result<Counts, InputFault>
-    ensures told { IfOk result (λ counts. IfSome (S.left source.old) (λ left. counts ≡ tally count left)) }
+// Counts what comes of the lines that are left of the source.
+fn count_source<S: Source>(
+    source: &mut S,
+    plan: &Plan<'_>,
+    lines: &mut Lines,
+) -> Result<(), InputFault>
+    requires can_run { CanRun (kinds plan.now.functions.now) plan.now.job.now }
+    requires line { lines.old.line.items ≡ [] }
+    ensures told { OnOk result (IfSome (S.left source.old) (λ left.
+        lines.new.counts ≡ add_lines plan.now.job.now lines.old.counts (lines_of left))) }
+    ensures line { OnOk result (lines.new.line.items ≡ []) }
     ensures within { OnOk result (IfSome (S.left source.old) (λ left. IsOverLimit left → ⊥)) }
-    ensures limit { result ≡ Err InputFault.Limit → IfSome (S.left source.old) IsOverLimit }
+    ensures too_big { result ≡ Err InputFault.TooBig → IfSome (S.left source.old) (λ left. SOURCE_MAX < length left) }
+    ensures long_line { result ≡ Err InputFault.LongLine → IfSome (S.left source.old) (λ left. HasLongLine (lines_of left)) }
     ensures never_falls { S.faults source.old ≤ S.faults source.new }
     ensures failed { result ≡ Err InputFault.Failed → HasRisen (S.faults source.old) (S.faults source.new) }
 {
-    let mut lines = Lines::new(alloc)?;
     let mut room = [0; READ];
     let mut taken = 0;
     'reads: while taken <= SOURCE_MAX {
         let count = source.read(&mut room)?;
         if count == 0 {
-            return Ok(lines.finish()?);
+            return Ok(lines.end_source(plan)?);
         }
-        lines.feed(&room[..count])?;
+        lines.feed(plan, &room[..count])?;
         taken += count as u64;
     }
-    Err(InputFault::Limit)
+    Err(InputFault::TooBig)
 }

@@ -1,13 +1,16 @@
-// Cuts the lines out of bytes that come in pieces, and hands them to the pipe.
+// Cuts the lines out of bytes that come in pieces, and counts what comes of them.
 ghost use Rattle.std.specs.Prelude.{◌≡◌, ◌<◌, ◌≤◌, [], ◌∷◌, ◌++◌, ℕ, List, length, vec_len, Err, OnOk, IfOk};
-ghost use Rattle.flow_defs.specs.Aggregates.{count};
+ghost use Rattle.std.specs.FinMap as map;
 ghost use Rattle.flow_defs.specs.Lines.{lines};
 ghost use Rattle.flow_defs.specs.Records.{IsShort};
-ghost use Rattle.flow_defs.specs.Tables.{table_of};
+ghost use Rattle.flow_defs.specs.Tables.{Values};
+ghost use Rattle.job_cli.specs.Counting.{add_lines};
 ghost use Rattle.job_cli.specs.Limits.{HasLongLine};
+ghost use Rattle.job_cli.specs.Plans.{CanRun};
+ghost use Rattle.stage_fns.specs.Kinds.{kinds};
 
 use crate::counts::Counts;
-use crate::pipe::Pipe;
+use crate::plan::Plan;
 use flow_defs::{RECORD_MAX, cut_line};
 use std::alloc::{AllocError, Global};
 
@@ -29,33 +32,34 @@ impl From<AllocError> for LineFault {
     }
 }
 
-/// The line that has begun, and what became of those before it.
+/// The line that has begun, and the counts of what came of those before it.
 #[derive(Drop)]
 pub struct Lines {
-    pipe: Pipe,
-    line: Vec<u8>,
+    pub counts: Counts,
+    pub line: Vec<u8>,
     ghost fits: { vec_len line ≤ 1048576 },
 }
 
 impl Lines {
-    ghost use Rattle.job_cli.specs.Counting.{HasCounted};
-    ghost use Rattle.job_cli.specs.Pipes.{laid};
     ghost use Rattle.job_cli.specs.LinesUnderWay.{IsUnderWay, GoesOn};
 
     /// Nothing came yet.
-    pub fn new(alloc: Global) -> Result<Self, AllocError>
-        ensures { IfOk result (λ begun. IsUnderWay begun [] × (begun.line.items ≡ [])) }
+    pub fn new(alloc: Global) -> Self
+        ensures counts { result.counts ≡ map.empty }
+        ensures line { result.line.items ≡ [] }
     {
-        Ok(Lines {
-            pipe: Pipe::new(alloc)?,
+        Lines {
+            counts: Counts::new(alloc),
             line: Vec::new(alloc),
-        })
+        }
     }
 
-    /// Takes a piece: the lines that end in it go to the pipe, and what is left begins the next one.
-    pub fn feed(&mut self, bytes: &[u8]) -> Result<(), LineFault>
-        requires { (ended : List (List ℕ)) × IsUnderWay self.old ended }
-        ensures ended { (ended : List (List ℕ)) → IsUnderWay self.old ended → OnOk result (GoesOn self.old bytes.now self.new ended) }
+    /// Takes a piece: the lines that end in it are counted, and what is left begins the next one.
+    pub fn feed(&mut self, plan: &Plan<'_>, bytes: &[u8]) -> Result<(), LineFault>
+        requires can_run { CanRun (kinds plan.now.functions.now) plan.now.job.now }
+        requires under_way { (start : Values) × ((ended : List (List ℕ)) × IsUnderWay plan.now.job.now start ended self.old) }
+        ensures ended { (start : Values) (ended : List (List ℕ)) → IsUnderWay plan.now.job.now start ended self.old →
+            OnOk result (GoesOn plan.now.job.now start ended self.old bytes.now self.new) }
 
         // A line that is too long is one of the input's, whatever comes after these bytes.
         ensures too_long { result ≡ Err LineFault.TooLong → (more : List ℕ) →
@@ -63,42 +67,39 @@ impl Lines {
     {
         let mut rest = bytes;
         'lines: while let Some((first, after)) = cut_line(rest) {
-            self.end_line(first)?;
+            self.end_line(plan, first)?;
             rest = after;
         }
         self.begin_line(rest)
     }
 
-    /// The counts of all lines, the one that has begun among them.
-    pub fn finish(mut self) -> Result<Counts, AllocError>
-        requires { (ended : List (List ℕ)) × IsUnderWay self ended }
-        ensures { (ended : List (List ℕ)) → IsUnderWay self ended →
-            IfOk result (λ counts. counts ≡ table_of count (ended ++ lines (self.line.items ++ []))) }
-    {
-        self.end_last_line()?;
-        self.pipe.finish()
-    }
-
-    // Hands the line that has begun to the pipe, if one has.
-    fn end_last_line(&mut self) -> Result<(), AllocError>
-        requires { (ended : List (List ℕ)) × IsUnderWay self.old ended }
-        ensures { (ended : List (List ℕ)) → IsUnderWay self.old ended →
-            OnOk result (HasCounted self.new.pipe.counts (laid self.new.pipe) [] (ended ++ lines (self.old.line.items ++ []))) }
+    /// Ends a source: the line that has begun, if one has, is its last.
+    pub fn end_source(&mut self, plan: &Plan<'_>) -> Result<(), AllocError>
+        requires { CanRun (kinds plan.now.functions.now) plan.now.job.now }
+        ensures line { OnOk result (self.new.line.items ≡ []) }
+        ensures counted { (start : Values) (ended : List (List ℕ)) → IsUnderWay plan.now.job.now start ended self.old →
+            OnOk result (self.new.counts ≡ add_lines plan.now.job.now start (ended ++ lines (self.old.line.items ++ []))) }
     {
         if !self.line.is_empty() {
-            self.put_line()?;
+            self.put_line(plan)?;
         }
         Ok(())
     }
 
-    // Hands the line to the pipe, and begins another.
-    fn put_line(&mut self) -> Result<(), AllocError>
-        requires { (ended : List (List ℕ)) × HasCounted self.old.pipe.counts (laid self.old.pipe) [] ended }
-        ensures line { OnOk result (self.new.line.items ≡ []) }
-        ensures counted { (ended : List (List ℕ)) → HasCounted self.old.pipe.counts (laid self.old.pipe) [] ended →
-            OnOk result (HasCounted self.new.pipe.counts (laid self.new.pipe) [] (ended ++ self.old.line.items ∷ [])) }
+    /// The counts of what came of all lines that ended.
+    pub fn into_counts(self) -> Counts
+        ensures { result ≡ self.counts }
     {
-        self.pipe.put(self.line.as_slice())?;
+        self.counts
+    }
+
+    // Counts the line, and begins another.
+    fn put_line(&mut self, plan: &Plan<'_>) -> Result<(), AllocError>
+        requires { CanRun (kinds plan.now.functions.now) plan.now.job.now }
+        ensures line { OnOk result (self.new.line.items ≡ []) }
+        ensures counted { OnOk result (self.new.counts ≡ add_lines plan.now.job.now self.old.counts (self.old.line.items ∷ [])) }
+    {
+        plan.add_line(&mut self.counts, self.line.as_slice())?;
         self.line.clear();
         Ok(())
     }
@@ -107,7 +108,7 @@ impl Lines {
     fn begin_line(&mut self, bytes: &[u8]) -> Result<(), LineFault>
         ensures line { OnOk result (self.new.line.items ≡ self.old.line.items ++ bytes.now) }
         ensures too_long { result ≡ Err LineFault.TooLong → RECORD_MAX < length (self.old.line.items ++ bytes.now) }
-        ensures pipe { self.new.pipe ≡ self.old.pipe }
+        ensures counts { self.new.counts ≡ self.old.counts }
     {
         if bytes.len() > RECORD_MAX - self.line.len() {
             return Err(LineFault::TooLong);
@@ -116,22 +117,21 @@ impl Lines {
         Ok(())
     }
 
-    // Ends the line with these bytes, and hands it to the pipe. One that lies in a single piece is not copied here.
-    fn end_line(&mut self, bytes: &[u8]) -> Result<(), LineFault>
-        requires { (ended : List (List ℕ)) × HasCounted self.old.pipe.counts (laid self.old.pipe) [] ended }
+    // Ends the line with these bytes, and counts it. One that lies in a single piece is not copied here.
+    fn end_line(&mut self, plan: &Plan<'_>, bytes: &[u8]) -> Result<(), LineFault>
+        requires { CanRun (kinds plan.now.functions.now) plan.now.job.now }
         ensures line { OnOk result (self.new.line.items ≡ []) }
         ensures short { OnOk result (IsShort (self.old.line.items ++ bytes.now)) }
         ensures too_long { result ≡ Err LineFault.TooLong → RECORD_MAX < length (self.old.line.items ++ bytes.now) }
-        ensures counted { (ended : List (List ℕ)) → HasCounted self.old.pipe.counts (laid self.old.pipe) [] ended →
-            OnOk result (HasCounted self.new.pipe.counts (laid self.new.pipe) [] (ended ++ (self.old.line.items ++ bytes.now) ∷ [])) }
+        ensures counted { OnOk result (self.new.counts ≡ add_lines plan.now.job.now self.old.counts ((self.old.line.items ++ bytes.now) ∷ [])) }
     {
         if self.line.is_empty() {
             if bytes.len() > RECORD_MAX {
                 return Err(LineFault::TooLong);
             }
-            return Ok(self.pipe.put(bytes)?);
+            return Ok(plan.add_line(&mut self.counts, bytes)?);
         }
         self.begin_line(bytes)?;
-        Ok(self.put_line()?)
+        Ok(self.put_line(plan)?)
     }
 }

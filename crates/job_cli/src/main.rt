@@ -1,15 +1,19 @@
-//! Runs a job: counts the lines of a file, as the job's text says, and prints the counts.
+//! Runs a job: counts what its stages make of the lines of its sources, as the job's text says, and
+//! prints the counts.
 //!
 //! It stands on all other crates. `top` is the program over the world that it is handed; what it
 //! answers and writes is said by its contract, in the words of `specs/Run.antt`. `main` hands it the
-//! real files and the standard output.
+//! real files, the standard output and the output for errors.
 #![tactic(auto)]
 
 mod counts;
+mod fault;
 mod input;
 mod lines;
 mod output;
-mod pipe;
+mod plan;
+mod program;
+mod run;
 #[cfg(test)]
 mod tests;
 mod top;
@@ -25,12 +29,13 @@ fn main(rt: HostRuntime) -> io::Result<ExitCode> {
     for word in env::args(&rt)?.skip(1) {
         words.push(Word::of(alloc, word.as_str())?)?;
     }
-    let status = top::top(
+    let status = program::run_program(
         &rt,
         alloc,
         &words,
         &mut DirFiles::new(&rt),
         &mut StdSink::new(&rt),
+        &mut StdSink::new(&rt.stderr()),
     );
     Ok(ExitCode::from(status))
 }

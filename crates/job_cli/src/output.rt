@@ -1,10 +1,13 @@
-// Writes a table to a sink.
-ghost use Rattle.std.specs.Prelude.{◌≡◌, ◌≤◌, ◌++◌, Some, IfOk, IfSome, OnOk, OnErr};
+// Writes tables and faults to sinks.
+ghost use Rattle.std.specs.Prelude.{◌≡◌, ◌≤◌, ◌++◌, flat_map, Some, IfOk, IfSome, OnOk, OnErr};
 ghost use Rattle.flow_defs.specs.Tables.{row_text, table_text};
+ghost use Rattle.job_cli.specs.FaultTexts.{fault_line, number_text};
 ghost use Rattle.job_cli.specs.Front.{GotFront};
 ghost use Rattle.outside.specs.Faults.{HasRisen};
 
+use crate::fault::Fault;
 use flow_defs::{Bytes, Table};
+use itoa::Buffer;
 use outside::Sink;
 use std::alloc::{AllocError, Global};
 
@@ -18,18 +21,18 @@ pub fn table_text(alloc: Global, table: &Table) -> Result<Bytes, AllocError>
 {
     let mut text = Bytes::new(alloc);
     for row in table.rows() {
-        add_row(alloc, &mut text, row.key.as_slice(), row.value)?;
+        add_row(&mut text, row.key.as_slice(), row.value)?;
     }
     Ok(text)
 }
 
 // Adds a row as it is printed.
-fn add_row(alloc: Global, text: &mut Bytes, key: &[u8], value: u64) -> Result<(), AllocError>
+fn add_row(text: &mut Bytes, key: &[u8], value: u64) -> Result<(), AllocError>
     ensures { OnOk result (text.new.items ≡ text.old.items ++ row_text (key.now, value)) }
 {
     text.extend(key)?;
     text.push(b'\t')?;
-    text.extend(format!(in alloc; "{value}")?.as_bytes())?;
+    text.extend(Buffer::new().format(value).as_bytes())?;
     text.push(b'\n')
 }
 
@@ -50,6 +53,43 @@ pub fn write_all<O: Sink>(out: &mut O, bytes: &[u8]) -> Result<(), OutputFault>
             return Err(OutputFault);
         }
         rest = &rest[count..];
+    }
+    Ok(())
+}
+
+/// Writes the line that tells of a fault, as far as the sink takes it.
+pub fn tell<E: Sink>(err: &mut E, fault: Fault)
+    // It got a front of the line and nothing else, and all of it where no fault of its own came.
+    ensures front { IfSome (E.got err.old) (λ had. GotFront had (fault_line fault) (E.got err.new)) }
+    ensures told { (HasRisen (E.faults err.old) (E.faults err.new) → ⊥) →
+        IfSome (E.got err.old) (λ had. E.got err.new ≡ Some (had ++ fault_line fault)) }
+{
+    let (before, number, behind) = fault.text();
+    let mut buffer = Buffer::new();
+    let parts = [before, digits(&mut buffer, number), behind, "\n"];
+    // What a failing sink doesn't take is lost.
+    let _ = write_parts(err, &parts);
+}
+
+// The number in decimal, where there is one.
+fn digits(buffer: &mut Buffer, number: Option<u64>) -> &str
+    ensures { result.now ≡ number_text number }
+{
+    match number {
+        Some(number) => buffer.format(number),
+        None => "",
+    }
+}
+
+// Writes these texts, one after another.
+fn write_parts<O: Sink>(out: &mut O, parts: &[&str]) -> Result<(), OutputFault>
+    ensures front { IfSome (O.got out.old) (λ had. GotFront had (flat_map (λ part. part.now) parts.now) (O.got out.new)) }
+    ensures told { OnOk result (IfSome (O.got out.old) (λ had. O.got out.new ≡ Some (had ++ flat_map (λ part. part.now) parts.now))) }
+    ensures never_falls { O.faults out.old ≤ O.faults out.new }
+    ensures failed { OnErr result (HasRisen (O.faults out.old) (O.faults out.new)) }
+{
+    for part in parts {
+        write_all(out, part.as_bytes())?;
     }
     Ok(())
 }

@@ -1,13 +1,17 @@
-// Whole runs over files and an output in memory.
+// Whole runs over files and outputs in memory.
 ghost use Rattle.std.specs.Prelude.{◌≡◌, ◌≤◌, IfOk};
 
+use crate::program::run_program;
 use crate::top::top;
-use flow_defs::{Bytes, ListOf, Word};
+use flow_defs::{AggKind, Bytes, ListOf, StageKind, Word};
 use outside::{MemoryFile, MemoryFiles, MemorySink};
+use stage_fns::{AggFn, FnTable, StageFn, count, words};
 use std::alloc::{AllocError, Global};
+use std::sync::Wait;
 use std::test::Fail;
+use std::thread::Threads;
 
-const JOB: &str = "source in\naggregate count 1\n";
+const COUNT: &str = "source in\naggregate count 1\n";
 
 // A file that gives at most so many bytes in a read, and whose read of this number fails, if it is not 0.
 fn file(
@@ -19,65 +23,118 @@ fn file(
 ) -> Result<MemoryFile, AllocError>
     ensures { IfOk result (λ file. file.most ≡ most) }
 {
-    let mut bytes = Bytes::new(alloc);
-    bytes.extend(content)?;
     let mut fails = ListOf::new(alloc);
     if failing > 0 {
         fails.push(failing)?;
     }
     Ok(MemoryFile {
         name: Word::of(alloc, name)?,
-        bytes,
+        bytes: Bytes::of(alloc, content)?,
         most,
         fails,
     })
 }
 
-// The job's text and its source.
+// The job's text and two sources, the first of which may fail.
 fn files(
     alloc: Global,
-    job: &[u8],
-    source: &[u8],
+    job: &str,
+    first: &[u8],
+    second: &str,
     most: usize,
     failing: u64,
 ) -> Result<MemoryFiles, AllocError>
     requires { 1 ≤ most }
 {
     let mut files = ListOf::new(alloc);
-    files.push(file(alloc, "job", job, 65_536, 0)?)?;
-    files.push(file(alloc, "in", source, most, failing)?)?;
+    files.push(file(alloc, "job", job.as_bytes(), 65_536, 0)?)?;
+    files.push(file(alloc, "in", first, most, failing)?)?;
+    files.push(file(alloc, "in2", second.as_bytes(), most, 0)?)?;
     Ok(MemoryFiles::new(files, ListOf::new(alloc)))
 }
 
-fn words(alloc: Global, text: &str) -> Result<ListOf<Word>, AllocError> {
-    let mut words = ListOf::new(alloc);
+fn words_of(alloc: Global, text: &str) -> Result<ListOf<Word>, AllocError> {
+    let mut list = ListOf::new(alloc);
     for word in text.split_whitespace() {
-        words.push(Word::of(alloc, word)?)?;
+        list.push(Word::of(alloc, word)?)?;
     }
-    Ok(words)
+    Ok(list)
 }
 
 fn sink(alloc: Global, room: usize) -> Result<MemorySink, AllocError> {
     MemorySink::new(alloc, room, ListOf::new(alloc), None)
 }
 
+// What a run leaves: its status, and what both outputs got.
+#[derive(Drop)]
+struct Left {
+    status: u8,
+    out: MemorySink,
+    err: MemorySink,
+}
+
+// Runs the program over these files, with so much room at each output.
+fn left_by<R: Threads + Wait + Sync>(
+    rt: &R,
+    alloc: Global,
+    text: &str,
+    mut files: MemoryFiles,
+    room: usize,
+    spare: usize,
+) -> Result<Left, AllocError> {
+    let words = words_of(alloc, text)?;
+    let mut out = sink(alloc, room)?;
+    let mut err = sink(alloc, spare)?;
+    let status = run_program(rt, alloc, &words, &mut files, &mut out, &mut err);
+    Ok(Left { status, out, err })
+}
+
 #[test]
-fn counts_the_lines_of_a_source(rt: HostRuntime) -> Result<(), Fail> {
+fn a_run_prints_the_tally_of_its_sources(rt: HostRuntime) -> Result<(), Fail> {
     let alloc = rt.alloc();
-    for (source, text) in [
-        ("a\nb\na\n", "a\t2\nb\t1\n"),
-        ("", ""),
-        ("b\n\na", "\t1\na\t1\nb\t1\n"),
-        ("\n", "\t1\n"),
+    let pages = "GET,/a,3\nPUT,/b,4\nGET,/a,5\n";
+    for (job, first, second, table) in [
+        (COUNT, "a\nb\na\n", "", "a\t2\nb\t1\n"),
+        (COUNT, "", "", ""),
+        (COUNT, "b\n\na", "", "\t1\na\t1\nb\t1\n"),
+        (COUNT, "\n", "", "\t1\n"),
+        (
+            "source in\naggregate count 2\n",
+            "a\nb\na\n",
+            "",
+            "a\t2\nb\t1\n",
+        ),
+        (
+            "source in\nstage words 1 rebalance\naggregate count 1\n",
+            "a b a",
+            "",
+            "a\t2\nb\t1\n",
+        ),
+        (
+            "source in\nstage field:2 1 rebalance\naggregate count 1\n",
+            "a,b,c\na\na,\n",
+            "",
+            "\t1\nb\t1\n",
+        ),
+        (
+            "source in\nsource in2\nstage keep:GET 2 rebalance\nstage field:2 2 hash\naggregate count 2\n",
+            pages,
+            "GET,/c,1\n",
+            "/a\t2\n/c\t1\n",
+        ),
+        (
+            "source in\nsource in2\nstage upper 2 forward\nstage words 3 hash\naggregate count 1\n",
+            "to be or\n",
+            "not  to be",
+            "BE\t2\nNOT\t1\nOR\t1\nTO\t2\n",
+        ),
     ] {
-        for most in [1, 2, 3, 7, 100] {
-            let mut files = files(alloc, JOB.as_bytes(), source.as_bytes(), most, 0)?;
-            let mut out = sink(alloc, 100)?;
-            assert_eq!(rt;
-                top(&rt, alloc, &words(alloc, "run job")?, &mut files, &mut out),
-                0
-            );
-            assert_eq!(rt; out.bytes(), text.as_bytes(), "at {most} bytes a read");
+        for most in [1, 3, 100] {
+            let files = files(alloc, job, first.as_bytes(), second, most, 0)?;
+            let left = left_by(&rt, alloc, "run job", files, 100, 100)?;
+            assert_eq!(rt; left.status, 0, "`{job}`");
+            assert_eq!(rt; left.out.bytes(), table.as_bytes(), "`{job}`");
+            assert_eq!(rt; left.err.bytes(), b"".as_slice());
         }
     }
     Ok(())
@@ -87,54 +144,117 @@ fn counts_the_lines_of_a_source(rt: HostRuntime) -> Result<(), Fail> {
 fn takes_lines_up_to_the_limit(rt: HostRuntime) -> Result<(), Fail> {
     let alloc = rt.alloc();
     let line = vec![in alloc; b'a'; 1_048_577]?;
-    let mut row = Bytes::new(alloc);
-    row.extend(&line[1..])?;
-    row.extend(b"\t1\n")?;
-    for (source, status, got) in [
-        (&line[1..], 0, row.as_slice()),
-        (line.as_slice(), 10, b"".as_slice()),
+    for (source, status, got, told) in [
+        (&line[1..], 0, 1_048_579, ""),
+        (line.as_slice(), 10, 0, "source 0: line over 1048576\n"),
     ] {
-        let mut files = files(alloc, JOB.as_bytes(), source, 50_000, 0)?;
-        let mut out = sink(alloc, 1_100_000)?;
-        let words = words(alloc, "run job")?;
-        assert_eq!(rt; top(&rt, alloc, &words, &mut files, &mut out), status);
-        assert!(rt; out.bytes() == got, "of a line of {} bytes", source.len());
+        let files = files(alloc, COUNT, source, "", 50_000, 0)?;
+        let left = left_by(&rt, alloc, "run job", files, 1_100_000, 100)?;
+        assert_eq!(rt; left.status, status);
+        assert_eq!(rt; left.out.bytes().len(), got);
+        assert_eq!(rt; left.err.bytes(), told.as_bytes());
+    }
+    Ok(())
+}
+
+// Words that the program refuses, or whose job it does.
+#[test]
+fn tells_each_fault_by_its_status_and_a_line(rt: HostRuntime) -> Result<(), Fail> {
+    let alloc = rt.alloc();
+    let lower = "source in\nstage words 2 rebalance\nstage lower 2 rebalance\naggregate count 1\n";
+    let width = "source in\nstage upper 2 rebalance\nstage words 3 forward\naggregate count 1\n";
+    for (text, job, status, told) in [
+        ("", COUNT, 2, "usage: no command\n"),
+        ("go", COUNT, 2, "usage: unknown command\n"),
+        ("run", COUNT, 2, "usage: missing operand\n"),
+        ("run -job", COUNT, 2, "usage: missing operand\n"),
+        ("run job k", COUNT, 2, "usage: extra word\n"),
+        ("run job --fast", COUNT, 2, "usage: unknown option\n"),
+        ("run job", lower, 3, "job line 3: unknown kind\n"),
+        ("run job", width, 3, "job line 3: bad width\n"),
+        ("run job", "source in\n", 3, "job line 2: missing\n"),
+        ("run other", COUNT, 4, "input fault: job\n"),
+        (
+            "run job",
+            "source in2\nsource gone\naggregate count 1\n",
+            4,
+            "input fault: source 1\n",
+        ),
+    ] {
+        // What the output for errors takes changes nothing in the status.
+        for spare in [100, 5, 0] {
+            let files = files(alloc, job, b"a\n", "d\n", 2, 0)?;
+            let left = left_by(&rt, alloc, text, files, 100, spare)?;
+            assert_eq!(rt; left.status, status, "{told}");
+            assert_eq!(rt; left.out.bytes(), b"".as_slice(), "{told}");
+            assert_eq!(rt; left.err.bytes(), &told.as_bytes()[..told.len().min(spare)]);
+        }
+    }
+    Ok(())
+}
+
+// The read of the source that fails, and the room of the output.
+#[test]
+fn tells_faults_of_the_source_and_the_output(rt: HostRuntime) -> Result<(), Fail> {
+    let alloc = rt.alloc();
+    for (failing, room, status, got, told) in [
+        (3, 100, 4, "", "input fault: source 0\n"),
+        (4, 100, 4, "", "input fault: source 0\n"),
+        (5, 100, 0, "a\t1\nb\t1\nc\t1\n", ""),
+        (0, 0, 7, "", "output fault\n"),
+        (0, 5, 7, "a\t1\nb", "output fault\n"),
+    ] {
+        let files = files(alloc, COUNT, b"a\nb\nc\n", "", 2, failing)?;
+        let left = left_by(&rt, alloc, "run job", files, room, 100)?;
+        assert_eq!(rt; left.status, status);
+        assert_eq!(rt; left.out.bytes(), got.as_bytes());
+        assert_eq!(rt; left.err.bytes(), told.as_bytes());
     }
     Ok(())
 }
 
 #[test]
-fn tells_each_fault_by_its_status(rt: HostRuntime) -> Result<(), Fail> {
+fn refuses_a_job_text_over_its_limit(rt: HostRuntime) -> Result<(), Fail> {
     let alloc = rt.alloc();
     let long = vec![in alloc; b'x'; 65_537]?;
-    let job = JOB.as_bytes();
-    let other_count = b"source in\naggregate count 2\n".as_slice();
-    let other_source = b"source gone\naggregate count 1\n".as_slice();
-    for (text, job, failing, room, status, got) in [
-        ("", job, 0, 100, 2, ""),
-        ("run", job, 0, 100, 2, ""),
-        ("run job job", job, 0, 100, 2, ""),
-        ("run -job", job, 0, 100, 2, ""),
-        ("run job", other_count, 0, 100, 3, ""),
-        ("run job", &long[1..], 0, 100, 3, ""),
-        ("run job", long.as_slice(), 0, 100, 10, ""),
-        ("run other", job, 0, 100, 4, ""),
-        ("run job", other_source, 0, 100, 4, ""),
-        ("run job", job, 3, 100, 4, ""),
-        ("run job", job, 4, 100, 4, ""),
-        ("run job", job, 5, 100, 0, "a\t1\nb\t1\nc\t1\n"),
-        ("run job", job, 0, 0, 7, ""),
-        ("run job", job, 0, 5, 7, "a\t1\nb"),
+    for (job, status, told) in [
+        (&long[1..], 3, "job line 1: bad line\n"),
+        (long.as_slice(), 10, "job over 65536\n"),
     ] {
-        let mut files = files(alloc, job, b"a\nb\nc\n", 2, failing)?;
-        let mut out = sink(alloc, room)?;
-        let words = words(alloc, text)?;
-        assert_eq!(rt;
-            top(&rt, alloc, &words, &mut files, &mut out),
-            status,
-            "at `{text}`"
-        );
-        assert_eq!(rt; out.bytes(), got.as_bytes(), "at `{text}`");
+        let text = std::str::from_utf8(job).map_err(|_| "no text")?;
+        let files = files(alloc, text, b"", "", 9, 0)?;
+        let left = left_by(&rt, alloc, "run job", files, 100, 100)?;
+        assert_eq!(rt; left.status, status);
+        assert_eq!(rt; left.err.bytes(), told.as_bytes());
     }
+    Ok(())
+}
+
+#[test]
+fn refuses_a_kind_that_has_no_function(rt: HostRuntime) -> Result<(), Fail> {
+    let alloc = rt.alloc();
+    let mut functions = FnTable::new(alloc);
+    let f: StageFn = Box::new(
+        alloc,
+        |alloc: Global, arg: &[u8], record: &[u8], list: &mut ListOf<Bytes>| {
+            words(alloc, arg, record, list)
+        },
+    )?;
+    functions.add_stage(StageKind::Words, f)?;
+    let f: AggFn = Box::new(alloc, |record: &[u8], old: u64| count(record, old))?;
+    functions.add_agg(AggKind::Count, f)?;
+    let job = "source in\nstage words 1 hash\nstage upper 1 hash\naggregate count 1\n";
+    let mut files = files(alloc, job, b"a\n", "", 9, 0)?;
+    let mut out = sink(alloc, 100)?;
+    let mut err = sink(alloc, 100)?;
+    let words = words_of(alloc, "run job")?;
+    assert_eq!(rt;
+        top(
+            &rt, alloc, &words, &functions, &mut files, &mut out, &mut err
+        ),
+        3
+    );
+    assert_eq!(rt; out.bytes(), b"".as_slice());
+    assert_eq!(rt; err.bytes(), b"job line 3: no function\n".as_slice());
     Ok(())
 }

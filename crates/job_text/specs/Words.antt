@@ -1,18 +1,40 @@
--- The words of a command line. The commands are this project's own.
-use Rattle.std.specs.Prelude.{◌≡◌, ◌≢◌, ℕ, ◌<◌, List, [], ◌∷◌, length, slice_index, codes}
+-- The words of a command line. The commands and what is told of faulty words are this project's own choice.
+use Rattle.std.specs.Prelude.{◌≡◌, ℕ, ◌==◌, Bool, false, not, List, [], ◌∷◌, IsTrue, if◌then◌else◌, Option, Some, None, codes, bytes_eq}
 use Rattle.job_text.specs.declared.words.Command.{Command}
 use Rattle.job_text.specs.declared.words.Command.TheVariants.{Run}
+use Rattle.job_text.specs.declared.words.UsageKind.{UsageKind}
+use Rattle.job_text.specs.declared.words.UsageKind.TheVariants.{NoCommand, UnknownCommand, MissingOperand, UnknownOption, ExtraWord}
 
--- An operand is not empty and does not begin with `-`, whose code is 45.
-pub record IsOperand (word : List ℕ) : Type 0 where
-  pub not_empty : 0 < length word
-  pub no_option : slice_index word 0 ≢ 45
+-- Whether a word begins with `-`, as an option does.
+abbrev pub has_dash : List ℕ → Bool
+has_dash [] = false
+has_dash (b ∷ bytes) = b == 45
 
--- The words are `run` and the name of a job.
+-- An operand is not empty and does not begin with `-`.
+abbrev pub is_operand : List ℕ → Bool
+is_operand [] = false
+is_operand (b ∷ bytes) = not (b == 45)
+
+-- The words are `run` and the name of a job's file.
 pub record IsRun (words : List (List ℕ)) (job : List ℕ) : Type 0 where
   pub words_are : words ≡ codes "run" ∷ job ∷ []
-  pub operand : IsOperand job
+  pub operand : IsTrue (is_operand job)
 
 -- The words are this command.
 abbrev pub IsCommand : List (List ℕ) → Command → Type 0
 IsCommand words (Run job) = IsRun words job
+
+-- The fault of the words behind the operands, where there are any: `run` has no options.
+abbrev pub fault_behind : List (List ℕ) → Option UsageKind
+fault_behind [] = None
+fault_behind (word ∷ words) = Some (if has_dash word then UnknownOption else ExtraWord)
+
+-- The first fault of the words behind `run`.
+abbrev pub run_fault : List (List ℕ) → Option UsageKind
+run_fault [] = Some MissingOperand
+run_fault (job ∷ words) = if is_operand job then fault_behind words else Some MissingOperand
+
+-- The first fault of the words, from the left.
+abbrev pub usage_fault : List (List ℕ) → Option UsageKind
+usage_fault [] = Some NoCommand
+usage_fault (command ∷ words) = if bytes_eq command (codes "run") then run_fault words else Some UnknownCommand

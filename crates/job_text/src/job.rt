@@ -1,89 +1,83 @@
 // Reads the text of a job.
-ghost use Rattle.std.specs.Prelude.{◌≡◌, ◌≢◌, ◌<◌, ◌∷◌, [], ◌↔◌, ℕ, List, Err, IfOk, IfSome, IfNone, IsTrue, length};
-ghost use Rattle.flow_defs.specs.Lines.{lines};
-ghost use Rattle.job_text.specs.declared.job.JobReadFault.TheVariants.{Memory};
-ghost use Rattle.job_text.specs.JobText.{IsFileName, IsJob};
+ghost use Rattle.std.specs.Prelude.{◌≡◌, ◌↔◌, ℕ, Some, None, Err, IfOk, IfErr, OnOk};
+ghost use Rattle.flow_defs.specs.declared.job.Job.{Job};
+ghost use Rattle.job_text.specs.declared.fault.JobFault.{JobFault};
+ghost use Rattle.stage_fns.specs.Kinds.{kinds};
+ghost use Rattle.job_text.specs.JobText.{IsJobText};
+ghost use Rattle.job_text.specs.JobFaults.{first_fault};
+ghost use Rattle.job_text.specs.Reading.{IsTold};
 
-use flow_defs::{Word, cut_line};
-use std::alloc::{AllocError, Global};
-use thiserror::Error;
-
-/// A job: one source, whose lines it counts.
-#[derive(Debug, Drop)]
-pub struct Job {
-    /// The file that it reads.
-    pub source: Word,
-}
-
-/// Why the text is no job's.
-#[derive(Clone, Copy, Debug, PartialEq, Eq, Error)]
-pub enum JobReadFault {
-    #[error("a line is no line of a job")]
-    Line,
-    #[error("out of memory")]
-    Memory,
-}
-
-impl From<AllocError> for JobReadFault {
-    ghost from_gives = { λ _ e. e ≡ Memory };
-
-    fn from(_: AllocError) -> Self {
-        JobReadFault::Memory
-    }
-}
+use crate::JobReadFault;
+use crate::lines::{JobLines, Line};
+use flow_defs::{Bytes, Job, ListOf, Stage};
+use stage_fns::FnTable;
+use std::alloc::Global;
 
 /// Reads the job whose text this is. The last line may lack its newline.
-pub fn read_job(alloc: Global, bytes: &[u8]) -> Result<Job, JobReadFault>
-    ensures job { IfOk result (λ job. IsJob bytes.now job.source) }
-    ensures line { (source : List ℕ) → IsJob bytes.now source → result ≢ Err JobReadFault.Line }
-    ensures accepted { result ≢ Err JobReadFault.Line → (source : List ℕ) × IsJob bytes.now source }
+///
+/// The text is checked before memory is taken, so a fault is told however little memory there is.
+pub fn read_job(alloc: Global, bytes: &[u8], functions: &FnTable) -> Result<Job, JobReadFault>
+    ensures job { IfOk result (λ job. IsJobText (kinds functions.now) bytes.now job) }
+    ensures line { (line : ℕ) (kind : JobFault) → (result ≡ Err (JobReadFault.Line line kind))
+        ↔ (first_fault (kinds functions.now) bytes.now ≡ Some (line, kind)) }
+
+    // No text of a job is refused.
+    ensures accepted { (job : Job) → IsJobText (kinds functions.now) bytes.now job →
+        first_fault (kinds functions.now) bytes.now ≡ None }
 {
-    match source_name(bytes) {
-        Some(name) => {
-            let source = Word::of(alloc, name)?;
-            Ok(Job { source })
+    check(bytes, functions)?;
+    build(alloc, bytes, functions)
+}
+
+// Reads the text to its end or its first fault.
+fn check(bytes: &[u8], functions: &FnTable) -> Result<(), JobReadFault>
+    ensures ok { OnOk result (first_fault (kinds functions.now) bytes.now ≡ None) }
+    ensures err { IfErr result (λ told. IsTold told (first_fault (kinds functions.now) bytes.now)) }
+{
+    let mut lines = JobLines::of(bytes);
+    'lines: while !matches!(lines.next(functions)?, Line::Aggregate { .. }) {}
+    Ok(())
+}
+
+// Makes the job of a text that has no fault.
+fn build(alloc: Global, bytes: &[u8], functions: &FnTable) -> Result<Job, JobReadFault>
+    requires { first_fault (kinds functions.now) bytes.now ≡ None }
+    ensures job { IfOk result (λ job. IsJobText (kinds functions.now) bytes.now job) }
+    ensures err { IfErr result (λ fault. fault ≡ JobReadFault.Memory) }
+{
+    let mut sources = ListOf::new(alloc);
+    let mut stages = ListOf::new(alloc);
+    let mut lines = JobLines::of(bytes);
+    'lines: loop {
+        match lines.next(functions)? {
+            Line::Source { file } => {
+                let name = Bytes::of(alloc, file)?;
+                sources.push(name)?;
+            }
+            Line::Stage {
+                kind,
+                arg,
+                tasks,
+                exchange,
+            } => {
+                let arg = Bytes::of(alloc, arg)?;
+                stages.push(Stage {
+                    kind,
+                    arg,
+                    tasks,
+                    exchange,
+                })?;
+            }
+            Line::Aggregate { kind, tasks } => {
+                let text = Bytes::of(alloc, bytes)?;
+                return Ok(Job {
+                    sources,
+                    stages,
+                    agg: kind,
+                    agg_tasks: tasks,
+                    text,
+                });
+            }
         }
-        None => Err(JobReadFault::Line),
-    }
-}
-
-// The name of the source in a job's text.
-fn source_name(bytes: &[u8]) -> Option<&str>
-    ensures some { IfSome result (λ name. IsJob bytes.now name.now) }
-    ensures none { IfNone result ((source : List ℕ) → IsJob bytes.now source → ⊥) }
-{
-    let (first, rest) = cut_line(bytes)?;
-    if !is_only_line(rest, b"aggregate count 1") {
-        return None;
-    }
-    let name = first.strip_prefix(b"source ")?;
-    file_name(name)
-}
-
-// Whether this is the only line of the bytes.
-fn is_only_line(bytes: &[u8], line: &[u8]) -> bool
-    requires { 0 < length line.now }
-    ensures { IsTrue result ↔ (lines bytes.now ≡ line.now ∷ []) }
-{
-    match cut_line(bytes) {
-        Some((first, rest)) => first == line && rest.is_empty(),
-        None => bytes == line,
-    }
-}
-
-// The bytes as a text, where they are a file's name.
-fn file_name(bytes: &[u8]) -> Option<&str>
-    ensures some { IfSome result (λ name. name.now ≡ bytes.now × IsFileName bytes.now) }
-    ensures none { IfNone result (IsFileName bytes.now → ⊥) }
-{
-    if bytes.is_empty()
-        || bytes.len() > 255
-        || !bytes.iter().all(|byte| matches!(*byte, 33..=126))
-    {
-        return None;
-    }
-    match std::str::from_utf8(bytes) {
-        Ok(name) => Some(name),
-        Err(_) => None,
     }
 }

@@ -1,13 +1,19 @@
 //! What the program is told in texts: the words of its command line, and the text of a job.
 //!
-//! It stands on flow_defs. Contracts say of each text whether it is in its grammar, and what it
-//! then means; the program decides nothing else by a text.
+//! It stands on flow_defs for the types of a job, and on stage_fns for the kinds that have a
+//! function. Contracts say of each text whether it is in its grammar and what it then means, and else
+//! which fault is its first; the program decides nothing else by a text.
 #![tactic(auto)]
 
+mod fault;
 mod job;
+pub mod laws;
+mod lines;
+mod spelling;
 #[cfg(test)]
 mod tests;
 mod words;
 
-pub use job::{Job, JobReadFault, read_job};
-pub use words::{Command, WordFault, read_words};
+pub use fault::{JobFault, JobReadFault};
+pub use job::read_job;
+pub use words::{Command, UsageKind, WordFault, read_words};

@@ -1,7 +1,7 @@
 // Reads the words of a command line.
-ghost use Rattle.std.specs.Prelude.{◌≡◌, ◌≢◌, ◌↔◌, ℕ, List, Err, IfOk, IfSome, IfNone, IsTrue};
+ghost use Rattle.std.specs.Prelude.{◌≡◌, ◌↔◌, ℕ, List, Some, None, Err, IfOk, MatchResult};
 ghost use Rattle.job_text.specs.declared.words.WordFault.TheVariants.{Memory};
-ghost use Rattle.job_text.specs.Words.{IsOperand, IsRun, IsCommand};
+ghost use Rattle.job_text.specs.Words.{IsRun, IsCommand, has_dash, is_operand, usage_fault};
 
 use flow_defs::{ListOf, Word};
 use std::alloc::{AllocError, Global};
@@ -14,11 +14,29 @@ pub enum Command {
     Run { job: Word },
 }
 
+/// What is wrong with the words of a command line.
+#[derive(Clone, Copy, Debug, PartialEq, Eq, Error)]
+pub enum UsageKind {
+    #[error("no command")]
+    NoCommand,
+    #[error("unknown command")]
+    UnknownCommand,
+    /// An operand is wanted where there is no word, an empty one, or one that begins with `-`.
+    #[error("missing operand")]
+    MissingOperand,
+    #[error("unknown option")]
+    UnknownOption,
+    /// A word that is no option stands behind the operands.
+    #[error("extra word")]
+    ExtraWord,
+}
+
 /// Why the words are no command.
 #[derive(Clone, Copy, Debug, PartialEq, Eq, Error)]
 pub enum WordFault {
-    #[error("the words are no command")]
-    Usage,
+    /// The first fault of the words, from the left.
+    #[error("usage: {kind}")]
+    Usage { kind: UsageKind },
     #[error("out of memory")]
     Memory,
 }
@@ -34,38 +52,56 @@ impl From<AllocError> for WordFault {
 /// Reads the command that the words after the program's name are.
 pub fn read_words(alloc: Global, words: &ListOf<Word>) -> Result<Command, WordFault>
     ensures command { IfOk result (IsCommand words.now.items) }
-    ensures usage { (job : List ℕ) → IsRun words.now.items job → result ≢ Err WordFault.Usage }
-    ensures accepted { result ≢ Err WordFault.Usage → (job : List ℕ) × IsRun words.now.items job }
+    ensures usage { (kind : UsageKind) →
+        (result ≡ Err (WordFault.Usage kind)) ↔ (usage_fault words.now.items ≡ Some kind) }
+
+    // The words without a fault are those of a command.
+    ensures accepted { (usage_fault words.now.items ≡ None)
+        ↔ ((job : List ℕ) × IsRun words.now.items job) }
 {
     match job_to_run(words.as_slice()) {
-        Some(job) => {
+        Ok(job) => {
             let job = Word::of(alloc, job.text())?;
             Ok(Command::Run { job })
         }
-        None => Err(WordFault::Usage),
+        Err(kind) => Err(WordFault::Usage { kind }),
     }
 }
 
 // The job's word, where the words are `run` and an operand.
-fn job_to_run(words: &[Word]) -> Option<&Word>
-    ensures some { IfSome result (λ job. IsRun words.now job.now) }
-    ensures none { IfNone result ((job : List ℕ) → IsRun words.now job → ⊥) }
+fn job_to_run(words: &[Word]) -> Result<&Word, UsageKind>
+    ensures { MatchResult result (λ job. (usage_fault words.now ≡ None) × IsRun words.now job.now)
+        (λ kind. usage_fault words.now ≡ Some kind) }
 {
-    let [first, job] = words else {
-        return None;
+    let [command, words @ ..] = words else {
+        return Err(UsageKind::NoCommand);
     };
-    if first.text() != "run" || !is_operand(job.text()) {
-        return None;
+    if command.text() != "run" {
+        return Err(UsageKind::UnknownCommand);
     }
-    Some(job)
+    match words {
+        [job, behind @ ..] if is_operand(job.text()) => match behind {
+            [] => Ok(job),
+            [word, ..] if has_dash(word.text()) => Err(UsageKind::UnknownOption),
+            _ => Err(UsageKind::ExtraWord),
+        },
+        _ => Err(UsageKind::MissingOperand),
+    }
 }
 
 // Whether the word may stand in an operand's place.
 fn is_operand(word: &str) -> bool
-    ensures { IsTrue result ↔ IsOperand word.now }
+    ensures { result ≡ is_operand word.now }
 {
     match word.as_bytes() {
         [] => false,
         [first, ..] => *first != b'-',
     }
+}
+
+// Whether the word begins as an option does.
+fn has_dash(word: &str) -> bool
+    ensures { result ≡ has_dash word.now }
+{
+    word.as_bytes().first() == Some(&b'-')
 }

@@ -1,15 +1,37 @@
-use Rattle.std.proofs.Common.{[], ◌∷◌, Contains, arith, refl, subst, sym}
-use Rattle.job_cli.specs.Causes.{status_of}
-use Rattle.job_cli.specs.declared.top.Fault.{Fault}
-use Rattle.job_cli.specs.declared.top.Fault.TheVariants.{Usage, Text, Input, Limit, Memory}
+use Rattle.std.proofs.Common.{◌≡◌, ◌++◌, [], ◌∷◌, Contains, Some, IfSome, refl, sym, subst, ◌∙◌}
+use Rattle.stage_fns.specs.Kinds.{kinds}
+use Rattle.job_cli.proofs.TopLemmas.{known_status, no_job, passes_limit, text_refused, job_refused, source_refused, not_done, completes}
 use Rattle.job_cli.proofs.top.top.Goals as goal
 
-known_status : (fault : Fault) → Contains (0 ∷ 2 ∷ 3 ∷ 4 ∷ 7 ∷ 10 ∷ 70 ∷ []) (status_of fault)
-known_status Usage = (1, omega arith, refl)
-known_status Text = (2, omega arith, refl)
-known_status Input = (3, omega arith, refl)
-known_status Limit = (5, omega arith, refl)
-known_status Memory = (6, omega arith, refl)
+pub returns-in-Ok-clause-source_refused : goal.returns-in-Ok-clause-source_refused
+returns-in-Ok-clause-source_refused g c = λ job bytes a run inside over.
+    absurd (not_done c.args.words.now.items (kinds c.args.functions.now) (g.F.Files.contents c.args.files.now) job bytes run c.job_texts_are_clear.ensures.no_fault c.job_texts_are_clear.ensures.files
+    (λ text. IfSome (g.O.Sink.got c.args.out.now) (λ had. g.O.Sink.got c.run.new.out ≡ Some (had ++ text))) a inside over (c.in-Ok.ensures.done refl))
 
-pub returns-clause-known : goal.returns-clause-known
-returns-clause-known g c = subst (Contains (0 ∷ 2 ∷ 3 ∷ 4 ∷ 7 ∷ 10 ∷ 70 ∷ [])) (sym c.status.ensures) (known_status c.in-Err.fault)
+pub returns-in-Err-clause-text : goal.returns-in-Err-clause-text
+returns-in-Err-clause-text g c = λ three. no_job c.args.words.now.items (kinds c.args.functions.now) (g.F.Files.contents c.args.files.now) c.in-Err.fault (sym c.status.ensures ∙ three) c.in-Err.ensures.fault
+
+pub returns-in-Err-clause-text_refused : goal.returns-in-Err-clause-text_refused
+returns-in-Err-clause-text_refused g c = λ text tells no.
+    subst (Contains (3 ∷ 4 ∷ 70 ∷ [])) (sym c.status.ensures) (text_refused c.args.words.now.items (kinds c.args.functions.now) (g.F.Files.contents c.args.files.now) text tells no c.in-Err.fault c.in-Err.ensures.fault)
+
+pub returns-in-Err-clause-limit : goal.returns-in-Err-clause-limit
+returns-in-Err-clause-limit g c = λ ten. passes_limit c.args.words.now.items (kinds c.args.functions.now) (g.F.Files.contents c.args.files.now) c.in-Err.fault (sym c.status.ensures ∙ ten) c.in-Err.ensures.fault
+
+pub returns-in-Err-clause-job_refused : goal.returns-in-Err-clause-job_refused
+returns-in-Err-clause-job_refused g c = λ text tells long.
+    subst (Contains (10 ∷ 4 ∷ 70 ∷ [])) (sym c.status.ensures) (job_refused c.args.words.now.items (kinds c.args.functions.now) (g.F.Files.contents c.args.files.now) text tells long c.in-Err.fault c.in-Err.ensures.fault)
+
+pub returns-in-Err-clause-source_refused : goal.returns-in-Err-clause-source_refused
+returns-in-Err-clause-source_refused g c = λ job bytes a run inside over.
+    subst (Contains (10 ∷ 4 ∷ 70 ∷ [])) (sym c.status.ensures)
+    (source_refused c.args.words.now.items (kinds c.args.functions.now) (g.F.Files.contents c.args.files.now) job bytes run c.job_texts_are_clear.ensures.no_fault c.job_texts_are_clear.ensures.files a inside over c.in-Err.fault c.in-Err.ensures.fault)
+
+pub returns-in-Err-clause-complete : goal.returns-in-Err-clause-complete
+returns-in-Err-clause-complete g c = λ job bytes run within no_input no_output.
+    subst (Contains (0 ∷ 70 ∷ [])) (sym c.status.ensures)
+    (completes c.args.words.now.items (kinds c.args.functions.now) (g.F.Files.contents c.args.files.now) job bytes run c.job_texts_are_clear.ensures.no_fault c.job_texts_are_clear.ensures.files within c.in-Err.fault
+    (λ four. no_input (c.in-Err.ensures.input four)) (λ seven. no_output (c.in-Err.ensures.output seven)) c.in-Err.ensures.fault)
+
+pub returns-in-Err-clause-known : goal.returns-in-Err-clause-known
+returns-in-Err-clause-known g c = subst (Contains (0 ∷ 2 ∷ 3 ∷ 4 ∷ 7 ∷ 10 ∷ 70 ∷ [])) (sym c.status.ensures) (known_status c.in-Err.fault)

@@ -1,4 +1,4 @@
-use Rattle.std.proofs.Common.{◌≡◌, ℕ, List, ap, ◌∙◌, sym, Ok}
+use Rattle.std.proofs.Common.{ℕ, List, ap, ◌∙◌, sym, Ok}
 use Rattle.std.specs.declared.alloc.AllocError.{AllocError}
 use Rattle.std.specs.FinMap.{insert, empty}
 use Rattle.std.specs.BTreeMap.{IsFromIterResult}
@@ -7,7 +7,7 @@ use Rattle.std.specs.Cmp.Lexicographic.{texts_ties}
 use Rattle.std.proofs.lemmas.Iterator.Adapters.{fact_from_collect}
 use Rattle.std.proofs.lemmas.Iterator.Consumers.{YieldsList-from_rest}
 use Rattle.std.proofs.lemmas.Map.Made.{update_all_none}
-use Rattle.flow_defs.specs.Tables.{Values, key_cmp}
+use Rattle.flow_defs.specs.Tables.{Values}
 use Rattle.job_cli.specs.Entries.{entry_pairs}
 use Rattle.job_cli.proofs.CountLemmas.{Key, in_order, same_bytes, all_put, all_put_is}
 use Rattle.job_cli.proofs.counts.Counts.into_table.Goals as goal

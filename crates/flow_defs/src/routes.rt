@@ -1,0 +1,61 @@
+// Where records go, and what the segments of a job's channels come to.
+ghost use Rattle.std.specs.Prelude.{◌≡◌, ◌+◌, ◌*◌, ◌<◌, ◌≤◌};
+ghost use Rattle.flow_defs.specs.Jobs.{IsJob, segments_needed, width};
+ghost use Rattle.flow_defs.specs.Routes.{fnv, receiver};
+
+use crate::{Exchange, Job, TASKS_MAX};
+
+/// The index of the task to which a record goes. Its sender has the index `from` and has emitted
+/// so many records before; there are `ways` receiving tasks. The hash is FNV-1a of 64 bits.
+pub fn route(exchange: Exchange, key: &[u8], emitted: u64, from: u32, ways: u32) -> u32
+    requires some { 1 ≤ ways }
+    requires forward { exchange ≡ Exchange.Forward → from < ways }
+    ensures { result ≡ receiver exchange key.now emitted from ways }
+{
+    match exchange {
+        Exchange::Hash => (hash(key) % ways as u64) as u32,
+        Exchange::Rebalance => (emitted % ways as u64) as u32,
+        Exchange::Forward => from,
+    }
+}
+
+// FNV-1a of 64 bits.
+#[tactic(auto, unfolding(crate::specs::Routes::fnv))]
+fn hash(key: &[u8]) -> u64
+    ensures { result ≡ fnv key.now }
+{
+    let mut hash: u64 = 14_695_981_039_346_656_037;
+    for byte in key {
+        hash = (hash ^ *byte as u64).wrapping_mul(1_099_511_628_211);
+    }
+    hash
+}
+
+/// How many segments of network memory the channels of a job need: on each edge three for each
+/// channel and one for each sending task.
+pub fn needed(job: &Job) -> u32
+    requires { IsJob job.now }
+    ensures { result ≡ segments_needed job.now }
+{
+    let mut senders = job.sources.as_slice().len() as u32;
+    let mut segments = 0;
+    for stage in job.stages.as_slice() {
+        segments += segments_of(stage.exchange, senders, stage.tasks);
+        senders = stage.tasks;
+    }
+    segments + segments_of(Exchange::Hash, senders, job.agg_tasks)
+}
+
+// The segments of an edge between so many tasks and so many.
+fn segments_of(exchange: Exchange, senders: u32, receivers: u32) -> u32
+    requires senders { senders ≤ TASKS_MAX }
+    requires receivers { receivers ≤ TASKS_MAX }
+    ensures is { result ≡ 3 * width exchange senders receivers + senders }
+    ensures few { result ≤ 200 }
+{
+    let channels = match exchange {
+        Exchange::Forward => senders,
+        _ => senders * receivers,
+    };
+    3 * channels + senders
+}

@@ -1,0 +1,108 @@
+-- From the parts of a run to the run.
+use Rattle.std.proofs.Common.{◌≡◌, ℕ, ◌≤◌, List, [], ◌∷◌, length, Option, Some, None, IfSome, refl, subst}
+use Rattle.std.specs.Prelude.{⊤}
+use Rattle.std.specs.List.{AllByRecursion}
+use Rattle.flow_defs.specs.declared.job.Job.{Job}
+use Rattle.flow_defs.specs.declared.job.Stage.{Stage}
+use Rattle.flow_defs.specs.Stages.{IsArgument}
+use Rattle.flow_defs.specs.Lines.{lines}
+use Rattle.flow_defs.specs.Tables.{table_text}
+use Rattle.plain_machine.specs.Worth.{tally}
+use Rattle.stage_fns.specs.Functions.{Functions, HasStage}
+use Rattle.job_text.specs.Words.{IsRun, usage_fault}
+use Rattle.job_text.specs.JobText.{IsJobText}
+use Rattle.job_text.specs.JobFaults.{first_fault}
+use Rattle.job_cli.specs.declared.run.TheConstants.{JOB_MAX}
+use Rattle.job_cli.specs.declared.fault.Fault.{Fault}
+use Rattle.job_cli.specs.declared.fault.Fault.TheVariants.{Usage, JobLine, JobInput, SourceInput, Output, LongJob, LongLine, BigSource, Memory}
+use Rattle.job_cli.specs.Plans.{IsReady, CanRun}
+use Rattle.job_cli.specs.Sources.{IsSourceFault}
+use Rattle.job_cli.specs.TextFaults.{IsWordFault, IsJobFileFault, IsTextFault}
+use Rattle.job_cli.specs.Run.{NamesCommand, NamesJob, NamesGoodJob, RunsTo, IsFaultOf, TellsSources, AreWithinLimits}
+
+-- stages with arguments and functions are ready
+all_ready : (functions : Functions) (stages : List Stage) → AllByRecursion (λ (s : Stage). IsArgument s.kind s.arg.items) stages → AllByRecursion (λ (s : Stage). HasStage functions s.kind) stages → AllByRecursion (IsReady functions) stages
+all_ready functions [] arguments known = tt
+all_ready functions (s ∷ stages) arguments known = (record { argument = arguments.0; function = known.0 }, all_ready functions stages arguments.1 known.1)
+
+-- what is no Some is None
+pub none_of_all : {A : Type 0} (o : Option A) → ((x : A) → o ≡ Some x → ⊥) → o ≡ None
+none_of_all None none = refl
+none_of_all (Some x) none = absurd (none x refl)
+
+-- a job of a text can be run
+pub can_run : (functions : Functions) (text : List ℕ) (job : Job) → IsJobText functions text job → CanRun functions job
+can_run functions text job is = record { stages = all_ready functions job.stages.items is.is_job.arguments is.stage_functions; agg = is.agg_function }
+
+-- a fault of the words
+pub of_words : (words : List (List ℕ)) (functions : Functions) (contents : List ℕ → Option (List ℕ)) (fault : Fault) → (usage_fault words ≡ None → NamesCommand words) → IsWordFault words fault → IsFaultOf words functions contents fault
+of_words words functions contents (Usage kind) law is = is
+of_words words functions contents Memory law is = law is
+of_words words functions contents (JobLine line kind) law is = absurd is
+of_words words functions contents JobInput law is = absurd is
+of_words words functions contents (SourceInput a) law is = absurd is
+of_words words functions contents Output law is = absurd is
+of_words words functions contents LongJob law is = absurd is
+of_words words functions contents (LongLine a) law is = absurd is
+of_words words functions contents (BigSource a) law is = absurd is
+
+module _ (words : List (List ℕ)) (functions : Functions) (contents : List ℕ → Option (List ℕ)) (name : List ℕ) (is_run : IsRun words name) where
+  named : (o : Option (List ℕ)) (text : List ℕ) (P : List ℕ → Type 0) → IfSome o (λ held. text ≡ held) → P text → IfSome o P
+  named None text P told p = tt
+  named (Some held) text P told p = subst P told p
+
+  -- what holds of the text that was read holds of the job that the words name
+  pub of_text_read : (text : List ℕ) (P : List ℕ → Type 0) → IfSome (contents name) (λ held. text ≡ held) → P text → NamesJob words contents P
+  of_text_read text P told p = (name, is_run, named (contents name) text P told p)
+
+  pub of_job_read : (text : List ℕ) (job : Job) (P : Job → Type 0) → IfSome (contents name) (λ held. text ≡ held) → length text ≤ JOB_MAX → first_fault functions text ≡ None → IsJobText functions text job → P job → NamesGoodJob words functions contents P
+  of_job_read text job P told fits none is p = of_text_read text (λ t. (length t ≤ JOB_MAX) × (first_fault functions t ≡ None) × ((j : Job) × IsJobText functions t j × P j)) told (fits, none, (job, is, p))
+
+  -- a fault of the file with the job's text
+  pub of_job_file : (fault : Fault) → IsJobFileFault (contents name) fault → IsFaultOf words functions contents fault
+  of_job_file LongJob is = (name, is_run, is)
+  of_job_file JobInput is = (name, is_run, whatever (contents name))
+    where
+      whatever : (o : Option (List ℕ)) → IfSome o (λ text. ⊤)
+      whatever None = tt
+      whatever (Some text) = tt
+  of_job_file Memory is = (name, is_run)
+  of_job_file (Usage kind) is = absurd is
+  of_job_file (JobLine line kind) is = absurd is
+  of_job_file (SourceInput a) is = absurd is
+  of_job_file Output is = absurd is
+  of_job_file (LongLine a) is = absurd is
+  of_job_file (BigSource a) is = absurd is
+
+  -- a fault of the text
+  pub of_text : (text : List ℕ) (fault : Fault) → IfSome (contents name) (λ held. text ≡ held) → length text ≤ JOB_MAX → IsTextFault functions text fault → IsFaultOf words functions contents fault
+  of_text text (JobLine line kind) told fits is = of_text_read text (λ t. (length t ≤ JOB_MAX) × (first_fault functions t ≡ Some (line, kind))) told (fits, is)
+  of_text text Memory told fits is = (name, is_run)
+  of_text text (Usage kind) told fits is = absurd is
+  of_text text JobInput told fits is = absurd is
+  of_text text (SourceInput a) told fits is = absurd is
+  of_text text Output told fits is = absurd is
+  of_text text LongJob told fits is = absurd is
+  of_text text (LongLine a) told fits is = absurd is
+  of_text text (BigSource a) told fits is = absurd is
+
+  -- a fault of a source
+  pub of_a_source : (text : List ℕ) (job : Job) (fault : Fault) → IfSome (contents name) (λ held. text ≡ held) → length text ≤ JOB_MAX → first_fault functions text ≡ None → IsJobText functions text job → IsSourceFault job contents fault → IsFaultOf words functions contents fault
+  of_a_source text job (SourceInput a) told fits none is fault = of_job_read text job (λ j. IsSourceFault j contents (SourceInput a)) told fits none is fault
+  of_a_source text job (LongLine a) told fits none is fault = of_job_read text job (λ j. IsSourceFault j contents (LongLine a)) told fits none is fault
+  of_a_source text job (BigSource a) told fits none is fault = of_job_read text job (λ j. IsSourceFault j contents (BigSource a)) told fits none is fault
+  of_a_source text job Memory told fits none is fault = (name, is_run)
+  of_a_source text job (Usage kind) told fits none is fault = absurd fault
+  of_a_source text job (JobLine line kind) told fits none is fault = absurd fault
+  of_a_source text job JobInput told fits none is fault = absurd fault
+  of_a_source text job Output told fits none is fault = absurd fault
+  of_a_source text job LongJob told fits none is fault = absurd fault
+
+-- what a run to a text leads to
+pub runs_on : (words : List (List ℕ)) (functions : Functions) (contents : List ℕ → Option (List ℕ)) (P Q : List ℕ → Type 0) → ((text : List ℕ) → P text → Q text) → RunsTo words functions contents P → RunsTo words functions contents Q
+runs_on words functions contents P Q leads run = (run.0, run.1, on (contents run.0) run.2)
+  where
+    on : (o : Option (List ℕ)) → IfSome o (λ text. (length text ≤ JOB_MAX) × (first_fault functions text ≡ None) × ((job : Job) × IsJobText functions text job × ((bytes : ℕ → List ℕ) → TellsSources job contents bytes → AreWithinLimits job bytes × P (table_text (tally job (λ a. lines (bytes a)))))))
+        → IfSome o (λ text. (length text ≤ JOB_MAX) × (first_fault functions text ≡ None) × ((job : Job) × IsJobText functions text job × ((bytes : ℕ → List ℕ) → TellsSources job contents bytes → AreWithinLimits job bytes × Q (table_text (tally job (λ a. lines (bytes a)))))))
+    on None it = tt
+    on (Some text) it = (it.0, it.1, (it.2.0, it.2.1, λ bytes told. let found = it.2.2 bytes told in (found.0, leads _ found.1)))

@@ -1,0 +1,49 @@
+-- What is told of a fault: one line on the output for errors. The texts are this project's own.
+use Rattle.std.specs.Prelude.{ℕ, List, [], ◌∷◌, ◌++◌, Option, Some, None, codes, decimal}
+use Rattle.job_text.specs.declared.words.UsageKind.{UsageKind}
+use Rattle.job_text.specs.declared.words.UsageKind.TheVariants.{NoCommand, UnknownCommand, MissingOperand, UnknownOption, ExtraWord}
+use Rattle.job_text.specs.declared.fault.JobFault.{JobFault}
+use Rattle.job_text.specs.declared.fault.JobFault.TheVariants.{Missing, Extra, BadLine, TooMany, UnknownKind, NoFunction, BadNumber, BadExchange, BadWidth}
+use Rattle.job_cli.specs.declared.fault.Fault.{Fault}
+use Rattle.job_cli.specs.declared.fault.Fault.TheVariants.{Usage, JobLine, JobInput, SourceInput, Output, LongJob, LongLine, BigSource, Memory}
+
+-- What is wrong with the words.
+abbrev pub usage_text : UsageKind → List ℕ
+usage_text NoCommand = codes "no command"
+usage_text UnknownCommand = codes "unknown command"
+usage_text MissingOperand = codes "missing operand"
+usage_text UnknownOption = codes "unknown option"
+usage_text ExtraWord = codes "extra word"
+
+-- What is wrong with a line of the job's text.
+abbrev pub job_fault_text : JobFault → List ℕ
+job_fault_text Missing = codes ": missing"
+job_fault_text Extra = codes ": extra"
+job_fault_text BadLine = codes ": bad line"
+job_fault_text TooMany = codes ": too many"
+job_fault_text UnknownKind = codes ": unknown kind"
+job_fault_text NoFunction = codes ": no function"
+job_fault_text BadNumber = codes ": bad number"
+job_fault_text BadExchange = codes ": bad exchange"
+job_fault_text BadWidth = codes ": bad width"
+
+-- The text of a fault. Sources are counted from 0, lines from 1.
+abbrev pub fault_text : Fault → List ℕ
+fault_text (Usage kind) = codes "usage: " ++ usage_text kind
+fault_text (JobLine line kind) = codes "job line " ++ decimal line ++ job_fault_text kind
+fault_text JobInput = codes "input fault: job"
+fault_text (SourceInput source) = codes "input fault: source " ++ decimal source
+fault_text Output = codes "output fault"
+fault_text LongJob = codes "job over 65536"
+fault_text (LongLine source) = codes "source " ++ decimal source ++ codes ": line over 1048576"
+fault_text (BigSource source) = codes "source " ++ decimal source ++ codes ": over 1099511627776"
+fault_text Memory = codes "out of memory"
+
+-- The line that tells of it.
+abbrev pub fault_line : Fault → List ℕ
+fault_line fault = fault_text fault ++ 10 ∷ []
+
+-- A number in decimal, where there is one.
+abbrev pub number_text : Option ℕ → List ℕ
+number_text None = []
+number_text (Some n) = decimal n

@@ -1,0 +1,9 @@
+use Rattle.job_text.proofs.FileLemmas.{names_its_files}
+use Rattle.job_text.proofs.Law.{accepted}
+use Rattle.job_text.proofs.laws.job_texts_are_clear.Goals as goal
+
+pub returns-clause-no_fault : goal.returns-clause-no_fault
+returns-clause-no_fault c = accepted
+
+pub returns-clause-files : goal.returns-clause-files
+returns-clause-files c = names_its_files

@@ -1,0 +1,8 @@
+//! The laws of the texts of jobs. Each function does nothing; what it ensures is the law.
+ghost use Rattle.job_text.specs.Laws.{JobTextHasNoFault, JobTextNamesItsFiles};
+
+/// A text of a job has no fault, and says which files the job reads.
+pub fn job_texts_are_clear()
+    ensures no_fault { JobTextHasNoFault }
+    ensures files { JobTextNamesItsFiles }
+{}

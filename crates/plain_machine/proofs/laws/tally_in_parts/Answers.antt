@@ -1,0 +1,8 @@
+use Rattle.plain_machine.proofs.TallyLemmas.{tally_through_stages, added_in_parts}
+use Rattle.plain_machine.proofs.laws.tally_in_parts.Goals as goal
+
+pub returns-clause-stages : goal.returns-clause-stages
+returns-clause-stages c = tally_through_stages
+
+pub returns-clause-added : goal.returns-clause-added
+returns-clause-added c = added_in_parts

@@ -1,0 +1,12 @@
+pub mod Cuts
+pub mod Emitting
+pub mod Weaving
+pub mod Steps
+pub mod Worth
+pub mod Places
+pub mod Images
+pub mod Chains
+pub mod Spelling
+pub mod Histories
+pub mod Recorded
+pub mod Theorems

@@ -1,0 +1,3 @@
+pub mod Meets
+pub mod Functions
+pub mod Kinds

@@ -1,0 +1,14 @@
+// The cell.
+ghost use Rattle.std.specs.Prelude.{◌≡◌, ◌<◌};
+
+use crate::rule::{Law, Opening, View};
+use crate::turned::Turned;
+use atomic_table::Table;
+use std::alloc::Global;
+
+/// A state that threads share. Only the thread whose turn it is has the state in hand.
+pub struct TurnCell<S: Turned> {
+    pub(crate) table: Table<Option<S>, View<Opening<S>, S::Entry>, Opening<S>, Law, Global>,
+    ghost counts: { (table.shared.table_id.words ≡ 18) × (table.shared.table_id.slots ≡ 1) },
+    ghost some_pass: { 0 < table.shared.key.passes },
+}

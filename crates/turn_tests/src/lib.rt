@@ -1,0 +1,21 @@
+//! Callers of turn cells: what several threads do to one state, and what is known of it afterwards.
+//!
+//! It stands on turn_cell and flow_defs, and nothing stands on it. turn_cell's CALLING.md quotes `sum.rt`.
+#![tactic(auto)]
+
+mod crowd;
+mod dealing;
+mod held;
+mod journal;
+mod overlap;
+mod sum;
+#[cfg(test)]
+mod tests;
+mod threads;
+
+pub use crowd::add_in_crowd;
+pub use held::{Held, add_step, add_two_steps};
+pub use journal::{Journal, Written, shows, write, write_and_meet, write_and_read};
+pub use overlap::{Never, Quiet, turns_overlap};
+pub use sum::{Added, Sum, add_one, end};
+pub use threads::{add_by_four, add_by_one, add_by_two};

@@ -8,3 +8,4 @@ pub mod Stages
 pub mod Routes
 pub mod Jobs
 pub mod Rows
+pub mod Parcels

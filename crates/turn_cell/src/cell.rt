@@ -12,3 +12,22 @@ pub struct TurnCell<S: Turned> {
     ghost counts: { (table.shared.table_id.words ≡ 18) × (table.shared.table_id.slots ≡ 1) },
     ghost some_pass: { 0 < table.shared.key.passes },
 }
+
+impl<S: Turned> TurnCell<S> {
+    pub(crate) fn into_table(
+        self,
+    ) -> Table<Option<S>, View<Opening<S>, S::Entry>, Opening<S>, Law, Global>
+        ensures { result ≡ self.table }
+    {
+        let Self { table } = self;
+        table
+    }
+}
+
+// A cell that is let go tells nothing of its history.
+impl<S: Turned + Drop> Drop for TurnCell<S> {
+    fn drop(self) {
+        let Self { table } = self;
+        drop(table);
+    }
+}

@@ -36,8 +36,7 @@ impl<S: Turned> TurnCell<S> {
         let mut others = passes;
         let mut last = others.pop().unwrap();
         gather_all(&self, &mut last, others);
-        let TurnCell { table } = self;
-        let mut closed = table.close_with(last.into_seat());
+        let mut closed = self.into_table().close_with(last.into_seat());
         let slot = closed.take(0);
         closed.free();
         slot.unwrap()

@@ -1,0 +1,4 @@
+pub mod Dealing
+pub mod Dealt
+pub mod Fitting
+pub mod Moving

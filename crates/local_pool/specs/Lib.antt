@@ -1,0 +1,4 @@
+pub mod Helds
+pub mod Locals
+pub mod Moves
+pub mod Shares

@@ -1,0 +1,22 @@
+//! Local pools: the share of network memory that one task's result partition or input gate has of
+//! the global pool.
+//!
+//! It stands on segment_pool, turn_cell and flow_defs; tasks, connection loops and the connection
+//! core stand on it. A `LocalPool` claims its need when it is opened and holds it until it is closed,
+//! and lends up to a limit, for which `share` deals out what the needs leave of the global pool.
+//! Threads share one as a `HeldPool` in a turn cell.
+#![tactic(auto)]
+
+mod fault;
+mod held;
+pub mod laws;
+mod local;
+mod moves;
+mod shares;
+#[cfg(test)]
+mod tests;
+
+pub use fault::LocalFault;
+pub use held::{HeldPool, NoEntry};
+pub use local::LocalPool;
+pub use shares::{Want, share};

@@ -1,0 +1,4 @@
+pub mod Sending
+pub mod Queues
+pub mod Standing
+pub mod Theorems

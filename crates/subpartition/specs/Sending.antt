@@ -1,0 +1,112 @@
+-- The sending end of a channel: what a history of entries makes of it. As in Flink's network stack a
+-- subpartition is a queue: buffers and events are added behind the others and taken from the front, and
+-- an aligned checkpoint barrier travels in line with the data.
+use Rattle.std.specs.Prelude.{◌≡◌, ℕ, suc, ◌≤◌, ⊤, Bool, true, false, ◌==◌, List, [], ◌∷◌, ◌++◌, length, map}
+use Rattle.flow_defs.specs.declared.task.BarrierKind.{BarrierKind}
+use Rattle.flow_defs.specs.declared.task.BarrierKind.TheVariants.{Inline}
+use Rattle.flow_defs.specs.declared.parcel.Parcel.{Parcel}
+use Rattle.flow_defs.specs.declared.parcel.Parcel.TheVariants.{Data, Barrier, End}
+use Rattle.segment_pool.specs.declared.segment.TheConstants.{SEGMENT_MIN}
+use Rattle.subpartition.specs.declared.entry.SendEntry.{SendEntry}
+use Rattle.subpartition.specs.declared.entry.SendEntry.TheVariants.{Put, PutInline, Finish, Take, Size}
+use Rattle.turn_cell.specs.History.{entries_of}
+
+-- What was taken, in order, and what is left.
+pub record Outbox : Type 0 where
+  pub taken : List Parcel
+  pub items : List Parcel
+
+-- The first of these items goes over to what was taken.
+abbrev pub take_first : List Parcel → List Parcel → Outbox
+take_first taken [] = record { taken = taken; items = [] }
+take_first taken (p ∷ ps) = record { taken = taken ++ p ∷ []; items = ps }
+
+-- What one entry makes of an outbox.
+abbrev pub sent_one : Outbox → SendEntry → Outbox
+sent_one o (Put bytes) = record { taken = o.taken; items = o.items ++ Data bytes ∷ [] }
+sent_one o (PutInline k) = record { taken = o.taken; items = o.items ++ Barrier k Inline ∷ [] }
+sent_one o Finish = record { taken = o.taken; items = o.items ++ End ∷ [] }
+sent_one o Take = take_first o.taken o.items
+sent_one o (Size n) = o
+
+-- What several entries make of it, one after another.
+abbrev pub sent_from : Outbox → List SendEntry → Outbox
+sent_from o [] = o
+sent_from o (e ∷ es) = sent_from (sent_one o e) es
+
+-- What a history makes of an empty outbox.
+abbrev pub outbox : List SendEntry → Outbox
+outbox es = sent_from (record { taken = []; items = [] }) es
+
+-- What was taken, in order.
+abbrev pub taken : List SendEntry → List Parcel
+taken es = (outbox es).taken
+
+-- What was taken, and then what is left: all that was put, in the order in which it travels.
+abbrev pub travelled : List SendEntry → List Parcel
+travelled es = (outbox es).taken ++ (outbox es).items
+
+-- The bytes that were put.
+abbrev pub put : List SendEntry → List ℕ
+put [] = []
+put (Put bytes ∷ es) = bytes ++ put es
+put (PutInline k ∷ es) = put es
+put (Finish ∷ es) = put es
+put (Take ∷ es) = put es
+put (Size n ∷ es) = put es
+
+-- The barriers that were put.
+abbrev pub barriers_put : List SendEntry → List (ℕ × BarrierKind)
+barriers_put [] = []
+barriers_put (Put bytes ∷ es) = barriers_put es
+barriers_put (PutInline k ∷ es) = (k, Inline) ∷ barriers_put es
+barriers_put (Finish ∷ es) = barriers_put es
+barriers_put (Take ∷ es) = barriers_put es
+barriers_put (Size n ∷ es) = barriers_put es
+
+-- Whether the end was put.
+abbrev pub is_finished : List SendEntry → Bool
+is_finished [] = false
+is_finished (Put bytes ∷ es) = is_finished es
+is_finished (PutInline k ∷ es) = is_finished es
+is_finished (Finish ∷ es) = true
+is_finished (Take ∷ es) = is_finished es
+is_finished (Size n ∷ es) = is_finished es
+
+-- Up to how many bytes buffers are filled: what was told last, and before that the first number.
+abbrev pub filled_to : ℕ → List SendEntry → ℕ
+filled_to first [] = first
+filled_to first (Put bytes ∷ es) = filled_to first es
+filled_to first (PutInline k ∷ es) = filled_to first es
+filled_to first (Finish ∷ es) = filled_to first es
+filled_to first (Take ∷ es) = filled_to first es
+filled_to first (Size n ∷ es) = filled_to n es
+
+-- The next barrier has the next number, and comes before the end.
+pub record MayPutBarrier (es : List SendEntry) (k : ℕ) : Type 0 where
+  pub unfinished : is_finished es ≡ false
+  pub next : k ≡ suc (length (barriers_put es))
+
+-- Which entry may follow these, where segments have this size.
+abbrev pub MaySend : ℕ → List SendEntry → SendEntry → Type 0
+MaySend size es (Put bytes) = is_finished es ≡ false
+MaySend size es (PutInline k) = MayPutBarrier es k
+MaySend size es Finish = is_finished es ≡ false
+MaySend size es Take = ⊤
+MaySend size es (Size n) = (SEGMENT_MIN ≤ n) × (n ≤ size)
+
+-- Which pass makes which entry: pass 0, the task, puts; pass 1, the sender, takes; pass 2 tells sizes.
+abbrev pub may_send : ℕ → SendEntry → Bool
+may_send number (Put bytes) = number == 0
+may_send number (PutInline k) = number == 0
+may_send number Finish = number == 0
+may_send number Take = number == 1
+may_send number (Size n) = number == 2
+
+-- Which pair may follow these in a cell.
+abbrev pub MaySendAs : ℕ → List (ℕ × SendEntry) → ℕ × SendEntry → Type 0
+MaySendAs size history pair = (may_send pair.0 pair.1 ≡ true) × MaySend size (entries_of history) pair.1
+
+-- The numbers of barriers.
+abbrev pub numbers_of : List (ℕ × BarrierKind) → List ℕ
+numbers_of barriers = map (λ barrier. barrier.0) barriers

@@ -1,0 +1,44 @@
+//! The laws of what stands to be sent. Each function does nothing; what it ensures is the law.
+ghost use Rattle.subpartition.specs.Theorems.{DataTravelInOrder, DataAreTakenOrLeft, BarriersTravelInOrder, EndTravels, TakenGrows, BarriersAreNumbered, EndIsLast, EntriesAreHistory, TaskTellsPuts, TakenStays};
+ghost use Rattle.subpartition.specs.Theorems.{NewStandsForNone, PutAdds, PutInlineAdds, FinishAdds, TakeAdds, SizeAdds, LastIsPut, TakeTells, TaskTellsQueue};
+
+/// Every history keeps the order: data, barriers and the end travel as they were put, and what was taken
+/// stays.
+pub fn histories_keep_order()
+    ensures bytes { DataTravelInOrder }
+    ensures left { DataAreTakenOrLeft }
+    ensures barriers { BarriersTravelInOrder }
+    ensures end { EndTravels }
+    ensures taken { TakenGrows }
+{}
+
+/// In a history whose entries were all allowed the barriers count from 1, and the end is last.
+pub fn allowed_histories()
+    ensures numbers { BarriersAreNumbered }
+    ensures end { EndIsLast }
+{}
+
+/// What one pass's own entries tell of a cell: the task's what was put, the sender's what was taken.
+pub fn passes_tell()
+    ensures entries { EntriesAreHistory }
+    ensures task { TaskTellsPuts }
+    ensures sender { TakenStays }
+{}
+
+/// Each call of a subpartition adds its entry to the history that the subpartition stands for.
+pub fn calls_add_entries()
+    ensures new { NewStandsForNone }
+    ensures put { PutAdds }
+    ensures put_inline { PutInlineAdds }
+    ensures finish { FinishAdds }
+    ensures take { TakeAdds }
+    ensures size { SizeAdds }
+{}
+
+/// What a subpartition tells of its history: what was put stands last, what it gives was taken next, and
+/// the task's own entries say its last barrier and whether it was finished.
+pub fn calls_tell()
+    ensures put { LastIsPut }
+    ensures take { TakeTells }
+    ensures task { TaskTellsQueue }
+{}

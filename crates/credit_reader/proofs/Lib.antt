@@ -1,0 +1,6 @@
+mod Lists
+mod Queues
+mod Finding
+mod Holding
+mod Adding
+mod Histories

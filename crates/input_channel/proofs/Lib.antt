@@ -1,0 +1,10 @@
+pub mod CountLemmas
+pub mod LineLemmas
+pub mod KeptLemmas
+pub mod PollLemmas
+pub mod HistoryLemmas
+pub mod InboxLaws
+pub mod LegalLaws
+pub mod StateLaws
+pub mod PassLaws
+pub mod AnswerLaws

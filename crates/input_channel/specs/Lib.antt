@@ -1,0 +1,10 @@
+pub mod Contents
+pub mod Inboxes
+pub mod Counts
+pub mod Legal
+pub mod States
+pub mod Answers
+pub mod Lines
+pub mod Kept
+pub mod Steps
+pub mod Theorems

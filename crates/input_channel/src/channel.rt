@@ -1,0 +1,434 @@
+// The receiving end of a channel.
+ghost use Rattle.std.specs.Prelude.{◌≡◌, ◌+◌, ◌<◌, ◌≤◌, ◌^◌, ◌==◌, ◌↔◌, suc, true, false, [], ◌∷◌, length, Some, None, nat_lt, IsOk, IsSome, IfOk, IfErr, IfSome, OnOk, MatchBool};
+ghost use Rattle.circular_buffer.specs.Buffer.{buffer};
+ghost use Rattle.input_channel.specs.declared.entry.ReceiveEntry.TheVariants as entries;
+ghost use Rattle.input_channel.specs.Inboxes.{front_waits};
+ghost use Rattle.input_channel.specs.Counts.{free, floating_held, wants, told, lets_go};
+ghost use Rattle.input_channel.specs.Legal.{owes};
+ghost use Rattle.input_channel.specs.States.{opening, after, exclusive_here, segments_here};
+ghost use Rattle.input_channel.specs.declared.arrival.ArrivalKind.TheVariants as kinds;
+ghost use Rattle.input_channel.specs.Answers.{parcel_in, kind_refused, refused, IsFault, gave_of, IsAnswer, IsAnswerable};
+ghost use Rattle.input_channel.specs.Steps.{with_data_in, with_barrier_in, IsBarrierFault};
+
+use crate::arrival::{Arrival, ArrivalKind};
+use crate::entry::ReceiveEntry;
+use crate::fault::AcceptFault;
+use crate::held::HeldBuf;
+use crate::polled::Polled;
+use crate::queue::Queue;
+use crate::segments::Segments;
+use circular_buffer::HeapCircularBuffer;
+use flow_defs::BarrierKind;
+use segment_pool::Segment;
+use std::alloc::{AllocError, Global};
+use std::marker::Model;
+use turn_cell::Turned;
+
+/// The least room of a channel, in buffers: its two exclusive ones.
+pub const ROOM_MIN: u32 = 2;
+
+/// The greatest room of a channel, in buffers, and the greatest backlog that can be told.
+pub const ROOM_MAX: u32 = 0x7FFF_FFFF;
+
+/// No memory for a channel. It hands the segments back.
+#[derive(Drop)]
+pub struct NoRoom {
+    pub first: Segment,
+    pub second: Segment,
+}
+
+/// The receiving end of a channel, with its buffers and its credit.
+///
+/// Contracts see it as a `ChannelState`. All its segments have one length. `accept` of a buffer or the
+/// end, `poll` and `recycle` take constant time and no memory; a barrier takes constant time over many
+/// calls. A front barrier is found without a walk past the data before it.
+#[derive(Drop)]
+pub struct InputChannel {
+    queue: Queue,
+    // The free buffers.
+    exclusive: HeapCircularBuffer<Segment>,
+    floating: HeapCircularBuffer<Segment>,
+    pending: u32,
+    required: u32,
+    is_shut: bool,
+    // The credit that is open: what was announced less what was received. It is at most the number of
+    // the channel's buffers, and kept exactly.
+    credit: u32,
+    // The two totals have no end in the definitions. They are kept modulo 2^64, as answers carry them,
+    // and nothing is decided by them.
+    announced: u64,
+    received: u64,
+    // The sequence number that comes next, and the number of the last barrier.
+    next: u32,
+    last: u64,
+    // Whether the end came, and whether it still waits, behind all else.
+    ended: bool,
+    end_waits: bool,
+    // The resumptions owed for inline barriers that were polled, and those asked for and not taken.
+    owed: u64,
+    asked: u64,
+    size: u32,
+    room: u32,
+}
+
+impl Model for InputChannel {
+    ghost use Rattle.input_channel.specs.States.{ChannelState};
+    ghost use Rattle.input_channel.specs.Kept.{queue_of, counts_of, IsKept};
+
+    ghost Value = { ChannelState };
+
+    ghost view = { λ c. record { queue = queue_of c.queue c.end_waits; counts = counts_of c.exclusive.items c.floating.items c.queue c.pending c.required c.is_shut; credit = c.credit; announced = c.announced; received = c.received; next = c.next; last = c.last; ended = c.ended; owed = c.owed; asked = c.asked; size = c.size; room = c.room } };
+
+    ghost invariant = { λ c. IsKept c };
+}
+
+// The rings of a channel.
+fn places(
+    alloc: Global,
+    room: u32,
+) -> Result<
+    (
+        Queue,
+        HeapCircularBuffer<Segment>,
+        HeapCircularBuffer<Segment>,
+    ),
+    AllocError,
+>
+    requires { room < 2 ^ 31 }
+    ensures { IfOk result (λ p. (p.0 ≡ record { parcels = []; buffers = []; room = room }) × (p.1 ≡ buffer [] 2) × (p.2 ≡ buffer [] room)) }
+{
+    let queue = Queue::new(alloc, room)?;
+    let exclusive = HeapCircularBuffer::with_capacity(alloc, 2)?;
+    let floating = HeapCircularBuffer::with_capacity(alloc, room as usize)?;
+    Ok((queue, exclusive, floating))
+}
+
+// How many resumptions a barrier asks for, once it is polled.
+fn owes(kind: BarrierKind) -> u64
+    ensures { result ≡ owes kind }
+{
+    match kind {
+        BarrierKind::Inline => 1,
+        BarrierKind::Front => 0,
+    }
+}
+
+// A free segment, a floating one first, and whether it is an exclusive one.
+fn take_free(
+    floating: &mut HeapCircularBuffer<Segment>,
+    exclusive: &mut HeapCircularBuffer<Segment>,
+) -> (Segment, bool)
+    requires { 0 < length floating.old.items + length exclusive.old.items }
+    ensures kind { result.1 ≡ (length floating.old.items == 0) }
+    ensures floating { MatchBool result.1 (floating.new ≡ floating.old) (floating.old ≡ buffer (result.0 ∷ floating.new.items) floating.new.capacity) }
+    ensures exclusive { MatchBool result.1 (exclusive.old ≡ buffer (result.0 ∷ exclusive.new.items) exclusive.new.capacity) (exclusive.new ≡ exclusive.old) }
+{
+    if let Some(segment) = floating.pop_front() {
+        return (segment, false);
+    }
+    match exclusive.pop_front() {
+        Some(segment) => (segment, true),
+        None => unreachable!(),
+    }
+}
+
+impl InputChannel {
+    /// A channel with its two exclusive buffers and room for so many, from `ROOM_MIN` to `ROOM_MAX`.
+    /// It takes the memory of its room at once.
+    pub fn new(
+        alloc: Global,
+        first: Segment,
+        second: Segment,
+        room: u32,
+    ) -> Result<InputChannel, NoRoom>
+        requires same_size { length second ≡ length first }
+        requires room { (2 ≤ room) × (room < 2 ^ 31) }
+        ensures made { IfOk result (λ channel. channel ≡ opening (length first) room) }
+        ensures refused { IfErr result (λ r. (r.first ≡ first) × (r.second ≡ second)) }
+    {
+        let Ok((queue, mut exclusive, floating)) = places(alloc, room) else {
+            return Err(NoRoom { first, second });
+        };
+        let size = first.bytes().len() as u32;
+        exclusive.push_back(first);
+        exclusive.push_back(second);
+        Ok(InputChannel {
+            queue,
+            exclusive,
+            floating,
+            pending: 0,
+            required: 2,
+            is_shut: false,
+            credit: 2,
+            announced: 2,
+            received: 0,
+            next: 0,
+            last: 0,
+            ended: false,
+            end_waits: false,
+            owed: 0,
+            asked: 0,
+            size,
+            room,
+        })
+    }
+
+    /// Takes what a buffer response brought. The bytes are the content of a buffer, and count for
+    /// nothing where another kind arrives.
+    pub fn accept(&mut self, a: Arrival, bytes: &[u8]) -> Result<(), AcceptFault>
+        requires { a.backlog < 2 ^ 31 }
+        ensures accepted { OnOk result ((refused self.old a bytes.now ≡ None) × (self.new ≡ after self.old (entries.Push (parcel_in a.what bytes.now) a.backlog))) }
+        ensures refused { IfErr result (λ fault. (self.new ≡ self.old) × IsFault self.old a bytes.now fault) }
+    {
+        if a.sequence != self.next {
+            return Err(AcceptFault::WrongSequence {
+                want: self.next,
+                got: a.sequence,
+            });
+        }
+        if self.ended {
+            return Err(AcceptFault::AfterEnd);
+        }
+        match a.what {
+            ArrivalKind::Buffer => self.accept_data(bytes)?,
+            ArrivalKind::Barrier { k, kind } => self.accept_barrier(k, kind)?,
+            ArrivalKind::End => {
+                self.ended = true;
+                self.end_waits = true;
+            }
+        }
+        self.next = self.next.wrapping_add(1);
+        self.required = a.backlog + 2;
+        Ok(())
+    }
+
+    fn accept_data(&mut self, bytes: &[u8]) -> Result<(), AcceptFault>
+        requires { self.old.ended ≡ false }
+        ensures accepted { OnOk result ((kind_refused self.old kinds.Buffer bytes.now ≡ None) × (self.new ≡ with_data_in self.old bytes.now)) }
+        ensures refused { IfErr result (λ fault. (self.new ≡ self.old) × (kind_refused self.old kinds.Buffer bytes.now ≡ Some fault)) }
+    {
+        if self.credit == 0 {
+            return Err(AcceptFault::OverCredit {
+                received: self.received.wrapping_add(1),
+                announced: self.announced,
+            });
+        }
+        if bytes.len() > self.size as usize {
+            return Err(AcceptFault::OverSize {
+                got: bytes.len(),
+                size: self.size,
+            });
+        }
+        let (segment, exclusive) = take_free(&mut self.floating, &mut self.exclusive);
+        self.queue
+            .push_data(HeldBuf::filled(segment, exclusive, bytes));
+        self.credit -= 1;
+        self.received = self.received.wrapping_add(1);
+        Ok(())
+    }
+
+    fn accept_barrier(&mut self, k: u64, kind: BarrierKind) -> Result<(), AcceptFault>
+        requires { self.old.ended ≡ false }
+        ensures accepted { OnOk result ((k ≡ suc self.old.last) × (self.new ≡ with_barrier_in self.old k kind)) }
+        ensures refused { IfErr result (λ fault. (self.new ≡ self.old) × IsBarrierFault self.old k kind fault) }
+    {
+        if k.checked_sub(1) != Some(self.last) {
+            return Err(AcceptFault::WrongBarrier {
+                want: self.last.wrapping_add(1),
+                got: k,
+            });
+        }
+        self.queue.push_barrier(k, kind)?;
+        self.last = k;
+        Ok(())
+    }
+
+    /// Obeys a backlog announcement.
+    pub fn on_backlog(&mut self, n: u32)
+        requires { n < 2 ^ 31 }
+        ensures { self.new ≡ after self.old (entries.Backlog n) }
+    {
+        self.required = n + 2;
+    }
+
+    /// How many floating segments it asks of its gate's pool.
+    pub fn wants(&self) -> u32
+        ensures { result ≡ wants self.now.room self.now.counts }
+    {
+        let free = (self.exclusive.len() + self.floating.len()) as u32;
+        let floating = self.floating.len() as u32 + self.queue.floating();
+        self.required
+            .saturating_sub(free)
+            .min(self.room - 2 - floating)
+    }
+
+    /// Takes a floating segment from its gate's pool, and with it credit to announce.
+    pub fn add_floating(&mut self, segment: Segment)
+        requires wanted { 0 < wants self.old.room self.old.counts }
+        requires size { length segment ≡ self.old.size }
+        ensures { self.new ≡ after self.old entries.Added }
+    {
+        self.floating.push_back(segment);
+        self.pending += 1;
+    }
+
+    /// Gives what is due: the first barrier where that is front, and else what came first. With `hold`
+    /// barriers are held back. It never asks for memory.
+    pub fn poll(&mut self, hold: bool) -> Result<Polled, AllocError>
+        ensures answered { IsOk result }
+        ensures answer { IfOk result (λ polled. IsAnswer hold self.old polled) }
+        ensures answerable { IfOk result (λ polled. IsAnswerable polled self.new) }
+        ensures channel { IfOk result (λ polled. self.new ≡ after self.old (entries.Poll hold (gave_of polled))) }
+    {
+        if let Some((k, kind)) = self.queue.due_barrier() {
+            if hold {
+                return Ok(Polled::Held);
+            }
+            self.queue.pop_barrier();
+            self.owed += owes(kind);
+            return Ok(Polled::Barrier { k, kind });
+        }
+        if let Some(buf) = self.queue.pop_data() {
+            return Ok(Polled::Buffer(buf));
+        }
+        if self.end_waits {
+            self.end_waits = false;
+            return Ok(Polled::End);
+        }
+        Ok(Polled::Empty)
+    }
+
+    /// Whether the first barrier that waits is front.
+    pub fn front_waits(&self) -> bool
+        ensures { result ≡ front_waits self.now.queue }
+    {
+        self.queue.front_waits()
+    }
+
+    /// The length of the channel's segments, in bytes.
+    pub fn size(&self) -> u32
+        ensures { result ≡ self.now.size }
+    {
+        self.size
+    }
+
+    /// Takes a buffer back that it gave. What it answers goes to the gate's pool.
+    pub fn recycle(&mut self, buf: HeldBuf) -> Option<Segment>
+        requires size { length buf.segment ≡ self.old.size }
+        requires given { buf.exclusive ≡ true → exclusive_here self.old < 2 }
+        ensures channel { self.new ≡ after self.old (entries.Returned buf.exclusive) }
+        ensures size { IfSome result (λ segment. length segment ≡ self.old.size) }
+        ensures floating { buf.exclusive ≡ false → result ≡ Some buf.segment }
+        ensures exclusive { buf.exclusive ≡ true → (IsSome result ↔ (lets_go self.old.counts ≡ true)) }
+    {
+        let HeldBuf {
+            segment,
+            exclusive,
+            ..
+        } = buf;
+        if !exclusive {
+            return Some(segment);
+        }
+        let floating = self.floating.len();
+        let free = self.exclusive.len() + floating;
+        self.exclusive.push_back(segment);
+        if free >= self.required as usize && floating > 0 {
+            return self.floating.pop_front();
+        }
+        self.pending += 1;
+        None
+    }
+
+    /// The credit to tell the sender, in buffers. It counts as announced from then on.
+    pub fn take_credit(&mut self) -> u32
+        ensures told { result ≡ told self.old.counts }
+        ensures channel { self.new ≡ after self.old (entries.Credit result) }
+        ensures none { result ≡ 0 → self.new ≡ self.old }
+    {
+        if self.is_shut {
+            return 0;
+        }
+        let told = self.pending;
+        self.pending = 0;
+        self.credit += told;
+        self.announced = self.announced.wrapping_add(told as u64);
+        told
+    }
+
+    /// Ends the announcing of credit.
+    pub fn shut(&mut self)
+        requires { self.old.credit ≡ 0 }
+        ensures { self.new ≡ after self.old entries.Shut }
+    {
+        self.is_shut = true;
+    }
+
+    /// Whether the end was accepted.
+    pub fn ended(&self) -> bool
+        ensures { result ≡ self.now.ended }
+    {
+        self.ended
+    }
+
+    /// Asks for one resumption, for an inline barrier that was polled.
+    pub fn ask_resume(&mut self)
+        requires { 0 < self.old.owed }
+        ensures { self.new ≡ after self.old entries.Ask }
+    {
+        self.owed -= 1;
+        self.asked += 1;
+    }
+
+    /// Takes a resumption, to tell the sender, if one was asked for.
+    pub fn take_resume(&mut self) -> bool
+        ensures taken { result ≡ nat_lt 0 self.old.asked }
+        ensures channel { self.new ≡ after self.old entries.Resume }
+    {
+        if self.asked == 0 {
+            return false;
+        }
+        self.asked -= 1;
+        true
+    }
+
+    /// What every channel keeps: its free buffers are the credit that is open and the credit to
+    /// announce, it has no more buffers than its room, and no more than two exclusive ones.
+    pub fn is_covered(&self)
+        ensures credit { free self.now.counts ≡ self.now.credit + self.now.counts.pending }
+        ensures room { 2 + self.now.counts.floating + floating_held self.now.counts ≤ self.now.room }
+        ensures exclusive { exclusive_here self.now ≤ 2 }
+    {
+        let _credit = self.credit;
+    }
+
+    /// Ends the channel. What waits there is lost, and its segments can go back to their pool.
+    pub fn into_segments(self) -> Segments
+        ensures { result ≡ record { left = segments_here self; size = self.size } }
+    {
+        let InputChannel {
+            queue,
+            exclusive,
+            floating,
+            size,
+            ..
+        } = self;
+        Segments {
+            exclusive,
+            floating,
+            buffers: queue.into_buffers(),
+            size,
+        }
+    }
+}
+
+impl Turned for InputChannel {
+    type Entry = ReceiveEntry;
+
+    type Fixed = u32;
+
+    ghost use Rattle.input_channel.specs.States.{StandsFor};
+
+    ghost stands = { λ channel pairs. StandsFor channel pairs };
+
+    ghost fixed = { λ channel. channel.size };
+}

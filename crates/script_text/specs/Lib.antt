@@ -1,0 +1,6 @@
+pub mod Scripts
+pub mod ScriptFaults
+pub mod Replies
+pub mod Reading
+pub mod Writing
+pub mod Laws

@@ -1,0 +1,252 @@
+-- A sound connection stays sound when something is put on a channel.
+use Rattle.std.proofs.Common.{◌≡◌, ℕ, zero, suc, ◌+◌, ◌<◌, ◌≤◌, Bool, true, false, not, cond, eqb, ltb, List, [], ◌∷◌, ◌++◌, length, drop, map, refl, sym, ap, subst, ◌∙◌, append_assoc, length-append, arith, inr}
+use Rattle.std.specs.Prelude.{◌||◌, replicate}
+use Rattle.std.specs.List.{range_with_len}
+use Rattle.std.proofs.lemmas.Bool.{cond_both, or_parts, not-false, eqb-true, ltb-true, ltb-false, true≢false}
+use Rattle.std.proofs.lemmas.List.{length-take, map-append}
+use Rattle.std.proofs.lemmas.List.Sums.{sum_by-append, sum_by-cons}
+use Rattle.flow_defs.specs.Records.{length_bytes, encoded}
+use Rattle.flow_defs.specs.declared.task.BarrierKind.{BarrierKind}
+use Rattle.flow_defs.specs.declared.task.BarrierKind.TheVariants.{Inline, Front}
+use Rattle.flow_defs.specs.declared.parcel.Parcel.{Parcel}
+use Rattle.flow_defs.specs.declared.parcel.Parcel.TheVariants.{Data, Barrier, End}
+use Rattle.flow_defs.specs.Parcels.{is_data, barriers_of, has_end}
+use Rattle.flow_defs.specs.Items.{Items}
+use Rattle.credit_reader.specs.declared.reader.Reader.{Reader}
+use Rattle.credit_reader.specs.Readers.{Ready, after}
+use Rattle.credit_reader.specs.Senders.{happened}
+use Rattle.script_text.specs.declared.event.Event.TheVariants as events
+use Rattle.script_text.specs.declared.reply.Reply.{Reply}
+use Rattle.script_text.specs.declared.reply.Reply.TheVariants as replies
+use Rattle.script_text.specs.Scripts.{IsEvent}
+use Rattle.exchange_world.specs.Lanes.{Lane, ITEMS_MAX, channel_id, backlog_in, head_in}
+use Rattle.exchange_world.specs.Worlds.{World, lane_of, with_lane, partition_limit, partition_lent}
+use Rattle.exchange_world.specs.Steps.{step, pieces_within, pieces, buffers_of, with_items, puts, emits}
+use Rattle.exchange_world.specs.Sound.{responses, credit_coming, resumptions_coming, AreFit, IsSound}
+use Rattle.exchange_world.proofs.LaneLemmas.{other_channel, lane_put, lane_stays, lanes_stay, reader_here, reader_there, channels_after, SoundOn, sound_on, is_sound_lane}
+use Rattle.exchange_world.proofs.QueueLemmas.{happened_holds}
+use Rattle.exchange_world.proofs.WorldLemmas.{keeps_sound, limit_stays, gate_limit_stays, gate_lent_stays}
+
+-- ---- parcels behind others
+
+pub barriers_of-append : (ps qs : List Parcel) → barriers_of (ps ++ qs) ≡ barriers_of ps ++ barriers_of qs
+barriers_of-append [] qs = refl
+barriers_of-append (Data bytes ∷ ps) qs = barriers_of-append ps qs
+barriers_of-append (Barrier k kind ∷ ps) qs = ap (λ bs. (k, kind) ∷ bs) (barriers_of-append ps qs)
+barriers_of-append (End ∷ ps) qs = barriers_of-append ps qs
+
+pub has_end-append : (ps qs : List Parcel) → has_end ps ≡ false → has_end (ps ++ qs) ≡ has_end qs
+has_end-append [] qs none = refl
+has_end-append (Data bytes ∷ ps) qs none = has_end-append ps qs none
+has_end-append (Barrier k kind ∷ ps) qs none = has_end-append ps qs none
+has_end-append (End ∷ ps) qs none = absurd (true≢false none)
+
+pub fit-append : (size : ℕ) (ps qs : List Parcel) → has_end ps ≡ false → AreFit size ps → AreFit size qs → AreFit size (ps ++ qs)
+fit-append size [] qs none here there = there
+fit-append size (Data bytes ∷ ps) qs none here there = (here.0, here.1, fit-append size ps qs none here.2 there)
+fit-append size (Barrier k Inline ∷ ps) qs none here there = fit-append size ps qs none here there
+fit-append size (Barrier k Front ∷ ps) qs none here there = absurd here
+fit-append size (End ∷ ps) qs none here there = absurd (true≢false none)
+
+pub backlog_in-append : (ps qs : List Parcel) → backlog_in (ps ++ qs) ≡ backlog_in ps + backlog_in qs
+backlog_in-append ps qs = sum_by-append (λ p. cond (is_data p) 1 0) ps qs
+
+range-append : (a m n : ℕ) → range_with_len a (m + n) ≡ range_with_len a m ++ range_with_len (a + m) n
+range-append a zero n = ap (λ k. range_with_len a k) (let e : 0 + n ≡ n = omega arith in e) ∙ ap (λ b. range_with_len b n) (let e : a ≡ a + 0 = omega arith in e)
+range-append a (suc m) n =
+    ap (λ k. range_with_len a k) (let e : suc m + n ≡ suc (m + n) = omega arith in e)
+    ∙ ap (λ xs. a ∷ xs) (range-append (a + 1) m n ∙ ap (λ b. range_with_len (a + 1) m ++ range_with_len b n) (let e : a + 1 + m ≡ a + suc m = omega arith in e))
+
+-- barriers have the numbers behind those of the barriers before them
+numbered-append : (last : ℕ) (bs cs : List (ℕ × BarrierKind)) → map (λ (b : ℕ × BarrierKind). b.0) bs ≡ range_with_len (suc last) (length bs)
+    → map (λ (b : ℕ × BarrierKind). b.0) cs ≡ range_with_len (suc (last + length bs)) (length cs)
+    → map (λ (b : ℕ × BarrierKind). b.0) (bs ++ cs) ≡ range_with_len (suc last) (length (bs ++ cs))
+numbered-append last bs cs here there =
+    map-append (λ (b : ℕ × BarrierKind). b.0) bs cs
+    ∙ ap (λ xs. xs ++ map (λ (b : ℕ × BarrierKind). b.0) cs) here
+    ∙ ap (λ xs. range_with_len (suc last) (length bs) ++ xs) there
+    ∙ ap (λ k. range_with_len (suc last) (length bs) ++ range_with_len k (length cs)) (let e : suc (last + length bs) ≡ suc last + length bs = omega arith in e)
+    ∙ sym (range-append (suc last) (length bs) (length cs))
+    ∙ ap (range_with_len (suc last)) (sym (length-append bs cs))
+
+-- ---- a channel on which something is put
+
+abbrev pub more : Lane → List Parcel → ℕ → Bool → Lane
+more lane ps barriers finished = record lane { items = lane.items ++ ps; barriers = barriers; finished = finished }
+
+abbrev told : Reader → List Parcel → Reader
+told r items = after r (Ready (head_in items) (backlog_in items))
+
+-- what responses bring
+abbrev pub brought : List (ℕ × Parcel) → List Parcel
+brought way = map (λ (r : ℕ × Parcel). r.1) way
+
+more_sound : (size limit : ℕ) (lane : Lane) (r : Reader) (way : List (ℕ × Parcel)) (credit resumptions : ℕ) (ps : List Parcel) (barriers : ℕ) (finished : Bool)
+    → SoundOn size limit lane r way credit resumptions → lane.finished ≡ false → AreFit size ps
+    → map (λ (b : ℕ × BarrierKind). b.0) (barriers_of ps) ≡ range_with_len (suc lane.barriers) (length (barriers_of ps))
+    → barriers ≡ lane.barriers + length (barriers_of ps) → finished ≡ has_end ps
+    → length lane.items + length ps ≤ ITEMS_MAX → backlog_in lane.items + backlog_in ps ≤ limit
+    → SoundOn size limit (more lane ps barriers finished) (told r (lane.items ++ ps)) way credit resumptions
+more_sound size limit lane r way credit resumptions ps barriers finished s going fit numbers barriers_is finished_is room lent =
+    let before = brought way ++ lane.items in
+    let joined : before ++ ps ≡ brought way ++ (lane.items ++ ps) = append_assoc (brought way) lane.items ps in
+    let no_end = s.agree.unfinished going in
+    let all_barriers : barriers_of (brought way ++ (lane.items ++ ps)) ≡ barriers_of before ++ barriers_of ps = ap barriers_of (sym joined) ∙ barriers_of-append before ps in
+    let ends : has_end (brought way ++ (lane.items ++ ps)) ≡ has_end ps = ap has_end (sym joined) ∙ has_end-append before ps no_end.1 in
+    let last = s.agree.last in
+    record {
+      sender = record { requested = s.sender.requested; head_is = refl; backlog_is = refl };
+      inbox = s.inbox;
+      agree = record {
+        numbered = s.agree.numbered;
+        next = s.agree.next;
+        credit_is = s.agree.credit_is;
+        fit = subst (AreFit size) joined (fit-append size before ps no_end.1 s.agree.fit fit);
+        barriers =
+            subst (λ bs. map (λ (b : ℕ × BarrierKind). b.0) bs ≡ range_with_len (suc lane.inbox.last) (length bs)) (sym all_barriers)
+            (numbered-append lane.inbox.last (barriers_of before) (barriers_of ps) s.agree.barriers (numbers ∙ ap (λ k. range_with_len (suc k) (length (barriers_of ps))) last));
+        last = let counted : length (barriers_of (brought way ++ (lane.items ++ ps))) ≡ length (barriers_of before) + length (barriers_of ps) = ap length all_barriers ∙ length-append (barriers_of before) (barriers_of ps) in
+            omega (arith, counted, last, barriers_is);
+        ended = λ e. absurd (true≢false (sym e ∙ no_end.0));
+        finished = λ e. inr (ends ∙ sym finished_is ∙ e);
+        unfinished = λ e. (no_end.0, ends ∙ sym finished_is ∙ e);
+        blocked = s.agree.blocked;
+      };
+      room = omega (arith, length-append lane.items ps, room);
+      lent = omega (arith, backlog_in-append lane.items ps, lent);
+    }
+
+-- ---- the world in which it is put
+
+-- the world once a channel is in its place and the sender is told of it
+abbrev put_in : World → ℕ → Lane → World
+put_in w c lane = record (with_lane w c lane) { sender = happened (channel_id c) (Ready (head_in lane.items) (backlog_in lane.items)) w.sender }
+
+puts_is : (w : World) (c : ℕ) (lane : Lane) → 1 ≤ c → c ≤ length w.lanes → puts w c lane ≡ put_in w c lane
+puts_is w c lane low high = ap (λ (l : Lane). record (with_lane w c lane) { sender = happened (channel_id c) (Ready (head_in l.items) (backlog_in l.items)) w.sender }) (lane_put w c lane low high)
+
+keeps_put_in : (m c : ℕ) (w : World) (lane : Lane) → (sound : IsSound m w) → 1 ≤ c → c ≤ m → lane.inbox ≡ (lane_of w c).inbox
+    → ((r : Reader) → SoundOn w.size (partition_limit w) (lane_of w c) r (responses c w.frames) (credit_coming c w.controls) (resumptions_coming c w.controls)
+    → SoundOn w.size (partition_limit w) lane (told r lane.items) (responses c w.frames) (credit_coming c w.controls) (resumptions_coming c w.controls))
+    → IsSound m (put_in w c lane)
+keeps_put_in m c w lane sound low high same here =
+    let s = sound.each c low high in
+    let lanes = lanes_stay w c lane in
+    let number = sound.lanes in
+    let within : c ≤ length w.lanes = omega arith in
+    let h = Ready (head_in lane.items) (backlog_in lane.items) in
+    keeps_sound m c w (put_in w c lane) sound (record {
+      size = refl;
+      total = refl;
+      lanes = lanes;
+      channels = channels_after (channel_id c) h w.sender.readers;
+      lane = λ d d_low d_high other. lane_stays w c lane low d d_low other;
+      reader = λ d d_low d_high other. reader_there (channel_id c) h w.sender.readers (channel_id d) (other_channel c d low d_low other);
+      way = λ d d_low d_high other. refl;
+      credit = λ d d_low d_high other. refl;
+      resumptions = λ d d_low d_high other. refl;
+    }) (happened_holds (channel_id c) h w.sender sound.queue) sound.frames sound.controls
+    (λ c_low c_high. is_sound_lane c (put_in w c lane) w.size (partition_limit w) lane (told s.reader lane.items) (responses c w.frames) (credit_coming c w.controls) (resumptions_coming c w.controls)
+    refl (limit_stays w (put_in w c lane) refl lanes) (lane_put w c lane low within) (reader_here (channel_id c) h w.sender.readers s.reader s.found) refl refl refl (here s.reader (sound_on c w s)))
+    (let lent = gate_lent_stays w c lane low within same in let limit = gate_limit_stays w (put_in w c lane) refl lanes in let gate = sound.gate in omega (arith, lent, limit, gate))
+
+-- what is put on a channel that isn't finished
+keeps_more : (m c : ℕ) (w : World) (ps : List Parcel) (barriers : ℕ) (finished : Bool) → IsSound m w → 1 ≤ c → c ≤ m
+    → (lane_of w c).finished ≡ false → AreFit w.size ps
+    → map (λ (b : ℕ × BarrierKind). b.0) (barriers_of ps) ≡ range_with_len (suc (lane_of w c).barriers) (length (barriers_of ps))
+    → barriers ≡ (lane_of w c).barriers + length (barriers_of ps) → finished ≡ has_end ps
+    → length (lane_of w c).items + length ps ≤ ITEMS_MAX → backlog_in (lane_of w c).items + backlog_in ps ≤ partition_limit w
+    → IsSound m (puts w c (more (lane_of w c) ps barriers finished))
+keeps_more m c w ps barriers finished sound low high going fit numbers barriers_is finished_is room lent =
+    let number = sound.lanes in
+    subst (IsSound m) (sym (puts_is w c (more (lane_of w c) ps barriers finished) low (omega arith)))
+    (keeps_put_in m c w (more (lane_of w c) ps barriers finished) sound low high refl
+    (λ r s. more_sound w.size (partition_limit w) (lane_of w c) r (responses c w.frames) (credit_coming c w.controls) (resumptions_coming c w.controls) ps barriers finished s going fit numbers barriers_is finished_is room lent))
+
+-- ---- a record
+
+pieces_fit : (most size : ℕ) (bytes : List ℕ) → 1 ≤ size → AreFit size (map Data (pieces_within most size bytes))
+pieces_fit zero size bytes some = tt
+pieces_fit (suc most) size [] some = tt
+pieces_fit (suc most) size (b ∷ bytes) some =
+    let long = length-take size (b ∷ bytes) in (omega (arith, long), omega (arith, long), pieces_fit most size (drop size (b ∷ bytes)) some)
+
+-- buffers are data alone
+buffers_no_barriers : (xs : List (List ℕ)) → barriers_of (map Data xs) ≡ []
+buffers_no_barriers [] = refl
+buffers_no_barriers (x ∷ xs) = buffers_no_barriers xs
+
+buffers_no_end : (xs : List (List ℕ)) → has_end (map Data xs) ≡ false
+buffers_no_end [] = refl
+buffers_no_end (x ∷ xs) = buffers_no_end xs
+
+buffers_backlog : (xs : List (List ℕ)) → backlog_in (map Data xs) ≡ length (map Data xs)
+buffers_backlog [] = refl
+buffers_backlog (x ∷ xs) = sum_by-cons (λ p. cond (is_data p) 1 0) (Data x) (map Data xs) ∙ omega (arith, buffers_backlog xs)
+
+-- an encoding has at least the four bytes of its length
+pub length_bytes-length : (n : ℕ) → length (length_bytes n) ≡ 4
+unfolding length_bytes
+length_bytes-length n = refl
+
+pub encoded_long : (r : List ℕ) → 4 ≤ length (encoded r)
+encoded_long r = omega (arith, length-append (length_bytes (length r)) r, length_bytes-length (length r))
+
+-- a segment has at least a byte
+some_size : (m : ℕ) (w : World) → IsSound m w → 1 ≤ w.size
+some_size m w sound = let low = sound.opening.opening.low in omega (arith, low)
+
+-- a world and a reply, of which the world is sound
+abbrev WithSound : ℕ → World × Reply → Type 0
+WithSound m p = IsSound m p.0
+
+emits_sound : (m c : ℕ) (w : World) (text : List ℕ) → IsSound m w → 1 ≤ c → c ≤ m → WithSound m (emits w c text)
+emits_sound m c w text sound low high =
+    let lane = lane_of w c in
+    let buffers = buffers_of w text in
+    let xs = pieces w.size (encoded text) in
+    let put : World × Reply = (puts w c (with_items lane buffers), replies.Queued c (partition_lent lane + length buffers)) in
+    let full = ltb (partition_limit w) (partition_lent lane + length buffers) || ltb ITEMS_MAX (length lane.items + length buffers) in
+    cond_both lane.finished (w, replies.Refused) (cond full (w, replies.Full) put) (WithSound m) (λ is. sound) (λ going.
+    cond_both full (w, replies.Full) put (WithSound m) (λ is. sound) (λ fits.
+    let parts = or_parts _ _ fits in
+    let lent : partition_lent lane + length buffers ≤ partition_limit w = ltb-false _ _ parts.0 in
+    let room : length lane.items + length buffers ≤ ITEMS_MAX = ltb-false _ _ parts.1 in
+    let none : barriers_of buffers ≡ [] = buffers_no_barriers xs in
+    keeps_more m c w buffers lane.barriers lane.finished sound low high going (pieces_fit (length (encoded text)) w.size (encoded text) (some_size m w sound))
+    (subst (λ (bs : List (ℕ × BarrierKind)). map (λ (b : ℕ × BarrierKind). b.0) bs ≡ range_with_len (suc lane.barriers) (length bs)) (sym none) refl)
+    (let no : length (barriers_of buffers) ≡ 0 = ap length none in omega (arith, no))
+    (going ∙ sym (buffers_no_end xs)) room
+    (let counted : backlog_in buffers ≡ length buffers = buffers_backlog xs in omega (arith, counted, lent))))
+
+pub keeps_emit : (m c : ℕ) (w : World) (text : Items ℕ) → IsSound m w → IsEvent m (events.Emit c text) → IsSound m (step w (events.Emit c text)).0
+keeps_emit m c w text sound event = emits_sound m c w text.items sound event.0.0 event.0.1
+
+pub keeps_fill : (m c n : ℕ) (w : World) → IsSound m w → IsEvent m (events.Fill c n) → IsSound m (step w (events.Fill c n)).0
+keeps_fill m c n w sound event = emits_sound m c w (replicate n 97) sound event.0.0 event.0.1
+
+-- ---- a barrier, and the end
+
+pub keeps_barrier : (m c k : ℕ) (w : World) → IsSound m w → IsEvent m (events.Barrier c k) → IsSound m (step w (events.Barrier c k)).0
+keeps_barrier m c k w sound event =
+    let lane = lane_of w c in
+    let put : World × Reply = (puts w c (record (with_items lane (Barrier k Inline ∷ [])) { barriers = k }), replies.Done) in
+    let fits = ltb (length lane.items) ITEMS_MAX in
+    cond_both (lane.finished || not (eqb k (suc lane.barriers))) (w, replies.Refused) (cond fits put (w, replies.Full)) (WithSound m) (λ is. sound) (λ may.
+    cond_both fits put (w, replies.Full) (WithSound m) (λ less.
+    let parts = or_parts _ _ may in
+    let next : k ≡ suc lane.barriers = eqb-true _ _ (not-false _ parts.1) in
+    let room : length lane.items < ITEMS_MAX = ltb-true _ _ less in
+    let within = (sound.each c event.0.0 event.0.1).lent in
+    keeps_more m c w (Barrier k Inline ∷ []) k lane.finished sound event.0.0 event.0.1 parts.0 tt (ap (λ n. n ∷ []) next) (omega (arith, next)) parts.0 (omega (arith, room)) (omega (arith, within))) (λ is. sound))
+
+pub keeps_finish : (m c : ℕ) (w : World) → IsSound m w → IsEvent m (events.Finish c) → IsSound m (step w (events.Finish c)).0
+keeps_finish m c w sound event =
+    let lane = lane_of w c in
+    let put : World × Reply = (puts w c (record (with_items lane (End ∷ [])) { finished = true }), replies.Done) in
+    let fits = ltb (length lane.items) ITEMS_MAX in
+    cond_both lane.finished (w, replies.Refused) (cond fits put (w, replies.Full)) (WithSound m) (λ is. sound) (λ going.
+    cond_both fits put (w, replies.Full) (WithSound m) (λ less.
+    let room : length lane.items < ITEMS_MAX = ltb-true _ _ less in
+    let within = (sound.each c event.0 event.1).lent in
+    keeps_more m c w (End ∷ []) lane.barriers true sound event.0 event.1 going refl refl (omega arith) refl (omega (arith, room)) (omega (arith, within))) (λ is. sound))

@@ -1,0 +1,4 @@
+pub mod Exchanges
+pub mod Lanes
+pub mod Opening
+pub mod Inlets

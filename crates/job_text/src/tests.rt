@@ -7,16 +7,26 @@ use stage_fns::{AggFn, FnTable, StageFn, count, field, keep, words};
 use std::alloc::{AllocError, Global};
 use std::test::Fail;
 
+// The words that say a command.
+fn words_of(command: &Command) -> [&str; 2] {
+    match command {
+        Command::Run { job } => ["run", job.text()],
+        Command::Script { file } => ["script", file.text()],
+    }
+}
+
 #[test]
 fn the_first_fault_of_words_is_told(rt: HostRuntime) -> Result<(), Fail> {
     let alloc = rt.alloc();
     for (line, fault) in [
         (["run", "j"].as_slice(), None),
+        (&["script", "s"], None),
         (&["run", "./j j"], None),
         (&[], Some(UsageKind::NoCommand)),
         (&["go"], Some(UsageKind::UnknownCommand)),
         (&["", "j"], Some(UsageKind::UnknownCommand)),
         (&["--fast", "run"], Some(UsageKind::UnknownCommand)),
+        (&["scripts", "s"], Some(UsageKind::UnknownCommand)),
         (&["run"], Some(UsageKind::MissingOperand)),
         (&["run", ""], Some(UsageKind::MissingOperand)),
         (&["run", "-j"], Some(UsageKind::MissingOperand)),
@@ -25,15 +35,19 @@ fn the_first_fault_of_words_is_told(rt: HostRuntime) -> Result<(), Fail> {
         (&["run", "j", "-", "k"], Some(UsageKind::UnknownOption)),
         (&["run", "j", "k"], Some(UsageKind::ExtraWord)),
         (&["run", "j", "", "--fast"], Some(UsageKind::ExtraWord)),
+        (&["script"], Some(UsageKind::MissingOperand)),
+        (&["script", "--fast"], Some(UsageKind::MissingOperand)),
+        (&["script", "s", "--fast"], Some(UsageKind::UnknownOption)),
+        (&["script", "s", "run"], Some(UsageKind::ExtraWord)),
     ] {
         let mut words = ListOf::new(alloc);
         for word in line {
             words.push(Word::of(alloc, word)?)?;
         }
         match read_words(alloc, &words) {
-            Ok(Command::Run { job }) => {
+            Ok(command) => {
                 assert_eq!(rt; fault, None);
-                assert_eq!(rt; job.text(), line[1]);
+                assert_eq!(rt; line, words_of(&command).as_slice());
             }
             Err(told) => assert_eq!(rt; Some(told), fault.map(|kind| WordFault::Usage { kind })),
         }

@@ -1,7 +1,7 @@
 // Reads the words of a command line.
-ghost use Rattle.std.specs.Prelude.{◌≡◌, ◌↔◌, ℕ, List, Some, None, Err, IfOk, MatchResult};
-ghost use Rattle.job_text.specs.declared.words.WordFault.TheVariants.{Memory};
-ghost use Rattle.job_text.specs.Words.{IsRun, IsCommand, has_dash, is_operand, usage_fault};
+ghost use Rattle.std.specs.Prelude.{◌≡◌, ◌↔◌, ◌⊎◌, ℕ, List, [], ◌∷◌, Some, None, Err, IsTrue, IfOk, MatchResult};
+ghost use Rattle.job_text.specs.declared.words.WordFault.TheVariants.{Memory, Usage};
+ghost use Rattle.job_text.specs.Words.{IsRun, IsScript, IsCommand, has_dash, is_operand, operand_fault, usage_fault};
 
 use flow_defs::{ListOf, Word};
 use std::alloc::{AllocError, Global};
@@ -12,6 +12,8 @@ use thiserror::Error;
 pub enum Command {
     /// Run the job whose text is in this file.
     Run { job: Word },
+    /// Run the script whose text is in this file.
+    Script { file: Word },
 }
 
 /// What is wrong with the words of a command line.
@@ -49,6 +51,14 @@ impl From<AllocError> for WordFault {
     }
 }
 
+impl From<UsageKind> for WordFault {
+    ghost from_gives = { λ kind e. e ≡ Usage kind };
+
+    fn from(kind: UsageKind) -> Self {
+        WordFault::Usage { kind }
+    }
+}
+
 /// Reads the command that the words after the program's name are.
 pub fn read_words(alloc: Global, words: &ListOf<Word>) -> Result<Command, WordFault>
     ensures command { IfOk result (IsCommand words.now.items) }
@@ -57,31 +67,36 @@ pub fn read_words(alloc: Global, words: &ListOf<Word>) -> Result<Command, WordFa
 
     // The words without a fault are those of a command.
     ensures accepted { (usage_fault words.now.items ≡ None)
-        ↔ ((job : List ℕ) × IsRun words.now.items job) }
+        ↔ (((job : List ℕ) × IsRun words.now.items job)
+        ⊎ ((file : List ℕ) × IsScript words.now.items file)) }
 {
-    match job_to_run(words.as_slice()) {
-        Ok(job) => {
-            let job = Word::of(alloc, job.text())?;
-            Ok(Command::Run { job })
-        }
-        Err(kind) => Err(WordFault::Usage { kind }),
+    let [command, words @ ..] = words.as_slice() else {
+        return Err(UsageKind::NoCommand.into());
+    };
+    if command.text() == "run" {
+        let job = only_operand(words)?;
+        Ok(Command::Run {
+            job: Word::of(alloc, job.text())?,
+        })
+    } else if command.text() == "script" {
+        let file = only_operand(words)?;
+        Ok(Command::Script {
+            file: Word::of(alloc, file.text())?,
+        })
+    } else {
+        Err(UsageKind::UnknownCommand.into())
     }
 }
 
-// The job's word, where the words are `run` and an operand.
-fn job_to_run(words: &[Word]) -> Result<&Word, UsageKind>
-    ensures { MatchResult result (λ job. (usage_fault words.now ≡ None) × IsRun words.now job.now)
-        (λ kind. usage_fault words.now ≡ Some kind) }
+// The word, where it is the only one and an operand.
+fn only_operand(words: &[Word]) -> Result<&Word, UsageKind>
+    ensures { MatchResult result
+        (λ word. (words.now ≡ word.now ∷ []) × IsTrue (is_operand word.now))
+        (λ kind. operand_fault words.now ≡ Some kind) }
 {
-    let [command, words @ ..] = words else {
-        return Err(UsageKind::NoCommand);
-    };
-    if command.text() != "run" {
-        return Err(UsageKind::UnknownCommand);
-    }
     match words {
-        [job, behind @ ..] if is_operand(job.text()) => match behind {
-            [] => Ok(job),
+        [word, behind @ ..] if is_operand(word.text()) => match behind {
+            [] => Ok(word),
             [word, ..] if has_dash(word.text()) => Err(UsageKind::UnknownOption),
             _ => Err(UsageKind::ExtraWord),
         },

@@ -3,6 +3,7 @@ pub mod CountingLemmas
 pub mod LinesLemmas
 pub mod PlanLemmas
 pub mod RunLemmas
+pub mod ScriptLemmas
 pub mod SourceLemmas
 pub mod TopLemmas
 pub mod Told

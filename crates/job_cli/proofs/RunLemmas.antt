@@ -1,5 +1,5 @@
 -- From the parts of a run to the run.
-use Rattle.std.proofs.Common.{◌≡◌, ℕ, ◌≤◌, List, [], ◌∷◌, length, Option, Some, None, IfSome, refl, subst}
+use Rattle.std.proofs.Common.{◌≡◌, ℕ, ◌≤◌, List, [], ◌∷◌, length, Option, Some, None, IfSome, refl, subst, inl, inr}
 use Rattle.std.specs.Prelude.{⊤}
 use Rattle.std.specs.List.{AllByRecursion}
 use Rattle.flow_defs.specs.declared.job.Job.{Job}
@@ -9,16 +9,20 @@ use Rattle.flow_defs.specs.Lines.{lines}
 use Rattle.flow_defs.specs.Tables.{table_text}
 use Rattle.plain_machine.specs.Worth.{tally}
 use Rattle.stage_fns.specs.Functions.{Functions, HasStage}
-use Rattle.job_text.specs.Words.{IsRun, usage_fault}
+use Rattle.job_text.specs.Words.{IsRun, IsScript, usage_fault}
 use Rattle.job_text.specs.JobText.{IsJobText}
 use Rattle.job_text.specs.JobFaults.{first_fault}
 use Rattle.job_cli.specs.declared.run.TheConstants.{JOB_MAX}
 use Rattle.job_cli.specs.declared.fault.Fault.{Fault}
-use Rattle.job_cli.specs.declared.fault.Fault.TheVariants.{Usage, JobLine, JobInput, SourceInput, Output, LongJob, LongLine, BigSource, Memory}
+use Rattle.job_cli.specs.declared.fault.Fault.TheVariants.{Usage, JobLine, ScriptLine, JobInput, ScriptInput, SourceInput, Output, LongJob, LongScript, LongLine, BigSource, TooFewSegments, Memory}
 use Rattle.job_cli.specs.Plans.{IsReady, CanRun}
 use Rattle.job_cli.specs.Sources.{IsSourceFault}
+use Rattle.job_cli.specs.Scripts.{NamesScript, IsScriptWith, HasEnough, IsScriptFault, ScriptRunsTo, printed_replies}
+use Rattle.script_text.specs.declared.event.Script.{Script}
+use Rattle.script_text.specs.Scripts.{IsScriptText}
+use Rattle.job_cli.specs.declared.script.TheConstants.{SCRIPT_MAX}
 use Rattle.job_cli.specs.TextFaults.{IsWordFault, IsJobFileFault, IsTextFault}
-use Rattle.job_cli.specs.Run.{NamesCommand, NamesJob, NamesGoodJob, RunsTo, IsFaultOf, TellsSources, AreWithinLimits}
+use Rattle.job_cli.specs.Run.{NamesCommand, NamesJob, NamesGoodJob, RunsTo, Prints, IsFaultOf, TellsSources, AreWithinLimits}
 
 -- stages with arguments and functions are ready
 all_ready : (functions : Functions) (stages : List Stage) → AllByRecursion (λ (s : Stage). IsArgument s.kind s.arg.items) stages → AllByRecursion (λ (s : Stage). HasStage functions s.kind) stages → AllByRecursion (IsReady functions) stages
@@ -45,6 +49,10 @@ of_words words functions contents Output law is = absurd is
 of_words words functions contents LongJob law is = absurd is
 of_words words functions contents (LongLine a) law is = absurd is
 of_words words functions contents (BigSource a) law is = absurd is
+of_words words functions contents (ScriptLine line) law is = absurd is
+of_words words functions contents ScriptInput law is = absurd is
+of_words words functions contents LongScript law is = absurd is
+of_words words functions contents (TooFewSegments have need) law is = absurd is
 
 module _ (words : List (List ℕ)) (functions : Functions) (contents : List ℕ → Option (List ℕ)) (name : List ℕ) (is_run : IsRun words name) where
   named : (o : Option (List ℕ)) (text : List ℕ) (P : List ℕ → Type 0) → IfSome o (λ held. text ≡ held) → P text → IfSome o P
@@ -66,18 +74,22 @@ module _ (words : List (List ℕ)) (functions : Functions) (contents : List ℕ 
       whatever : (o : Option (List ℕ)) → IfSome o (λ text. ⊤)
       whatever None = tt
       whatever (Some text) = tt
-  of_job_file Memory is = (name, is_run)
+  of_job_file Memory is = inl (name, is_run)
   of_job_file (Usage kind) is = absurd is
   of_job_file (JobLine line kind) is = absurd is
   of_job_file (SourceInput a) is = absurd is
   of_job_file Output is = absurd is
   of_job_file (LongLine a) is = absurd is
   of_job_file (BigSource a) is = absurd is
+  of_job_file (ScriptLine line) is = absurd is
+  of_job_file ScriptInput is = absurd is
+  of_job_file LongScript is = absurd is
+  of_job_file (TooFewSegments have need) is = absurd is
 
   -- a fault of the text
   pub of_text : (text : List ℕ) (fault : Fault) → IfSome (contents name) (λ held. text ≡ held) → length text ≤ JOB_MAX → IsTextFault functions text fault → IsFaultOf words functions contents fault
   of_text text (JobLine line kind) told fits is = of_text_read text (λ t. (length t ≤ JOB_MAX) × (first_fault functions t ≡ Some (line, kind))) told (fits, is)
-  of_text text Memory told fits is = (name, is_run)
+  of_text text Memory told fits is = inl (name, is_run)
   of_text text (Usage kind) told fits is = absurd is
   of_text text JobInput told fits is = absurd is
   of_text text (SourceInput a) told fits is = absurd is
@@ -85,18 +97,26 @@ module _ (words : List (List ℕ)) (functions : Functions) (contents : List ℕ 
   of_text text LongJob told fits is = absurd is
   of_text text (LongLine a) told fits is = absurd is
   of_text text (BigSource a) told fits is = absurd is
+  of_text text (ScriptLine line) told fits is = absurd is
+  of_text text ScriptInput told fits is = absurd is
+  of_text text LongScript told fits is = absurd is
+  of_text text (TooFewSegments have need) told fits is = absurd is
 
   -- a fault of a source
   pub of_a_source : (text : List ℕ) (job : Job) (fault : Fault) → IfSome (contents name) (λ held. text ≡ held) → length text ≤ JOB_MAX → first_fault functions text ≡ None → IsJobText functions text job → IsSourceFault job contents fault → IsFaultOf words functions contents fault
   of_a_source text job (SourceInput a) told fits none is fault = of_job_read text job (λ j. IsSourceFault j contents (SourceInput a)) told fits none is fault
   of_a_source text job (LongLine a) told fits none is fault = of_job_read text job (λ j. IsSourceFault j contents (LongLine a)) told fits none is fault
   of_a_source text job (BigSource a) told fits none is fault = of_job_read text job (λ j. IsSourceFault j contents (BigSource a)) told fits none is fault
-  of_a_source text job Memory told fits none is fault = (name, is_run)
+  of_a_source text job Memory told fits none is fault = inl (name, is_run)
   of_a_source text job (Usage kind) told fits none is fault = absurd fault
   of_a_source text job (JobLine line kind) told fits none is fault = absurd fault
   of_a_source text job JobInput told fits none is fault = absurd fault
   of_a_source text job Output told fits none is fault = absurd fault
   of_a_source text job LongJob told fits none is fault = absurd fault
+  of_a_source text job (ScriptLine line) told fits none is fault = absurd fault
+  of_a_source text job ScriptInput told fits none is fault = absurd fault
+  of_a_source text job LongScript told fits none is fault = absurd fault
+  of_a_source text job (TooFewSegments have need) told fits none is fault = absurd fault
 
 -- what a run to a text leads to
 pub runs_on : (words : List (List ℕ)) (functions : Functions) (contents : List ℕ → Option (List ℕ)) (P Q : List ℕ → Type 0) → ((text : List ℕ) → P text → Q text) → RunsTo words functions contents P → RunsTo words functions contents Q
@@ -106,3 +126,43 @@ runs_on words functions contents P Q leads run = (run.0, run.1, on (contents run
         → IfSome o (λ text. (length text ≤ JOB_MAX) × (first_fault functions text ≡ None) × ((job : Job) × IsJobText functions text job × ((bytes : ℕ → List ℕ) → TellsSources job contents bytes → AreWithinLimits job bytes × Q (table_text (tally job (λ a. lines (bytes a)))))))
     on None it = tt
     on (Some text) it = (it.0, it.1, (it.2.0, it.2.1, λ bytes told. let found = it.2.2 bytes told in (found.0, leads _ found.1)))
+
+-- ---- scripts
+
+-- a fault of the script that the words name
+pub of_script : (words : List (List ℕ)) (functions : Functions) (contents : List ℕ → Option (List ℕ)) (name : List ℕ) → IsScript words name → (fault : Fault) → IsScriptFault (contents name) fault → IsFaultOf words functions contents fault
+of_script words functions contents name is_script ScriptInput is = (name, is_script, whatever (contents name))
+  where
+    whatever : (o : Option (List ℕ)) → IfSome o (λ text. ⊤)
+    whatever None = tt
+    whatever (Some text) = tt
+of_script words functions contents name is_script LongScript is = (name, is_script, is)
+of_script words functions contents name is_script (ScriptLine line) is = (name, is_script, is)
+of_script words functions contents name is_script (TooFewSegments have need) is = (name, is_script, is)
+of_script words functions contents name is_script Memory is = inr (name, is_script)
+of_script words functions contents name is_script (Usage kind) is = absurd is
+of_script words functions contents name is_script (JobLine line kind) is = absurd is
+of_script words functions contents name is_script JobInput is = absurd is
+of_script words functions contents name is_script (SourceInput a) is = absurd is
+of_script words functions contents name is_script Output is = absurd is
+of_script words functions contents name is_script LongJob is = absurd is
+of_script words functions contents name is_script (LongLine a) is = absurd is
+of_script words functions contents name is_script (BigSource a) is = absurd is
+
+-- what a script's run to a text leads to
+pub script_runs_on : (words : List (List ℕ)) (contents : List ℕ → Option (List ℕ)) (P Q : List ℕ → Type 0) → ((text : List ℕ) → P text → Q text) → ScriptRunsTo words contents P → ScriptRunsTo words contents Q
+script_runs_on words contents P Q leads run = (run.0, run.1, on (contents run.0) run.2)
+  where
+    on : (o : Option (List ℕ)) → IfSome o (IsScriptWith (λ script. HasEnough script × P (printed_replies script))) → IfSome o (IsScriptWith (λ script. HasEnough script × Q (printed_replies script)))
+    on None it = tt
+    on (Some text) it = (it.0, (it.1.0, it.1.1, (it.1.2.0, leads _ it.1.2.1)))
+
+-- what is printed leads to what holds of it
+pub prints_on : (words : List (List ℕ)) (functions : Functions) (contents : List ℕ → Option (List ℕ)) (P Q : List ℕ → Type 0) → ((text : List ℕ) → P text → Q text) → Prints words functions contents P → Prints words functions contents Q
+prints_on words functions contents P Q leads (inl run) = inl (runs_on words functions contents P Q leads run)
+prints_on words functions contents P Q leads (inr run) = inr (script_runs_on words contents P Q leads run)
+
+-- what holds of a text that was read holds of the bytes that are told
+pub held_too : (o : Option (List ℕ)) (text : List ℕ) (P : List ℕ → Type 0) → IfSome o (λ held. text ≡ held) → P text → IfSome o P
+held_too None text P told p = tt
+held_too (Some held) text P told p = subst P told p

@@ -3,14 +3,20 @@ use Rattle.std.specs.Prelude.{ℕ}
 use Rattle.job_cli.specs.declared.input.InputFault.{InputFault}
 use Rattle.job_cli.specs.declared.input.InputFault.TheVariants.{Failed as InputFailed, TooBig as InputTooBig, LongLine as InputLongLine, Memory as InputMemory}
 use Rattle.job_cli.specs.declared.fault.Fault.{Fault}
-use Rattle.job_cli.specs.declared.fault.Fault.TheVariants.{Usage, JobLine, JobInput, SourceInput, Output, LongJob, LongLine, BigSource, Memory}
+use Rattle.job_cli.specs.declared.fault.Fault.TheVariants.{Usage, JobLine, ScriptLine, JobInput, ScriptInput, SourceInput, Output, LongJob, LongScript, LongLine, BigSource, TooFewSegments, Memory}
 
--- A fault of the file with the job's text, and one of the source with this index.
+-- A fault of the file with the job's text, of the file with the script's, and of the source with this index.
 abbrev pub of_job_file : InputFault → Fault
 of_job_file InputFailed = JobInput
 of_job_file InputTooBig = LongJob
 of_job_file InputLongLine = LongJob
 of_job_file InputMemory = Memory
+
+abbrev pub of_script_file : InputFault → Fault
+of_script_file InputFailed = ScriptInput
+of_script_file InputTooBig = LongScript
+of_script_file InputLongLine = LongScript
+of_script_file InputMemory = Memory
 
 abbrev pub of_source : ℕ → InputFault → Fault
 of_source source InputFailed = SourceInput source
@@ -22,10 +28,14 @@ of_source source InputMemory = Memory
 abbrev pub status_of : Fault → ℕ
 status_of (Usage kind) = 2
 status_of (JobLine line kind) = 3
+status_of (ScriptLine line) = 3
 status_of JobInput = 4
+status_of ScriptInput = 4
 status_of (SourceInput source) = 4
 status_of Output = 7
 status_of LongJob = 10
+status_of LongScript = 10
 status_of (LongLine source) = 10
 status_of (BigSource source) = 10
+status_of (TooFewSegments have need) = 10
 status_of Memory = 70

@@ -5,7 +5,7 @@ use Rattle.job_text.specs.declared.words.UsageKind.TheVariants.{NoCommand, Unkno
 use Rattle.job_text.specs.declared.fault.JobFault.{JobFault}
 use Rattle.job_text.specs.declared.fault.JobFault.TheVariants.{Missing, Extra, BadLine, TooMany, UnknownKind, NoFunction, BadNumber, BadExchange, BadWidth}
 use Rattle.job_cli.specs.declared.fault.Fault.{Fault}
-use Rattle.job_cli.specs.declared.fault.Fault.TheVariants.{Usage, JobLine, JobInput, SourceInput, Output, LongJob, LongLine, BigSource, Memory}
+use Rattle.job_cli.specs.declared.fault.Fault.TheVariants.{Usage, JobLine, ScriptLine, JobInput, ScriptInput, SourceInput, Output, LongJob, LongScript, LongLine, BigSource, TooFewSegments, Memory}
 
 -- What is wrong with the words.
 abbrev pub usage_text : UsageKind → List ℕ
@@ -31,12 +31,16 @@ job_fault_text BadWidth = codes ": bad width"
 abbrev pub fault_text : Fault → List ℕ
 fault_text (Usage kind) = codes "usage: " ++ usage_text kind
 fault_text (JobLine line kind) = codes "job line " ++ decimal line ++ job_fault_text kind
+fault_text (ScriptLine line) = codes "script line " ++ decimal line ++ codes ": bad line"
 fault_text JobInput = codes "input fault: job"
+fault_text ScriptInput = codes "input fault: script"
 fault_text (SourceInput source) = codes "input fault: source " ++ decimal source
 fault_text Output = codes "output fault"
 fault_text LongJob = codes "job over 65536"
+fault_text LongScript = codes "script over 16777216"
 fault_text (LongLine source) = codes "source " ++ decimal source ++ codes ": line over 1048576"
 fault_text (BigSource source) = codes "source " ++ decimal source ++ codes ": over 1099511627776"
+fault_text (TooFewSegments have need) = codes "pool has " ++ decimal have ++ codes ", needs " ++ decimal need
 fault_text Memory = codes "out of memory"
 
 -- The line that tells of it.

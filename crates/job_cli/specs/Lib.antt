@@ -10,4 +10,6 @@ pub mod LinesUnderWay
 pub mod Plans
 pub mod Sources
 pub mod TextFaults
+pub mod Scripts
+pub mod ScriptParts
 pub mod Run

@@ -1,4 +1,4 @@
--- What a run of a job does, and why it is refused.
+-- What a command does, and why it is refused.
 use Rattle.std.specs.Prelude.{◌≡◌, ◌⊎◌, ⊤, ◌<◌, ◌≤◌, ℕ, length, List, ◌++◌, Option, Some, None, IfSome}
 use Rattle.flow_defs.specs.declared.job.Job.{Job}
 use Rattle.flow_defs.specs.Jobs.{tasks}
@@ -7,17 +7,19 @@ use Rattle.flow_defs.specs.Tables.{table_text}
 use Rattle.plain_machine.specs.Worth.{tally}
 use Rattle.stage_fns.specs.Functions.{Functions}
 use Rattle.job_text.specs.declared.fault.JobFault.{JobFault}
-use Rattle.job_text.specs.Words.{IsRun, usage_fault}
+use Rattle.job_text.specs.Words.{IsRun, IsScript, usage_fault}
 use Rattle.job_text.specs.JobText.{IsJobText}
 use Rattle.job_text.specs.JobFaults.{first_fault}
 use Rattle.job_cli.specs.declared.run.TheConstants.{JOB_MAX}
 use Rattle.job_cli.specs.declared.fault.Fault.{Fault}
-use Rattle.job_cli.specs.declared.fault.Fault.TheVariants.{Usage, JobLine, JobInput, SourceInput, Output, LongJob, LongLine, BigSource, Memory}
+use Rattle.job_cli.specs.declared.fault.Fault.TheVariants.{Usage, JobLine, ScriptLine, JobInput, ScriptInput, SourceInput, Output, LongJob, LongScript, LongLine, BigSource, TooFewSegments, Memory}
 use Rattle.job_cli.specs.Causes.{status_of}
 use Rattle.job_cli.specs.FaultTexts.{fault_line}
 use Rattle.job_cli.specs.Front.{GotFront}
 use Rattle.job_cli.specs.Limits.{IsOverLimit}
 use Rattle.job_cli.specs.Sources.{source_name, IsSourceFault}
+use Rattle.job_cli.specs.declared.script.TheConstants.{SCRIPT_MAX}
+use Rattle.job_cli.specs.Scripts.{NamesScript, IsScriptWith, HasTooFew, HasBadLine, ScriptRunsTo, HasScripted, HasScriptedInPart}
 
 -- The job's sources are told to have these bytes.
 abbrev pub TellsSources : Job → (List ℕ → Option (List ℕ)) → (ℕ → List ℕ) → Type 0
@@ -25,7 +27,7 @@ TellsSources job contents bytes = (a : ℕ) → a < tasks job 0 → contents (so
 
 -- The words are a command's.
 abbrev pub NamesCommand : List (List ℕ) → Type 0
-NamesCommand words = (job : List ℕ) × IsRun words job
+NamesCommand words = ((job : List ℕ) × IsRun words job) ⊎ ((file : List ℕ) × IsScript words file)
 
 -- None of a job's sources passes a limit.
 abbrev pub AreWithinLimits : Job → (ℕ → List ℕ) → Type 0
@@ -54,7 +56,18 @@ HasRun words functions contents before after = RunsTo words functions contents (
 abbrev pub HasRunInPart : List (List ℕ) → Functions → (List ℕ → Option (List ℕ)) → Option (List ℕ) → Option (List ℕ) → Type 0
 HasRunInPart words functions contents before after = RunsTo words functions contents (λ text. IfSome before (λ had. GotFront had text after))
 
--- The fault is the first of the words, of the text of the job that they name, or of that job's sources, as far as these are told.
+-- The words name a job or a script, and P holds of what is printed of it.
+abbrev pub Prints : List (List ℕ) → Functions → (List ℕ → Option (List ℕ)) → (List ℕ → Type 0) → Type 0
+Prints words functions contents P = RunsTo words functions contents P ⊎ ScriptRunsTo words contents P
+
+-- The output got all that the command is to print, or a front of it, and nothing else.
+abbrev pub HasDone : List (List ℕ) → Functions → (List ℕ → Option (List ℕ)) → Option (List ℕ) → Option (List ℕ) → Type 0
+HasDone words functions contents before after = HasRun words functions contents before after ⊎ HasScripted words contents before after
+
+abbrev pub HasDoneInPart : List (List ℕ) → Functions → (List ℕ → Option (List ℕ)) → Option (List ℕ) → Option (List ℕ) → Type 0
+HasDoneInPart words functions contents before after = HasRunInPart words functions contents before after ⊎ HasScriptedInPart words contents before after
+
+-- The fault is the first of the words, of the text of the job or the script that they name, of that job's sources, or of that script's pool, as far as these are told.
 abbrev pub IsFaultOf : List (List ℕ) → Functions → (List ℕ → Option (List ℕ)) → Fault → Type 0
 IsFaultOf words functions contents (Usage kind) = usage_fault words ≡ Some kind
 IsFaultOf words functions contents JobInput = NamesJob words contents (λ text. ⊤)
@@ -63,7 +76,11 @@ IsFaultOf words functions contents (JobLine line kind) = NamesJob words contents
 IsFaultOf words functions contents (SourceInput a) = NamesGoodJob words functions contents (λ job. IsSourceFault job contents (SourceInput a))
 IsFaultOf words functions contents (LongLine a) = NamesGoodJob words functions contents (λ job. IsSourceFault job contents (LongLine a))
 IsFaultOf words functions contents (BigSource a) = NamesGoodJob words functions contents (λ job. IsSourceFault job contents (BigSource a))
-IsFaultOf words functions contents Output = RunsTo words functions contents (λ text. ⊤)
+IsFaultOf words functions contents ScriptInput = NamesScript words contents (λ text. ⊤)
+IsFaultOf words functions contents LongScript = NamesScript words contents (λ text. SCRIPT_MAX < length text)
+IsFaultOf words functions contents (ScriptLine line) = NamesScript words contents (HasBadLine line)
+IsFaultOf words functions contents (TooFewSegments have need) = NamesScript words contents (IsScriptWith (λ script. HasTooFew script have need))
+IsFaultOf words functions contents Output = Prints words functions contents (λ text. ⊤)
 IsFaultOf words functions contents Memory = NamesCommand words
 
 -- The output for errors got nothing with the status 0. With another one it got the line of a fault with this status, as far as it took it.

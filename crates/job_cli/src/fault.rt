@@ -11,18 +11,26 @@ pub enum Fault {
     Usage { kind: UsageKind },
     /// A line of the job's text is no line of a job. Lines are counted from 1.
     JobLine { line: u64, kind: JobFault },
+    /// A line of the script's text is no line of a script. Lines are counted from 1.
+    ScriptLine { line: u64 },
     /// The job's text was not found, or a read of it failed.
     JobInput,
+    /// The script's text was not found, or a read of it failed.
+    ScriptInput,
     /// A source was not found, or a read of it failed. Sources are counted from 0.
     SourceInput { source: u32 },
     /// The output failed, or took nothing.
     Output,
     /// The job's text is over its limit.
     LongJob,
+    /// The script's text is over its limit.
+    LongScript,
     /// A line of a source is longer than a record may be.
     LongLine { source: u32 },
     /// A source is over its limit.
     BigSource { source: u32 },
+    /// The script opens a connection that needs more segments than it has.
+    TooFewSegments { have: u32, need: u32 },
     Memory,
 }
 
@@ -35,30 +43,51 @@ impl Fault {
     {
         match self {
             Fault::Usage { .. } => 2,
-            Fault::JobLine { .. } => 3,
-            Fault::JobInput | Fault::SourceInput { .. } => 4,
+            Fault::JobLine { .. } | Fault::ScriptLine { .. } => 3,
+            Fault::JobInput | Fault::ScriptInput | Fault::SourceInput { .. } => 4,
             Fault::Output => 7,
-            Fault::LongJob | Fault::LongLine { .. } | Fault::BigSource { .. } => 10,
+            Fault::LongJob | Fault::LongScript => 10,
+            Fault::LongLine { .. } | Fault::BigSource { .. } => 10,
+            Fault::TooFewSegments { .. } => 10,
             Fault::Memory => 70,
         }
     }
 
-    /// The text that tells of it: what stands before its number, the number, and what stands behind.
-    pub fn text(self) -> (&'static str, Option<u64>, &'static str)
-        ensures { result.0.now ++ number_text result.1 ++ result.2.now ≡ fault_text self }
+    /// The text that tells of it: a text, the number behind it, the text behind that, and a number at the end.
+    pub fn text(self) -> (&'static str, Option<u64>, &'static str, Option<u64>)
+        ensures { result.0.now ++ number_text result.1 ++ result.2.now ++ number_text result.3 ≡ fault_text self }
     {
         match self {
-            Fault::Usage { kind } => ("usage: ", None, usage(kind)),
-            Fault::JobLine { line, kind } => ("job line ", Some(line), job_fault(kind)),
-            Fault::JobInput => ("input fault: job", None, ""),
-            Fault::SourceInput { source } => ("input fault: source ", Some(source as u64), ""),
-            Fault::Output => ("output fault", None, ""),
-            Fault::LongJob => ("job over 65536", None, ""),
-            Fault::LongLine { source } => ("source ", Some(source as u64), ": line over 1048576"),
-            Fault::BigSource { source } => {
-                ("source ", Some(source as u64), ": over 1099511627776")
+            Fault::Usage { kind } => ("usage: ", None, usage(kind), None),
+            Fault::JobLine { line, kind } => ("job line ", Some(line), job_fault(kind), None),
+            Fault::ScriptLine { line } => ("script line ", Some(line), ": bad line", None),
+            Fault::JobInput => ("input fault: job", None, "", None),
+            Fault::ScriptInput => ("input fault: script", None, "", None),
+            Fault::SourceInput { source } => {
+                ("input fault: source ", Some(source as u64), "", None)
             }
-            Fault::Memory => ("out of memory", None, ""),
+            Fault::Output => ("output fault", None, "", None),
+            Fault::LongJob => ("job over 65536", None, "", None),
+            Fault::LongScript => ("script over 16777216", None, "", None),
+            Fault::LongLine { source } => (
+                "source ",
+                Some(source as u64),
+                ": line over 1048576",
+                None,
+            ),
+            Fault::BigSource { source } => (
+                "source ",
+                Some(source as u64),
+                ": over 1099511627776",
+                None,
+            ),
+            Fault::TooFewSegments { have, need } => (
+                "pool has ",
+                Some(have as u64),
+                ", needs ",
+                Some(need as u64),
+            ),
+            Fault::Memory => ("out of memory", None, "", None),
         }
     }
 }

@@ -1,9 +1,11 @@
 //! Runs a job: counts what its stages make of the lines of its sources, as the job's text says, and
-//! prints the counts.
+//! prints the counts. Or does a script: drives both ends of a connection, event by event, and prints
+//! what is replied to each.
 //!
-//! It stands on all other crates. `top` is the program over the world that it is handed; what it
-//! answers and writes is said by its contract, in the words of `specs/Run.antt`. `main` hands it the
-//! real files, the standard output and the output for errors.
+//! It stands on the crates of the machine, of the texts and of the exchange. `top` is the program over
+//! the world that it is handed; what it answers and writes is said by its contract, in the words of
+//! `specs/Run.antt` and `specs/Scripts.antt`. `main` hands it the real files, the standard output and
+//! the output for errors.
 #![tactic(auto)]
 
 mod counts;
@@ -14,6 +16,7 @@ mod output;
 mod plan;
 mod program;
 mod run;
+mod script;
 #[cfg(test)]
 mod tests;
 mod top;

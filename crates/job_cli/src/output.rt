@@ -64,9 +64,16 @@ pub fn tell<E: Sink>(err: &mut E, fault: Fault)
     ensures told { (HasRisen (E.faults err.old) (E.faults err.new) → ⊥) →
         IfSome (E.got err.old) (λ had. E.got err.new ≡ Some (had ++ fault_line fault)) }
 {
-    let (before, number, behind) = fault.text();
+    let (before, number, behind, last) = fault.text();
     let mut buffer = Buffer::new();
-    let parts = [before, digits(&mut buffer, number), behind, "\n"];
+    let mut last_buffer = Buffer::new();
+    let parts = [
+        before,
+        digits(&mut buffer, number),
+        behind,
+        digits(&mut last_buffer, last),
+        "\n",
+    ];
     // What a failing sink doesn't take is lost.
     let _ = write_parts(err, &parts);
 }

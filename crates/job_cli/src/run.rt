@@ -1,4 +1,4 @@
-// Runs the job that the words name.
+// Does the command that the words are.
 ghost use Rattle.std.specs.Prelude.{◌≡◌, ◌≢◌, ◌<◌, ◌≤◌, ⊤, List, ℕ, [], ◌∷◌, Err, IfOk, length, Ok, None, IfErr, IfSome};
 ghost use Rattle.flow_defs.specs.Items.{Items};
 ghost use Rattle.std.specs.List.{AllByRecursion};
@@ -7,11 +7,11 @@ ghost use Rattle.flow_defs.specs.Lines.{lines as lines_of};
 ghost use Rattle.flow_defs.specs.Stages.{IsToken};
 ghost use Rattle.outside.specs.Faults.{HasRisen};
 ghost use Rattle.plain_machine.specs.Worth.{tally};
-ghost use Rattle.job_text.specs.Words.{IsRun};
+ghost use Rattle.job_text.specs.Words.{IsRun, IsCommand, usage_fault};
 ghost use Rattle.job_text.specs.JobText.{IsJobText};
 ghost use Rattle.job_text.specs.JobFaults.{first_fault};
 ghost use Rattle.job_cli.specs.Causes.{status_of, of_job_file, of_source};
-ghost use Rattle.job_cli.specs.Run.{RunsTo, HasRun, HasRunInPart, IsFaultOf, TellsSources, AreWithinLimits};
+ghost use Rattle.job_cli.specs.Run.{RunsTo, Prints, HasDone, HasDoneInPart, IsFaultOf, NamesCommand, TellsSources, AreWithinLimits};
 ghost use Rattle.job_cli.specs.Plans.{CanRun};
 ghost use Rattle.job_cli.specs.Sources.{IsSourceFault};
 ghost use Rattle.job_cli.specs.TextFaults.{IsWordFault, IsJobFileFault, IsTextFault};
@@ -23,12 +23,14 @@ use crate::input::{InputFault, count_file, read_file};
 use crate::lines::Lines;
 use crate::output::{OutputFault, table_text, write_all};
 use crate::plan::Plan;
+use crate::script::replies_of_file;
 use flow_defs::{Bytes, Job, ListOf, Word};
 use job_text::laws::job_texts_are_clear;
 use job_text::{Command, JobReadFault, WordFault, read_job, read_words};
 use outside::{Files, Sink};
 use stage_fns::FnTable;
 use std::alloc::{AllocError, Global};
+use std::sync::Wait;
 
 /// The most bytes in a job's text.
 pub const JOB_MAX: usize = 65_536;
@@ -66,44 +68,67 @@ fn source_fault(source: u32, fault: InputFault) -> Fault
     }
 }
 
-/// Does the command that the words are: reads the job, counts what comes of its sources, and writes the table.
-pub fn run<F: Files, O: Sink>(
+/// Does the command that the words are. All that it prints is made before the first byte is written.
+pub fn run<R: Wait, F: Files, O: Sink>(
+    rt: &R,
     alloc: Global,
     words: &ListOf<Word>,
     functions: &FnTable,
     files: &mut F,
     out: &mut O,
 ) -> Result<(), Fault>
-    ensures done { result ≡ Ok tt → HasRun words.now.items (kinds functions.now) (F.contents files.old) (O.got out.old) (O.got out.new) }
+    ensures done { result ≡ Ok tt → HasDone words.now.items (kinds functions.now) (F.contents files.old) (O.got out.old) (O.got out.new) }
     ensures fault { IfErr result (IsFaultOf words.now.items (kinds functions.now) (F.contents files.old)) }
     ensures input { IfErr result (λ fault. status_of fault ≡ 4 → HasRisen (F.faults files.old) (F.faults files.new)) }
     ensures output { IfErr result (λ fault. status_of fault ≡ 7 → HasRisen (O.faults out.old) (O.faults out.new)) }
     ensures silent { IfErr result (λ fault. (status_of fault ≡ 7 → ⊥) → O.got out.new ≡ O.got out.old) }
-    ensures front { IfErr result (λ fault. status_of fault ≡ 7 → HasRunInPart words.now.items (kinds functions.now) (F.contents files.old) (O.got out.old) (O.got out.new)) }
+    ensures front { IfErr result (λ fault. status_of fault ≡ 7 → HasDoneInPart words.now.items (kinds functions.now) (F.contents files.old) (O.got out.old) (O.got out.new)) }
     ensures given_back { F.lent files.new ≡ F.lent files.old }
 {
-    let text = tally_text(alloc, words, functions, files)?;
+    let text = text_to_print(rt, alloc, words, functions, files)?;
     match write_all(out, text.as_slice()) {
         Ok(()) => Ok(()),
         Err(OutputFault) => Err(Fault::Output),
     }
 }
 
-// The text of the tally of the job that the words name.
-fn tally_text<F: Files>(
+// What the command that the words are is to print.
+fn text_to_print<R: Wait, F: Files>(
+    rt: &R,
     alloc: Global,
     words: &ListOf<Word>,
     functions: &FnTable,
     files: &mut F,
 ) -> Result<Bytes, Fault>
-    ensures done { IfOk result (λ text. RunsTo words.now.items (kinds functions.now) (F.contents files.old) (λ tally. text.items ≡ tally)) }
+    ensures done { IfOk result (λ text. Prints words.now.items (kinds functions.now) (F.contents files.old) (λ all. text.items ≡ all)) }
     ensures fault { IfErr result (IsFaultOf words.now.items (kinds functions.now) (F.contents files.old)) }
     ensures input { IfErr result (λ fault. status_of fault ≡ 4 → HasRisen (F.faults files.old) (F.faults files.new)) }
     ensures no_output { IfErr result (λ fault. status_of fault ≡ 7 → ⊥) }
     ensures given_back { F.lent files.new ≡ F.lent files.old }
 {
-    let name = job_to_run(alloc, words)?;
-    let text = read_job_text(alloc, files, name.text())?;
+    let command = command_of(alloc, words)?;
+    match command {
+        Command::Run { job } => tally_text(alloc, job.text(), functions, files),
+        Command::Script { file } => replies_of_file(rt, alloc, file.text(), files),
+    }
+}
+
+// The text of the tally of the job in the file of this name.
+fn tally_text<F: Files>(
+    alloc: Global,
+    name: &str,
+    functions: &FnTable,
+    files: &mut F,
+) -> Result<Bytes, Fault>
+    ensures done { IfOk result (λ text. (words : List (List ℕ)) → IsRun words name.now →
+        RunsTo words (kinds functions.now) (F.contents files.old) (λ tally. text.items ≡ tally)) }
+    ensures fault { IfErr result (λ fault. (words : List (List ℕ)) → IsRun words name.now →
+        IsFaultOf words (kinds functions.now) (F.contents files.old) fault) }
+    ensures input { IfErr result (λ fault. status_of fault ≡ 4 → HasRisen (F.faults files.old) (F.faults files.new)) }
+    ensures no_output { IfErr result (λ fault. status_of fault ≡ 7 → ⊥) }
+    ensures given_back { F.lent files.new ≡ F.lent files.old }
+{
+    let text = read_job_text(alloc, files, name)?;
     let job = job_of_text(alloc, text.as_slice(), functions)?;
     let plan = Plan {
         alloc,
@@ -115,13 +140,14 @@ fn tally_text<F: Files>(
     Ok(table_text(alloc, &table)?)
 }
 
-// The name of the job that the words say to run.
-fn job_to_run(alloc: Global, words: &ListOf<Word>) -> Result<Word, Fault>
-    ensures job { IfOk result (IsRun words.now.items) }
+// The command that the words are.
+fn command_of(alloc: Global, words: &ListOf<Word>) -> Result<Command, Fault>
+    ensures command { IfOk result (IsCommand words.now.items) }
     ensures fault { IfErr result (IsWordFault words.now.items) }
+    ensures accepted { usage_fault words.now.items ≡ None → NamesCommand words.now.items }
 {
     match read_words(alloc, words) {
-        Ok(Command::Run { job }) => Ok(job),
+        Ok(command) => Ok(command),
         Err(WordFault::Usage { kind }) => Err(Fault::Usage { kind }),
         Err(WordFault::Memory) => Err(Fault::Memory),
     }

@@ -141,6 +141,32 @@ fn a_run_prints_the_tally_of_its_sources(rt: HostRuntime) -> Result<(), Fail> {
 }
 
 #[test]
+fn a_script_prints_the_replies_to_its_events(rt: HostRuntime) -> Result<(), Fail> {
+    let alloc = rt.alloc();
+    for (script, replies) in [
+        (
+            "open 1 64 40\npool\nemit 1 a\nemit 1 b\nemit 1 c\nsend\nsend\nsend\ndeliver\npool\ncredit 1\ncontrol\nsend\nsend\ndeliver\ndeliver\npoll 1\npoll 1\npoll 1\npool\ncredit 1\n",
+            "pool 36 4\nqueued 1 1\nqueued 1 2\nqueued 1 3\nframe 1 0 data 5 2\nframe 1 1 data 5 1\nnothing\naccepted 1 0\npool 33 7\ncredit 1 3\ngranted 1 3\nframe 1 2 data 5 0\nnothing\naccepted 1 1\naccepted 1 2\ndata 1 5 1\nrecord 1 a\ndata 1 5 1\nrecord 1 b\ndata 1 5 1\nrecord 1 c\npool 36 4\nnone\n",
+        ),
+        (
+            "open 2 64 40\nemit 1 a\nemit 1 b\nemit 1 c\nemit 2 d\nsend\nsend\nsend\nsend\nemit 2 e\nsend\ndeliver\ndeliver\ndeliver\ndeliver\npoll 2\npoll 2\n",
+            "queued 1 1\nqueued 1 2\nqueued 1 3\nqueued 2 1\nframe 1 0 data 5 2\nframe 2 0 data 5 0\nframe 1 1 data 5 1\nnothing\nqueued 2 1\nframe 2 1 data 5 0\naccepted 1 0\naccepted 2 0\naccepted 1 1\naccepted 2 1\ndata 2 5 1\nrecord 2 d\ndata 2 5 1\nrecord 2 e\n",
+        ),
+        (
+            "open 1 64 4\nemit 1 a\nbarrier 1 1 inline\nbarrier 1 3 inline\nemit 1 b\nemit 1 c\nsend\nsend\nsend\ndeliver\ndeliver\npoll 1\nhold 1\nresume 1\npoll 1\nresume 1\nresume 1\ncontrol\nsend\nannounce\nannounce\n",
+            "queued 1 1\nok\nrefused\nqueued 1 2\nfull\nframe 1 0 data 5 1\nframe 1 1 inline 8 1\nnothing\naccepted 1 0\naccepted 1 1\ndata 1 5 1\nrecord 1 a\nheld 1\nrefused\nbarrier 1 1 inline\nok\nrefused\nresumed 1\nframe 1 2 data 5 0\nnothing\nnothing\n",
+        ),
+    ] {
+        let files = files(alloc, script, b"", "", 9, 0)?;
+        let left = left_by(&rt, alloc, "script job", files, 1000, 100)?;
+        assert_eq!(rt; left.status, 0, "`{script}`");
+        assert_eq!(rt; left.out.bytes(), replies.as_bytes(), "`{script}`");
+        assert_eq!(rt; left.err.bytes(), b"".as_slice());
+    }
+    Ok(())
+}
+
+#[test]
 fn takes_lines_up_to_the_limit(rt: HostRuntime) -> Result<(), Fail> {
     let alloc = rt.alloc();
     let line = vec![in alloc; b'a'; 1_048_577]?;
@@ -170,6 +196,16 @@ fn tells_each_fault_by_its_status_and_a_line(rt: HostRuntime) -> Result<(), Fail
         ("run -job", COUNT, 2, "usage: missing operand\n"),
         ("run job k", COUNT, 2, "usage: extra word\n"),
         ("run job --fast", COUNT, 2, "usage: unknown option\n"),
+        ("script", "", 2, "usage: missing operand\n"),
+        ("script job", "", 3, "script line 1: bad line\n"),
+        (
+            "script job",
+            "open 1 64 4\nemit 2 x\n",
+            3,
+            "script line 2: bad line\n",
+        ),
+        ("script other", "", 4, "input fault: script\n"),
+        ("script job", "open 1 64 3", 10, "pool has 3, needs 4\n"),
         ("run job", lower, 3, "job line 3: unknown kind\n"),
         ("run job", width, 3, "job line 3: bad width\n"),
         ("run job", "source in\n", 3, "job line 2: missing\n"),

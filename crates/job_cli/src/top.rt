@@ -1,11 +1,12 @@
 // The program, over the world that it is handed.
-ghost use Rattle.std.specs.Prelude.{◌≡◌, ◌≢◌, ◌<◌, List, ℕ, [], ◌∷◌, length, Contains};
+ghost use Rattle.std.specs.Prelude.{◌≡◌, ◌≢◌, ◌<◌, ◌⊎◌, List, ℕ, [], ◌∷◌, length, Contains};
 ghost use Rattle.flow_defs.specs.Jobs.{tasks};
 ghost use Rattle.flow_defs.specs.declared.job.Job.{Job};
 ghost use Rattle.outside.specs.Faults.{HasRisen};
 ghost use Rattle.stage_fns.specs.Kinds.{kinds};
 ghost use Rattle.job_cli.specs.Limits.{IsOverLimit};
-ghost use Rattle.job_cli.specs.Run.{NamesCommand, NamesJob, HasRun, HasRunInPart, IsNoJob, IsTold, PassesLimit, TellsJob, TellsRun, AreWithinLimits};
+ghost use Rattle.job_cli.specs.Run.{NamesCommand, NamesJob, HasDone, HasDoneInPart, IsNoJob, IsTold, PassesLimit, TellsJob, TellsRun, AreWithinLimits};
+ghost use Rattle.job_cli.specs.Scripts.{NamesScript, HasEnough, IsNoScript, IsScriptWith, PassesScriptLimit, TellsScript};
 ghost use Rattle.job_cli.specs.declared.run.TheConstants.{JOB_MAX};
 
 use crate::output::tell;
@@ -13,20 +14,21 @@ use crate::run::run;
 use flow_defs::{ListOf, Word};
 use job_text::laws::job_texts_are_clear;
 use outside::{Files, Sink};
+use script_text::laws::script_texts_are_clear;
 use stage_fns::FnTable;
 use std::alloc::Global;
 use std::sync::Wait;
 use std::thread::Threads;
 
 /// Does the command that the words are, and answers the status with which the program ends: 0 done,
-/// 2 the words are no command, 3 the job's text is no job's, 4 a fault of an input, 7 one of the
+/// 2 the words are no command, 3 the text is no job's or no script's, 4 a fault of an input, 7 one of the
 /// output, 10 a limit is passed, 70 want of memory. With another status than 0, `err` gets one line
 /// that tells of the fault.
 ///
 /// A run reads its sources one after another, in pieces of 64 KiB. Its memory grows with the keys, the
-/// longest line and what the stages give for it.
+/// longest line and what the stages give for it. A script is held whole, with all replies to it.
 pub fn top<R: Threads + Wait + Sync, F: Files, O: Sink, E: Sink>(
-    _rt: &R,
+    rt: &R,
     alloc: Global,
     words: &ListOf<Word>,
     functions: &FnTable,
@@ -34,20 +36,28 @@ pub fn top<R: Threads + Wait + Sync, F: Files, O: Sink, E: Sink>(
     out: &mut O,
     err: &mut E,
 ) -> u8
-    // Status 0 comes only where all work was done: the output got the text of the tally, and nothing else.
-    ensures done { result ≡ 0 → HasRun words.now.items (kinds functions.now) (F.contents files.old) (O.got out.old) (O.got out.new) }
+    // Status 0 comes only where all work was done: the output got the text of the tally, or the replies to
+    // all events of the script, and nothing else.
+    ensures done { result ≡ 0 → HasDone words.now.items (kinds functions.now) (F.contents files.old) (O.got out.old) (O.got out.new) }
 
-    // Which status comes where the words are no command, the job's text is no job's, or a limit is passed.
+    // Which status comes where the words are no command, the text is no job's or no script's, or a limit is passed.
     ensures usage { result ≡ 2 → NamesCommand words.now.items → ⊥ }
     ensures accepted { result ≢ 2 → NamesCommand words.now.items }
-    ensures text { result ≡ 3 → NamesJob words.now.items (F.contents files.old) (IsNoJob (kinds functions.now)) }
+    ensures text { result ≡ 3 → NamesJob words.now.items (F.contents files.old) (IsNoJob (kinds functions.now))
+        ⊎ NamesScript words.now.items (F.contents files.old) IsNoScript }
     ensures text_refused { (text : List ℕ) → TellsJob words.now.items (F.contents files.old) text → IsNoJob (kinds functions.now) text →
         Contains (3 ∷ 4 ∷ 70 ∷ []) result }
-    ensures limit { result ≡ 10 → PassesLimit words.now.items (kinds functions.now) (F.contents files.old) }
+    ensures script_refused { (text : List ℕ) → TellsScript words.now.items (F.contents files.old) text → IsNoScript text →
+        Contains (3 ∷ 4 ∷ 70 ∷ []) result }
+    ensures limit { result ≡ 10 → PassesLimit words.now.items (kinds functions.now) (F.contents files.old)
+        ⊎ NamesScript words.now.items (F.contents files.old) PassesScriptLimit }
     ensures job_refused { (text : List ℕ) → TellsJob words.now.items (F.contents files.old) text → JOB_MAX < length text →
         Contains (10 ∷ 4 ∷ 70 ∷ []) result }
     ensures source_refused { (job : Job) (bytes : ℕ → List ℕ) (a : ℕ) →
         TellsRun words.now.items (kinds functions.now) (F.contents files.old) job bytes → a < tasks job 0 → IsOverLimit (bytes a) →
+        Contains (10 ∷ 4 ∷ 70 ∷ []) result }
+
+    ensures over_refused { (text : List ℕ) → TellsScript words.now.items (F.contents files.old) text → PassesScriptLimit text →
         Contains (10 ∷ 4 ∷ 70 ∷ []) result }
 
     // An input fault comes only where the count of the files rose, an output fault only where that of the output did.
@@ -59,11 +69,14 @@ pub fn top<R: Threads + Wait + Sync, F: Files, O: Sink, E: Sink>(
         TellsRun words.now.items (kinds functions.now) (F.contents files.old) job bytes → AreWithinLimits job bytes →
         (HasRisen (F.faults files.old) (F.faults files.new) → ⊥) → (HasRisen (O.faults out.old) (O.faults out.new) → ⊥) →
         Contains (0 ∷ 70 ∷ []) result }
+    ensures complete_script { (text : List ℕ) → TellsScript words.now.items (F.contents files.old) text → IsScriptWith HasEnough text →
+        (HasRisen (F.faults files.old) (F.faults files.new) → ⊥) → (HasRisen (O.faults out.old) (O.faults out.new) → ⊥) →
+        Contains (0 ∷ 70 ∷ []) result }
     ensures known { Contains (0 ∷ 2 ∷ 3 ∷ 4 ∷ 7 ∷ 10 ∷ 70 ∷ []) result }
 
     // With another status than 0 and 7 the output got nothing, and with 7 a front of what status 0 writes.
     ensures silent { result ≢ 0 → result ≢ 7 → O.got out.new ≡ O.got out.old }
-    ensures front { result ≡ 7 → HasRunInPart words.now.items (kinds functions.now) (F.contents files.old) (O.got out.old) (O.got out.new) }
+    ensures front { result ≡ 7 → HasDoneInPart words.now.items (kinds functions.now) (F.contents files.old) (O.got out.old) (O.got out.new) }
 
     // Which line was told, whatever became of it: no fault of `err` changes the status.
     ensures told { IsTold words.now.items (kinds functions.now) (F.contents files.old) (E.got err.old) (E.got err.new)
@@ -73,7 +86,8 @@ pub fn top<R: Threads + Wait + Sync, F: Files, O: Sink, E: Sink>(
     ensures given_back { F.lent files.new ≡ F.lent files.old }
 {
     job_texts_are_clear();
-    match run(alloc, words, functions, files, out) {
+    script_texts_are_clear();
+    match run(rt, alloc, words, functions, files, out) {
         Ok(()) => 0,
         Err(fault) => {
             tell(err, fault);

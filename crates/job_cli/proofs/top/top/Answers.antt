@@ -1,6 +1,6 @@
 use Rattle.std.proofs.Common.{◌≡◌, ◌++◌, [], ◌∷◌, Contains, Some, IfSome, refl, sym, subst, ◌∙◌}
 use Rattle.stage_fns.specs.Kinds.{kinds}
-use Rattle.job_cli.proofs.TopLemmas.{known_status, no_job, passes_limit, text_refused, job_refused, source_refused, not_done, completes}
+use Rattle.job_cli.proofs.TopLemmas.{known_status, no_job, passes_limit, text_refused, job_refused, source_refused, not_done, completes, script_refused, over_refused, over_not_done, bad_not_done, script_completes}
 use Rattle.job_cli.proofs.top.top.Goals as goal
 
 pub returns-in-Ok-clause-source_refused : goal.returns-in-Ok-clause-source_refused
@@ -35,3 +35,29 @@ returns-in-Err-clause-complete g c = λ job bytes run within no_input no_output.
 
 pub returns-in-Err-clause-known : goal.returns-in-Err-clause-known
 returns-in-Err-clause-known g c = subst (Contains (0 ∷ 2 ∷ 3 ∷ 4 ∷ 7 ∷ 10 ∷ 70 ∷ [])) (sym c.status.ensures) (known_status c.in-Err.fault)
+
+pub returns-in-Ok-clause-script_refused : goal.returns-in-Ok-clause-script_refused
+returns-in-Ok-clause-script_refused g c = λ text tells bad.
+    absurd (bad_not_done c.args.words.now.items (kinds c.args.functions.now) (g.F.Files.contents c.args.files.now) text tells c.script_texts_are_clear.ensures.no_bad_line c.script_texts_are_clear.ensures.one_script
+    (λ all. IfSome (g.O.Sink.got c.args.out.now) (λ had. g.O.Sink.got c.run.new.out ≡ Some (had ++ all))) bad (c.in-Ok.ensures.done refl))
+
+pub returns-in-Ok-clause-over_refused : goal.returns-in-Ok-clause-over_refused
+returns-in-Ok-clause-over_refused g c = λ text tells over.
+    absurd (over_not_done c.args.words.now.items (kinds c.args.functions.now) (g.F.Files.contents c.args.files.now) text tells c.script_texts_are_clear.ensures.no_bad_line c.script_texts_are_clear.ensures.one_script
+    (λ all. IfSome (g.O.Sink.got c.args.out.now) (λ had. g.O.Sink.got c.run.new.out ≡ Some (had ++ all))) over (c.in-Ok.ensures.done refl))
+
+pub returns-in-Err-clause-script_refused : goal.returns-in-Err-clause-script_refused
+returns-in-Err-clause-script_refused g c = λ text tells bad.
+    subst (Contains (3 ∷ 4 ∷ 70 ∷ [])) (sym c.status.ensures)
+    (script_refused c.args.words.now.items (kinds c.args.functions.now) (g.F.Files.contents c.args.files.now) text tells c.script_texts_are_clear.ensures.no_bad_line c.script_texts_are_clear.ensures.one_script bad c.in-Err.fault c.in-Err.ensures.fault)
+
+pub returns-in-Err-clause-over_refused : goal.returns-in-Err-clause-over_refused
+returns-in-Err-clause-over_refused g c = λ text tells over.
+    subst (Contains (10 ∷ 4 ∷ 70 ∷ [])) (sym c.status.ensures)
+    (over_refused c.args.words.now.items (kinds c.args.functions.now) (g.F.Files.contents c.args.files.now) text tells c.script_texts_are_clear.ensures.no_bad_line c.script_texts_are_clear.ensures.one_script over c.in-Err.fault c.in-Err.ensures.fault)
+
+pub returns-in-Err-clause-complete_script : goal.returns-in-Err-clause-complete_script
+returns-in-Err-clause-complete_script g c = λ text tells good no_input no_output.
+    subst (Contains (0 ∷ 70 ∷ [])) (sym c.status.ensures)
+    (script_completes c.args.words.now.items (kinds c.args.functions.now) (g.F.Files.contents c.args.files.now) text tells c.script_texts_are_clear.ensures.no_bad_line c.script_texts_are_clear.ensures.one_script good c.in-Err.fault
+    (λ four. no_input (c.in-Err.ensures.input four)) (λ seven. no_output (c.in-Err.ensures.output seven)) c.in-Err.ensures.fault)

@@ -1,6 +1,6 @@
 use Rattle.job_text.specs.Words.{usage_fault}
 use Rattle.job_cli.proofs.RunLemmas.{none_of_all}
-use Rattle.job_cli.proofs.run.job_to_run.Goals as goal
+use Rattle.job_cli.proofs.run.command_of.Goals as goal
 
 pub returns-in-Err-Usage-clause-fault : goal.returns-in-Err-Usage-clause-fault
 returns-in-Err-Usage-clause-fault c =

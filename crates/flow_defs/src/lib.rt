@@ -9,6 +9,7 @@
 
 mod aggregates;
 mod bytes;
+mod cause;
 mod image;
 mod job;
 mod lines;
@@ -23,6 +24,7 @@ mod word;
 
 pub use aggregates::{fold_value, key_len, value_of};
 pub use bytes::Bytes;
+pub use cause::{Cause, PeerFault};
 pub use image::{Image, Saved, Snapshot, TakeRun};
 pub use job::{AggKind, Exchange, Job, Mode, SOURCES_MAX, STAGES_MAX, Stage, StageKind, TASKS_MAX};
 pub use lines::cut_line;

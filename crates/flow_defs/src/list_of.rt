@@ -80,6 +80,16 @@ impl<T> ListOf<T> {
         self.list.pop()
     }
 
+    /// Takes all items out and drops them. Their places are room again.
+    pub fn clear(&mut self)
+    where
+        T: Drop,
+        ensures items { self.new.items ≡ [] }
+        ensures room { self.new.room ≡ self.old.room + length self.old.items }
+    {
+        self.list.clear();
+    }
+
     /// The items.
     pub fn as_slice(&self) -> &[T]
         ensures { result.now ≡ self.now.items }

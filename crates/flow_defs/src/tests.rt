@@ -11,6 +11,8 @@ fn lists_grow_and_shrink(rt: HostRuntime) -> Result<(), Fail> {
     list.as_mut_slice().reverse();
     assert_eq!(rt; list.as_slice(), [2, 1].as_slice());
     assert_eq!(rt; list.pop(), Some(1));
+    list.clear();
+    assert!(rt; list.as_slice().is_empty());
     let mut bytes = Bytes::new(rt.alloc());
     bytes.reserve(4)?;
     bytes.extend(b"abc")?;

@@ -342,6 +342,7 @@ impl InputChannel {
     /// The credit to tell the sender, in buffers. It counts as announced from then on.
     pub fn take_credit(&mut self) -> u32
         ensures told { result ≡ told self.old.counts }
+        ensures fits { result < 2 ^ 31 }
         ensures channel { self.new ≡ after self.old (entries.Credit result) }
         ensures none { result ≡ 0 → self.new ≡ self.old }
     {

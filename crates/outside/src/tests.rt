@@ -9,7 +9,7 @@ use flow_defs::{Bytes, ListOf, Word};
 use std::alloc::{AllocError, Global};
 use std::test::Fail;
 
-fn numbers(alloc: Global, items: &[u64]) -> Result<ListOf<u64>, AllocError> {
+pub(crate) fn numbers(alloc: Global, items: &[u64]) -> Result<ListOf<u64>, AllocError> {
     let mut list = ListOf::new(alloc);
     for item in items {
         list.push(*item)?;

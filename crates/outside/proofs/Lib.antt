@@ -1,0 +1,3 @@
+pub mod Stops
+mod Rings
+mod Dealt

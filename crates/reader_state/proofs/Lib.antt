@@ -1,0 +1,16 @@
+mod Histories
+mod Channels
+mod Ledgers
+mod Waiting
+mod Fitting
+mod Placing
+mod Calling
+mod Telling
+mod Numbering
+mod Standing
+mod Overdue
+mod Opening
+mod Dealt
+mod Queueing
+mod Parts
+mod Covering

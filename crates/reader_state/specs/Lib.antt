@@ -1,0 +1,5 @@
+pub mod Ledgers
+pub mod Standing
+pub mod Turning
+pub mod Settling
+pub mod Theorems

@@ -1,0 +1,7 @@
+pub mod Appends
+pub mod Dealt
+pub mod Lists
+pub mod Passes
+mod Spellings
+pub mod Telling
+pub mod Windows

@@ -1,0 +1,142 @@
+-- What was sent, step after step.
+use Rattle.std.proofs.Common.{◌≡◌, inl, inr, ℕ, ◌+◌, Bool, true, false, cond, List, [], ◌∷◌, ◌++◌, length, map, length-append, refl, sym, ap, subst, ◌∙◌, append_assoc, append-nil}
+use Rattle.std.specs.Prelude.{Option, Ok, Err}
+use Rattle.std.proofs.lemmas.Bool.{cases_eq}
+use Rattle.std.proofs.lemmas.List.{map-append, length-map}
+use Rattle.flow_defs.specs.declared.task.ChannelId.{ChannelId}
+use Rattle.flow_defs.specs.declared.parcel.Parcel.{Parcel}
+use Rattle.flow_defs.specs.declared.parcel.Parcel.TheVariants.{Data, Barrier, End}
+use Rattle.flow_defs.specs.Parcels.{has_end}
+use Rattle.credit_reader.specs.Senders.{is_same}
+use Rattle.reader_state.specs.declared.entry.ReaderEntry.{ReaderEntry}
+use Rattle.reader_state.specs.declared.entry.ReaderEntry.TheVariants.{Ready, Sent, Told, Asked, Granted, Resumed}
+use Rattle.reader_state.specs.Standing.{sent_on}
+use Rattle.net_frames.specs.Frames.{all_spelled}
+use Rattle.outside.specs.Faults.{HasRisen}
+use Rattle.outside.specs.Links.{Appended}
+use Rattle.conn_parts.specs.Shares.{seen_at}
+use Rattle.conn_parts.specs.Writing.{AppendedFront}
+use Rattle.conn_parts.specs.Messages.{Message, is_from_sender, items_on, sequences_on, counted}
+use Rattle.conn_parts.proofs.Appends.{frames-append, from-append, spelled-append, items-append, sequences-append, counted-append}
+use Rattle.conn_send.specs.Fronts.{SendPass, taken_in, OthersStay}
+use Rattle.conn_send.specs.Sending.{kind_of}
+use Rattle.conn_send.specs.Steps.{Sends, Ends, Says, Lays, Writes}
+
+-- ---- entries at the readers
+
+pub sent_on-append : (c : ChannelId) (xs ys : List ReaderEntry) → sent_on c (xs ++ ys) ≡ sent_on c xs ++ sent_on c ys
+sent_on-append c [] ys = refl
+sent_on-append c (Ready d head backlog ∷ xs) ys = sent_on-append c xs ys
+sent_on-append c (Sent d what head backlog ∷ xs) ys =
+    elim (is_same d c) as (λ b. cond b (what ∷ sent_on c (xs ++ ys)) (sent_on c (xs ++ ys)) ≡ cond b (what ∷ sent_on c xs) (sent_on c xs) ++ sent_on c ys) [
+      | true ↦ ap (λ l. what ∷ l) (sent_on-append c xs ys)
+      | false ↦ sent_on-append c xs ys
+    ]
+sent_on-append c (Told d ∷ xs) ys = sent_on-append c xs ys
+sent_on-append c (Asked d n ∷ xs) ys = sent_on-append c xs ys
+sent_on-append c (Granted d n ∷ xs) ys = sent_on-append c xs ys
+sent_on-append c (Resumed d ∷ xs) ys = sent_on-append c xs ys
+
+-- ---- ends
+
+pub end_in_front : (xs ys : List Parcel) → has_end xs ≡ true → has_end (xs ++ ys) ≡ true
+end_in_front [] ys e = absurd (cc)
+end_in_front (Data bytes ∷ xs) ys e = end_in_front xs ys e
+end_in_front (Barrier k kind ∷ xs) ys e = end_in_front xs ys e
+end_in_front (End ∷ xs) ys e = refl
+
+pub end_behind : (xs ys : List Parcel) → has_end ys ≡ true → has_end (xs ++ ys) ≡ true
+end_behind [] ys e = e
+end_behind (Data bytes ∷ xs) ys e = end_behind xs ys e
+end_behind (Barrier k kind ∷ xs) ys e = end_behind xs ys e
+end_behind (End ∷ xs) ys e = refl
+
+module _ (channels : List ChannelId) where
+  -- ---- nothing was sent
+
+  pub sends_quiet : (place : ℕ) (before after : List SendPass) (own own_after : List ReaderEntry) → OthersStay place before after →
+      taken_in (seen_at place after) ≡ taken_in (seen_at place before) → ((c : ChannelId) → sent_on c own_after ≡ sent_on c own) → Sends channels before after own own_after []
+  sends_quiet place before after own own_after others here told = record {
+    took = λ k c at. elim (cases_eq k place) [
+      | inl is ↦ ap (λ j. taken_in (seen_at j after)) is ∙ here ∙ ap (λ j. taken_in (seen_at j before)) (sym is) ∙ sym (append-nil (taken_in (seen_at k before)))
+      | inr ne ↦ ap taken_in (others k ne) ∙ sym (append-nil (taken_in (seen_at k before)))
+    ];
+    numbers = λ c. refl;
+    told = λ c. told c ∙ sym (append-nil (sent_on c own));
+  }
+
+  pub sends_told : (passes : List SendPass) (own own_after : List ReaderEntry) → ((c : ChannelId) → sent_on c own_after ≡ sent_on c own) → Sends channels passes passes own own_after []
+  sends_told passes own own_after told = record {
+    took = λ k c at. sym (append-nil (taken_in (seen_at k passes)));
+    numbers = λ c. refl;
+    told = λ c. told c ∙ sym (append-nil (sent_on c own));
+  }
+
+  pub sends_none : (passes : List SendPass) (own : List ReaderEntry) → Sends channels passes passes own own []
+  sends_none passes own = sends_told passes own own (λ c. refl)
+
+  -- ---- one step after another
+
+  pub sends_more : (a b c : List SendPass) (l m n : List ReaderEntry) (xs ys : List Message) → Sends channels a b l m xs → Sends channels b c m n ys → Sends channels a c l n (xs ++ ys)
+  sends_more a b c l m n xs ys p q = record {
+    took = λ k d at. q.took k d at ∙ ap (λ z. z ++ items_on d ys) (p.took k d at) ∙ append_assoc (taken_in (seen_at k a)) (items_on d xs) (items_on d ys)
+        ∙ ap (λ z. taken_in (seen_at k a) ++ z) (sym (items-append d xs ys));
+    numbers = λ d.
+        let many : length (sent_on d m) ≡ length (sent_on d l) + length (items_on d xs) =
+        ap length (p.told d) ∙ length-append (sent_on d l) (map kind_of (items_on d xs)) ∙ ap (λ k. length (sent_on d l) + k) (length-map (items_on d xs) kind_of) in
+        sequences-append d xs ys ∙ ap (λ z. z ++ sequences_on d ys) (p.numbers d) ∙ ap (λ z. counted (length (sent_on d l)) (length (items_on d xs)) ++ z) (q.numbers d ∙ ap (λ k. counted k (length (items_on d ys))) many)
+        ∙ sym (counted-append (length (sent_on d l)) (length (items_on d xs)) (length (items_on d ys)))
+        ∙ ap (counted (length (sent_on d l))) (sym (length-append (items_on d xs) (items_on d ys)) ∙ ap length (sym (items-append d xs ys)));
+    told = λ d. q.told d ∙ ap (λ z. z ++ map kind_of (items_on d ys)) (p.told d) ∙ append_assoc (sent_on d l) (map kind_of (items_on d xs)) (map kind_of (items_on d ys))
+        ∙ ap (λ z. sent_on d l ++ z) (sym (map-append kind_of (items_on d xs) (items_on d ys)) ∙ ap (map kind_of) (sym (items-append d xs ys)));
+  }
+
+  pub ends_none : (flags : List Bool) → Ends channels flags flags []
+  ends_none flags k c at raised = inl raised
+
+  pub ends_more : (f g h : List Bool) (xs ys : List Message) → Ends channels f g xs → Ends channels g h ys → Ends channels f h (xs ++ ys)
+  ends_more f g h xs ys p q k c at raised = elim (q k c at raised) [
+    | inl was ↦ elim (p k c at was) [
+      | inl first ↦ inl first
+      | inr end ↦ inr (ap has_end (items-append c xs ys) ∙ end_in_front (items_on c xs) (items_on c ys) end)
+    ]
+    | inr end ↦ inr (ap has_end (items-append c xs ys) ∙ end_behind (items_on c xs) (items_on c ys) end)
+  ]
+
+  pub says_quiet : (a b : List SendPass) (l m : List ReaderEntry) (flags : List Bool) → Sends channels a b l m [] → Says channels a b l m flags flags []
+  says_quiet a b l m flags sends = record { frames = tt; direction = tt; sends = sends; ends = ends_none flags }
+
+  pub says_more : (a b c : List SendPass) (l m n : List ReaderEntry) (f g h : List Bool) (xs ys : List Message) →
+      Says channels a b l m f g xs → Says channels b c m n g h ys → Says channels a c l n f h (xs ++ ys)
+  says_more a b c l m n f g h xs ys p q = record {
+    frames = frames-append xs ys p.frames q.frames;
+    direction = from-append is_from_sender xs ys p.direction q.direction;
+    sends = sends_more a b c l m n xs ys p.sends q.sends;
+    ends = ends_more f g h xs ys p.ends q.ends;
+  }
+
+  -- ---- what was laid down
+
+  pub lays_quiet : (a b : List SendPass) (l m : List ReaderEntry) (flags : List Bool) (out : List ℕ) → Sends channels a b l m [] → Lays channels a b l m flags flags out out
+  lays_quiet a b l m flags out sends = record { added = []; says = says_quiet a b l m flags sends; laid = sym (append-nil out) }
+
+  pub lays_more : (a b c : List SendPass) (l m n : List ReaderEntry) (f g h : List Bool) (x y z : List ℕ) →
+      Lays channels a b l m f g x y → Lays channels b c m n g h y z → Lays channels a c l n f h x z
+  lays_more a b c l m n f g h x y z p q = record {
+    added = p.added ++ q.added;
+    says = says_more a b c l m n f g h p.added q.added p.says q.says;
+    laid = q.laid ∙ ap (λ bytes. bytes ++ all_spelled q.added) p.laid ∙ append_assoc x (all_spelled p.added) (all_spelled q.added) ∙ ap (λ bytes. x ++ bytes) (sym (spelled-append p.added q.added));
+  }
+
+  -- What a round lays down where nothing lies before it.
+  pub round_lays : (a b c d : List SendPass) (l m n o : List ReaderEntry) (f g h : List Bool) (before x y : List ℕ) → before ≡ [] →
+      Sends channels a b l m [] → Lays channels b c m n f g before x → Lays channels c d n o g h x y → Lays channels a d l o f h [] y
+  round_lays a b c d l m n o f g h before x y empty quiet items told =
+      lays_more a c d l n o f g h [] x y (lays_more a b c l m n f f g [] [] x (lays_quiet a b l m f [] quiet) (subst (λ out. Lays channels b c m n f g out x) empty items)) told
+
+  module _ (a b : List SendPass) (l m : List ReaderEntry) (f g : List Bool) (bytes : List ℕ) (lays : Lays channels a b l m f g [] bytes) (old new : Option (List ℕ)) (fell rose : ℕ) where
+    pub writes_ok : {T E : Type 0} (x : T) → Appended old new bytes → Writes channels a b l m f g old new fell rose {T = T} {E = E} (Ok x)
+    writes_ok x written = record { added = lays.added; says = lays.says; written = subst (Appended old new) lays.laid written }
+
+    pub writes_err : {T E : Type 0} (e : E) → AppendedFront old new bytes × HasRisen fell rose → Writes channels a b l m f g old new fell rose {T = T} {E = E} (Err e)
+    writes_err e written = record { added = lays.added; says = lays.says; written = (subst (AppendedFront old new) lays.laid written.0, written.1) }

@@ -1,0 +1,20 @@
+use Rattle.turn_cell.specs.Passes.{mine}
+use Rattle.conn_send.proofs.Saying.{lays_more}
+use Rattle.conn_send.proofs.laying.lay_items.Goals as goal
+
+pub returns-then-not-send_one-clause-lays : goal.returns-then-not-send_one-clause-lays
+returns-then-not-send_one-clause-lays g c = let was = c.args.passes.now in let at = c.loop-passes.passes in let now = c.send_one.new.passes in
+    lays_more c.args.cells.now.channels.now was.subpartitions.items at.subpartitions.items now.subpartitions.items (mine was.readers) (mine at.readers) (mine now.readers)
+    c.args.room.now.ended.items c.loop-passes.room.ended.items c.send_one.new.room.ended.items c.args.room.now.outgoing c.loop-passes.room.outgoing c.send_one.new.room.outgoing
+    c.loop-passes.invariant.lays c.send_one.ensures.lays
+
+pub loop-passes-preserved : goal.loop-passes-preserved
+loop-passes-preserved g c = let i = c.loop-passes.invariant in let was = c.args.passes.now in let at = c.loop-passes.passes in let now = c.send_one.new.passes in record {
+  passes = c.send_one.ensures.passes;
+  stand = c.send_one.ensures.stand;
+  ended = c.send_one.ensures.ended;
+  told = c.send_one.ensures.told;
+  lays = lays_more c.args.cells.now.channels.now was.subpartitions.items at.subpartitions.items now.subpartitions.items (mine was.readers) (mine at.readers) (mine now.readers)
+      c.args.room.now.ended.items c.loop-passes.room.ended.items c.send_one.new.room.ended.items c.args.room.now.outgoing c.loop-passes.room.outgoing c.send_one.new.room.outgoing
+      i.lays c.send_one.ensures.lays;
+}

@@ -1,0 +1,30 @@
+use Rattle.std.proofs.Common.{sym, ap, ◌∙◌}
+use Rattle.conn_send.specs.Fronts.{taken_in, front_after}
+use Rattle.conn_send.proofs.Lent.{sender_at, seen_was, own_now, seen_now, others_now}
+use Rattle.conn_send.proofs.places.look_at.Goals as goal
+
+pub look-requires : goal.look-requires
+look-requires g c = sender_at c.args.cells.now c.args.passes.now.items _ c.args.place _ _ c.as_mut_slice.ensures.value c.requires.passes c.requires.within c.index-cells-place.is c.index-as_mut_slice-place.is
+
+pub returns-clause-passes : goal.returns-clause-passes
+returns-clause-passes g c = own_now c.args.cells.now c.args.passes.now.items _ c.args.place _ _ c.as_mut_slice.ensures.value c.requires.passes c.requires.within c.index-cells-place.is c.index-as_mut_slice-place.is c.look.new.pass c.look.ensures.pass
+
+pub returns-clause-taken : goal.returns-clause-taken
+returns-clause-taken g c =
+    let now = seen_now c.args.cells.now c.args.passes.now.items _ c.args.place _ _ c.as_mut_slice.ensures.value c.requires.passes c.requires.within c.index-cells-place.is c.index-as_mut_slice-place.is c.look.new.pass in
+    let was = seen_was c.args.cells.now c.args.passes.now.items _ c.args.place _ _ c.as_mut_slice.ensures.value c.requires.passes c.requires.within c.index-cells-place.is c.index-as_mut_slice-place.is in
+    ap taken_in now ∙ c.look.ensures.taken ∙ ap taken_in (sym was)
+
+pub returns-clause-stays : goal.returns-clause-stays
+returns-clause-stays g c = λ some.
+    let now = seen_now c.args.cells.now c.args.passes.now.items _ c.args.place _ _ c.as_mut_slice.ensures.value c.requires.passes c.requires.within c.index-cells-place.is c.index-as_mut_slice-place.is c.look.new.pass in
+    let was = seen_was c.args.cells.now c.args.passes.now.items _ c.args.place _ _ c.as_mut_slice.ensures.value c.requires.passes c.requires.within c.index-cells-place.is c.index-as_mut_slice-place.is in
+    ap front_after now ∙ c.look.ensures.stays (λ none. some (ap front_after was ∙ none)) ∙ ap front_after (sym was)
+
+pub returns-clause-front : goal.returns-clause-front
+returns-clause-front g c =
+    let now = seen_now c.args.cells.now c.args.passes.now.items _ c.args.place _ _ c.as_mut_slice.ensures.value c.requires.passes c.requires.within c.index-cells-place.is c.index-as_mut_slice-place.is c.look.new.pass in
+    ap front_after now ∙ c.look.ensures.front
+
+pub returns-clause-others : goal.returns-clause-others
+returns-clause-others g c = others_now c.args.cells.now c.args.passes.now.items _ c.args.place _ _ c.as_mut_slice.ensures.value c.requires.passes c.requires.within c.index-cells-place.is c.index-as_mut_slice-place.is c.look.new.pass

@@ -1,0 +1,29 @@
+use Rattle.std.proofs.Common.{◌≡◌, ◌∷◌, [], ◌++◌, ◌%◌, ◌^◌, length, ap, subst, ◌∙◌}
+use Rattle.turn_cell.specs.Passes.{mine, seen}
+use Rattle.reader_state.specs.declared.entry.ReaderEntry.TheVariants.{Sent}
+use Rattle.reader_state.specs.Standing.{sent_on}
+use Rattle.reader_state.specs.Turning.{HeadsStay, HeadsChange}
+use Rattle.conn_send.proofs.Standing.{stands_on, stands_stay}
+use Rattle.conn_send.proofs.Sent.{sends_one}
+use Rattle.conn_send.proofs.step.take_next.Goals as goal
+
+pub returns-clause-stand : goal.returns-clause-stand
+returns-clause-stand g c = λ k.
+    let channels = c.args.cells.now.channels.now in let passes = c.args.passes.now in
+    let found = c.in-Some-place_of.ensures.found in let head = c.take_at-item.result.front.head in
+    let asked = seen c.next_to_send.new.pass in let told = seen c.tell_sent-sequence.new.pass in
+    let stay = subst (λ cs. HeadsStay cs (seen passes.readers) asked) c.requires.cells.channels c.next_to_send.ensures.heads in
+    let heads = subst (λ cs. HeadsChange cs c.in-Some.channel head asked told) c.requires.cells.channels c.tell_sent-sequence.ensures.heads in
+    stands_on channels c.in-Some-place_of.place passes.subpartitions.items c.take_at-item.new.passes.items c.take_at-item.ensures.others c.requires.cells.distinct c.in-Some.channel found.1 head asked told
+    heads c.take_at-item.ensures.front k (λ ne. stands_stay channels passes.subpartitions.items (seen passes.readers) asked stay k (c.requires.stand k))
+
+pub returns-clause-some : goal.returns-clause-some
+returns-clause-some g c =
+    let channels = c.args.cells.now.channels.now in let passes = c.args.passes.now in
+    let found = c.in-Some-place_of.ensures.found in let front = c.take_at-item.result.front in
+    let same : mine c.next_to_send.new.pass ≡ mine passes.readers = c.next_to_send.ensures.pass.1 in
+    sends_one channels c.requires.cells.distinct c.in-Some-place_of.place c.in-Some.channel found.1 passes.subpartitions.items c.take_at-item.new.passes.items
+    (mine passes.readers) (mine c.tell_sent-sequence.new.pass) c.tell_sent-sequence.result front.backlog front.backlog front.head c.kind_of.result c.take_at-item.result.item
+    c.take_at-item.ensures.others c.take_at-item.ensures.taken c.kind_of.ensures
+    (c.tell_sent-sequence.ensures.told ∙ ap (λ own. own ++ Sent c.in-Some.channel c.kind_of.result front.head front.backlog ∷ []) same)
+    (c.tell_sent-sequence.ensures.number ∙ ap (λ own. length (sent_on c.in-Some.channel own) % 2 ^ 32) same)

@@ -1,0 +1,121 @@
+-- What a message gives to its channel, and how it ends the loop.
+use Rattle.std.proofs.Common.{◌≡◌, ◌≢◌, inl, inr, ℕ, zero, suc, ◌<◌, true, false, cond, List, [], ◌∷◌, ◌++◌, length, map, get_or, Some, Result, Ok, Err, refl, sym, ap, subst, ◌∙◌, arith, append-nil}
+use Rattle.std.specs.Prelude.{slice_get, OnOk}
+use Rattle.std.proofs.lemmas.Bool.{eq-eqb, and_from, and_parts, eqb-true, cases_eq, cases_order, false_from_ne_true}
+use Rattle.flow_defs.specs.declared.task.ChannelId.{ChannelId}
+use Rattle.flow_defs.specs.declared.parcel.Parcel.{Parcel}
+use Rattle.credit_reader.specs.Senders.{AreDistinct, is_same}
+use Rattle.flow_defs.specs.declared.cause.Cause.{Cause}
+use Rattle.net_frames.specs.declared.frame.Frame.{Frame}
+use Rattle.net_frames.specs.declared.frame.Frame.TheVariants as frames
+use Rattle.net_frames.specs.declared.frame.ArrivalKind2.{ArrivalKind2}
+use Rattle.net_frames.specs.declared.frame.ArrivalKind2.TheVariants as arrivals
+use Rattle.input_channel.specs.declared.arrival.Arrival.{Arrival}
+use Rattle.input_channel.specs.Answers.{parcel_in}
+use Rattle.input_channel.specs.Inboxes.{pushed}
+use Rattle.conn_parts.specs.Messages.{parcel_with, items_on}
+use Rattle.conn_parts.specs.Shares.{mine_at}
+use Rattle.conn_receive.specs.Receiving.{kind_with, arrival_with, shuts}
+use Rattle.conn_receive.specs.Turning.{InputPass}
+use Rattle.conn_receive.specs.Taking.{GaveAt, Gave, TookFrame, brought}
+
+-- ---- channels
+
+abbrev id_of : ℕ → ℕ → ℕ → ChannelId
+id_of edge «from» to = record { edge = edge; from = «from»; to = to }
+
+is_same_self : (c : ChannelId) → is_same c c ≡ true
+is_same_self c = and_from _ _ (and_from _ _ (eq-eqb c.edge c.edge refl) (eq-eqb c.from c.from refl)) (eq-eqb c.to c.to refl)
+
+same_channel : (c d : ChannelId) → is_same c d ≡ true → c ≡ d
+same_channel c d test =
+    let parts = and_parts _ _ test in
+    let front = and_parts _ _ parts.0 in
+    ap (λ n. id_of n c.from c.to) (eqb-true _ _ front.0) ∙ ap (λ n. id_of d.edge n c.to) (eqb-true _ _ front.1) ∙ ap (λ n. id_of d.edge d.from n) (eqb-true _ _ parts.1)
+
+-- The channel at a place, and that no other place has it.
+get_at : {X : Type 0} (xs : List X) (k : ℕ) (x d : X) → slice_get xs k ≡ Some x → (k < length xs) × (get_or xs k d ≡ x)
+get_at [] k x d at = absurd (cc)
+get_at (y ∷ xs) zero x d at = (omega arith, cc)
+get_at (y ∷ xs) (suc k) x d at = let h = get_at xs k x d at in (omega (arith, h.0), h.1)
+
+other_channel : (channels : List ChannelId) (j k : ℕ) (c d : ChannelId) → AreDistinct channels → slice_get channels j ≡ Some c → slice_get channels k ≡ Some d → j ≢ k → d ≢ c
+other_channel channels j k c d distinct at_j at_k ne = λ same.
+    let here = get_at channels j c c at_j in let there = get_at channels k d c at_k in
+    elim (cases_order j k) [
+      | inl is ↦ ne is
+      | inr apart ↦ elim apart [
+        | inl less ↦ distinct j k c less there.0 (here.1 ∙ sym same ∙ sym there.1)
+        | inr more ↦ distinct k j c more here.0 (there.1 ∙ same ∙ sym here.1)
+      ]
+    ]
+
+some_is : {X : Type 0} (x y : X) → Some x ≡ Some y → x ≡ y
+some_is x y e = cc
+
+-- What the channel at a place was given, channel by channel.
+gave_one : (channels : List ChannelId) (k : ℕ) (channel : ChannelId) (before after : List InputPass) (items : List Parcel) (per : ChannelId → List Parcel) →
+    AreDistinct channels → slice_get channels k ≡ Some channel → per channel ≡ items → ((c : ChannelId) → channel ≢ c → per c ≡ []) → GaveAt k before after items → Gave channels before after per
+gave_one channels k channel before after items per distinct at here else gave = record {
+  each = λ j c at_j. elim (cases_eq j k) [
+    | inl is ↦
+        let same : channel ≡ c = some_is channel c (sym at ∙ ap (slice_get channels) (sym is) ∙ at_j) in
+        ap (λ n. pushed (mine_at n after)) is ∙ gave.here.pushed ∙ ap (λ n. pushed (mine_at n before) ++ items) (sym is)
+        ∙ ap (λ l. pushed (mine_at j before) ++ l) (sym here ∙ ap per same)
+    | inr ne ↦
+        ap pushed (gave.others j ne) ∙ sym (append-nil (pushed (mine_at j before)))
+        ∙ ap (λ l. pushed (mine_at j before) ++ l) (sym (else c (other_channel channels j k c channel distinct at_j at ne)))
+  ];
+  open_still = λ j. elim (cases_eq j k) [
+    | inl is ↦ ap (λ n. shuts (mine_at n after)) is ∙ gave.here.shuts ∙ ap (λ n. shuts (mine_at n before)) (sym is)
+    | inr ne ↦ ap shuts (gave.others j ne)
+  ];
+}
+
+pub gave_item : (channels : List ChannelId) (k : ℕ) (channel : ChannelId) (before after : List InputPass) (item : Parcel) →
+    AreDistinct channels → slice_get channels k ≡ Some channel → GaveAt k before after (item ∷ []) → Gave channels before after (brought channel item)
+gave_item channels k channel before after item distinct at gave =
+    gave_one channels k channel before after (item ∷ []) (brought channel item) distinct at
+    (ap (λ b. cond b (item ∷ []) []) (is_same_self channel))
+    (λ c ne. ap (λ b. cond b (item ∷ []) []) (false_from_ne_true _ (λ test. ne (same_channel channel c test)))) gave
+
+pub gave_none : (channels : List ChannelId) (k : ℕ) (channel : ChannelId) (before after : List InputPass) →
+    AreDistinct channels → slice_get channels k ≡ Some channel → GaveAt k before after [] → Gave channels before after (λ _. [])
+gave_none channels k channel before after distinct at gave = gave_one channels k channel before after [] (λ _. []) distinct at refl (λ c ne. refl) gave
+
+-- ---- what messages bring
+
+parcel_same : (what : ArrivalKind2) (content : List ℕ) → parcel_in (kind_with what) content ≡ parcel_with what content
+parcel_same arrivals.Buffer content = refl
+parcel_same (arrivals.Inline k) content = refl
+parcel_same (arrivals.Front k) content = refl
+parcel_same arrivals.End content = refl
+
+brings : (c channel : ChannelId) (sequence backlog : ℕ) (what : ArrivalKind2) (content : List ℕ) →
+    items_on c ((frames.BufferResponse channel sequence backlog what, content) ∷ []) ≡ brought channel (parcel_in (kind_with what) content) c
+brings c channel sequence backlog what content =
+    (elim (is_same channel c) as (λ b. map (λ (x : ℕ × Parcel). x.1) (cond b ((sequence, parcel_with what content) ∷ []) [] ++ []) ≡ cond b (parcel_with what content ∷ []) []) [ true ↦ refl | false ↦ refl ])
+    ∙ ap (λ p. brought channel p c) (sym (parcel_same what content))
+
+pub took_response : (channels : List ChannelId) (before after : List InputPass) (channel : ChannelId) (sequence backlog : ℕ) (what : ArrivalKind2) (content : List ℕ) →
+    Gave channels before after (brought channel (parcel_in (kind_with what) content)) → TookFrame channels before after (frames.BufferResponse channel sequence backlog what) content
+took_response channels before after channel sequence backlog what content gave = record {
+  direction = refl;
+  gave = record {
+    each = λ k c at. gave.each k c at ∙ ap (λ l. pushed (mine_at k before) ++ l) (sym (brings c channel sequence backlog what content));
+    open_still = gave.open_still;
+  };
+}
+
+pub took_backlog : (channels : List ChannelId) (before after : List InputPass) (channel : ChannelId) (backlog : ℕ) (content : List ℕ) →
+    Gave channels before after (λ _. []) → TookFrame channels before after (frames.BacklogAnnouncement channel backlog) content
+took_backlog channels before after channel backlog content gave = record { direction = refl; gave = record { each = gave.each; open_still = gave.open_still } }
+
+-- The same, where the channel may have refused it.
+pub took_if : (channels : List ChannelId) (before after : List InputPass) (frame : Frame) (channel : ChannelId) (sequence backlog : ℕ) (what : ArrivalKind2) (content : List ℕ) (a : Arrival) (r : Result (Unit {0}) Cause) →
+    frame ≡ frames.BufferResponse channel sequence backlog what → a ≡ arrival_with sequence backlog what →
+    OnOk r (Gave channels before after (brought channel (parcel_in a.what content))) → OnOk r (TookFrame channels before after frame content)
+took_if channels before after frame channel sequence backlog what content a (Ok u) is is_a gave =
+    subst (λ f. TookFrame channels before after f content) (sym is) (took_response channels before after channel sequence backlog what content
+    (subst (λ (x : Arrival). Gave channels before after (brought channel (parcel_in x.what content))) is_a gave))
+took_if channels before after frame channel sequence backlog what content a (Err cause) is is_a gave = tt

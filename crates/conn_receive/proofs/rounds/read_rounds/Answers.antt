@@ -1,0 +1,37 @@
+use Rattle.std.proofs.Common.{refl, ap, ◌∙◌, [], arith}
+use Rattle.turn_cell.specs.Passes.{number, mine}
+use Rattle.conn_parts.specs.Stopping.{StopPass}
+use Rattle.conn_receive.proofs.RoundLaws.{went_nowhere, went_further, read_to_end}
+use Rattle.conn_receive.proofs.rounds.read_rounds.Goals as goal
+
+pub loop-round-init : goal.loop-round-init
+loop-round-init g c = record {
+  lent = c.requires.lent;
+  others = record { readers = refl; subpartitions = refl };
+  line = refl;
+  faults = omega arith;
+  ended = refl;
+  account = went_nowhere c.args.cells.now.channels.now c.args.passes.now.inputs.items (g.I.LinkIn.got c.args.input.now) c.args.incoming.now c.requires.fresh;
+  same_number = refl;
+  no_entry = refl;
+}
+
+pub loop-round-preserved : goal.loop-round-preserved
+loop-round-preserved g c = let i = c.loop-round.invariant in let went = c.in-None-go_on.ensures in let look = c.look_for_stop.ensures.pass.1 in record {
+  lent = went.lent;
+  others = record { readers = went.others.readers ∙ i.others.readers; subpartitions = went.others.subpartitions ∙ i.others.subpartitions };
+  line = went.line ∙ i.line;
+  faults = omega (arith, i.faults, went.never_falls);
+  ended = went.open_end ∙ i.ended;
+  account = went_further c.args.cells.now.channels.now c.args.passes.now.inputs.items c.loop-round.passes.inputs.items c.go_on.new.passes.inputs.items
+      (g.I.LinkIn.got c.args.input.now) (g.I.LinkIn.got c.loop-round.input) (g.I.LinkIn.got c.go_on.new.input) [] c.loop-round.incoming c.go_on.new.incoming i.account went.went_on;
+  same_number = ap (λ (p : StopPass). number p) went.stop ∙ look.0 ∙ i.same_number;
+  no_entry = ap (λ (p : StopPass). mine p) went.stop ∙ look.1 ∙ i.no_entry;
+}
+
+pub returns-in-Some-go_on-clause-account : goal.returns-in-Some-go_on-clause-account
+returns-in-Some-go_on-clause-account g c = let i = c.loop-round.invariant in let ended = c.in-Some-go_on.ensures.ended in
+    read_to_end c.args.cells.now c.args.passes.now c.loop-round.passes c.go_on.new.passes (g.I.LinkIn.got c.args.input.now) (g.I.LinkIn.got c.loop-round.input) (g.I.LinkIn.got c.go_on.new.input)
+    (g.I.LinkIn.ended c.args.input.now) (g.I.LinkIn.ended c.loop-round.input) (g.I.LinkIn.ended c.go_on.new.input) c.loop-round.incoming
+    (g.I.LinkIn.faults c.args.input.now) (g.I.LinkIn.faults c.loop-round.input) (g.I.LinkIn.faults c.go_on.new.input) c.in-Some-go_on.cause
+    i.account i.ended i.faults ended.came ended.gave ended.why

@@ -1,0 +1,20 @@
+use Rattle.std.proofs.Common.{◌≡◌, ◌≤◌, [], length}
+use Rattle.turn_cell.specs.Passes.{IsPassOf, IsSamePass}
+use Rattle.conn_parts.specs.Shares.{AreOwn}
+use Rattle.conn_announce.specs.Taking.{HaveEnded}
+use Rattle.conn_announce.proofs.Steps.{WentWell}
+use Rattle.conn_announce.proofs.rounds.announce_rounds.Given as goal
+
+abbrev pub invariant-loop-round : goal.invariant-loop-round
+invariant-loop-round g l = record {
+  own : AreOwn 2 l.cells l.passes.items;
+  unfinished : g.O.LinkOut.finished l.out ≡ g.O.LinkOut.finished l.initial.out;
+  line : g.O.LinkOut.line l.out ≡ g.O.LinkOut.line l.initial.out;
+  never_falls : g.O.LinkOut.faults l.initial.out ≤ g.O.LinkOut.faults l.out;
+  many : length l.ended.items ≡ length l.channels;
+  ended : HaveEnded l.ended.items l.passes.items;
+  stop : IsPassOf l.stop l.stop_pass;
+  same : IsSamePass l.initial.stop_pass l.stop_pass;
+  empty : l.outgoing ≡ [];
+  account : WentWell l.channels l.initial.passes.items l.passes.items (g.O.LinkOut.sent l.initial.out) (g.O.LinkOut.sent l.out) [] l.outgoing;
+}

@@ -189,7 +189,7 @@ fn bytes_go_in_order_from_thread_to_thread(rt: HostRuntime) -> Result<(), Fail> 
 #[test]
 fn a_pause_ends(rt: HostRuntime) -> Result<(), Fail> {
     let mut pause = Pause::new();
-    for _ in 0..20u32 {
+    for _ in 0..50u32 {
         pause.wait(&rt);
     }
     pause.reset();

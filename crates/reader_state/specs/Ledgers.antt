@@ -118,3 +118,8 @@ IsOverdueCredit l = (k : ℕ) × (e : Early) × (slice_get l.early k ≡ Some e)
 
 abbrev pub IsOverdueResumption : Ledger → Type 0
 IsOverdueResumption l = (k : ℕ) × (e : Early) × (slice_get l.early k ≡ Some e) × (e.ended ≡ true) × (1 ≤ e.resumptions)
+
+-- Neither is.
+pub record HasNoneOverdue (l : Ledger) : Type 0 where
+  pub credit : ¬ IsOverdueCredit l
+  pub resumption : ¬ IsOverdueResumption l

@@ -13,7 +13,7 @@ use Rattle.flow_defs.specs.declared.cause.PeerFault.TheVariants as peer
 use Rattle.credit_reader.specs.Senders.{is_same, is_able, reader_of}
 use Rattle.reader_state.specs.declared.entry.ReaderEntry.{ReaderEntry}
 use Rattle.reader_state.specs.declared.entry.ReaderEntry.TheVariants.{Ready, Sent, Told, Asked, Granted, Resumed}
-use Rattle.reader_state.specs.Ledgers.{Ledger, channels_of, replayed, is_requested, IsOverdueCredit, IsOverdueResumption}
+use Rattle.reader_state.specs.Ledgers.{Ledger, channels_of, replayed, is_requested, IsOverdueCredit, IsOverdueResumption, HasNoneOverdue}
 use Rattle.reader_state.specs.Standing.{StandsFor}
 
 abbrev pub ReaderCell : Type 0
@@ -74,14 +74,14 @@ IsOverdue l peer.Credit = IsOverdueCredit l
 IsOverdue l peer.Resume = IsOverdueResumption l
 IsOverdue l fault = ⊥
 
--- What a turn with a message came to. A refused one makes no entry, and the fault is `Channel`. Where something is then overdue, the
--- fault says what.
+-- What a turn with a message came to. A refused one makes no entry, and the fault is `Channel`. Where something is then overdue, and
+-- only there, it is a fault, which says what.
 abbrev pub TookMessage : List ChannelId → ReaderEntry → ReaderPass → ReaderPass → Result (Unit {0}) PeerFault → Type 0
-TookMessage channels entry before after (Ok done) = mine after ≡ mine before ++ entry ∷ []
+TookMessage channels entry before after (Ok done) = (mine after ≡ mine before ++ entry ∷ []) × HasNoneOverdue (ledger_after channels (seen after))
 TookMessage channels entry before after (Err peer.Channel) = (mine after ≡ mine before) × IsRefused (ledger_after channels (seen after)) entry
 TookMessage channels entry before after (Err fault) = (mine after ≡ mine before ++ entry ∷ []) × IsOverdue (ledger_after channels (seen after)) fault
 
 -- What a turn with no message came to.
 abbrev pub LookedForOverdue : List ChannelId → ReaderPass → Result (Unit {0}) PeerFault → Type 0
-LookedForOverdue channels after (Ok done) = Unit {0}
+LookedForOverdue channels after (Ok done) = HasNoneOverdue (ledger_after channels (seen after))
 LookedForOverdue channels after (Err fault) = IsOverdue (ledger_after channels (seen after)) fault

@@ -12,9 +12,11 @@ mod pools;
 mod share;
 #[cfg(test)]
 mod tests;
+mod watch;
 
 pub use incoming::{Incoming, drain};
 pub use outgoing::{OUT_ROOM, Outgoing, close_link};
 pub use places::place_of;
 pub use pools::{give_segment, request_segment};
 pub use share::{ConnShare, LoopEnd, SharePasses};
+pub use watch::Watch;

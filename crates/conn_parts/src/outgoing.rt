@@ -53,7 +53,8 @@ impl Outgoing {
 
     /// Whether a frame of any length fits.
     pub fn has_room(&self) -> bool
-        ensures { IsTrue result → length self.now + LEN_MAX ≤ OUT_ROOM }
+        ensures fits { IsTrue result → length self.now + LEN_MAX ≤ OUT_ROOM }
+        ensures full { length self.now + LEN_MAX ≤ OUT_ROOM → IsTrue result }
     {
         self.bytes.as_slice().len() <= OUT_ROOM - LEN_MAX as usize
     }

@@ -1,5 +1,5 @@
 // The loop that writes control frames.
-ghost use Rattle.std.specs.Prelude.{◌≡◌, ◌≢◌, ◌≤◌, [], length, IfOk};
+ghost use Rattle.std.specs.Prelude.{◌≡◌, ◌≢◌, ◌≤◌, [], true, length, Some, IfOk, IfSome};
 ghost use Rattle.turn_cell.specs.Passes.{IsPassOf, IsSamePass, seen};
 ghost use Rattle.flow_defs.specs.declared.cause.Cause.TheVariants.{Done, Stopped};
 ghost use Rattle.outside.specs.Links.{IsUnfinished};
@@ -110,6 +110,7 @@ pub fn send_control<'a, 'p, O: LinkOut, R: Wait>(
     requires share { MaySendControl share }
     requires unfinished { IsUnfinished (O.finished out) }
     ensures passes { AnnounceHandsBack share.entry result.passes }
+    ensures finished { IfSome (O.finished out) (λ _. O.finished result.half ≡ Some true) }
     ensures line { O.line result.half ≡ O.line out }
     ensures account { AnnounceAccount share.entry.channels.now share.entry.passes result.passes (O.sent out) (O.sent result.half) (O.faults out) (O.faults result.half) result.cause }
     ensures stop { ToldStop share.entry.stop.now result.cause share.entry.passes.stop result.passes.stop }

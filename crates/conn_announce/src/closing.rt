@@ -1,5 +1,5 @@
 // The end of the loop: a fault is told, and the closing frame written.
-ghost use Rattle.std.specs.Prelude.{◌≡◌, ◌≢◌, ◌≤◌, []};
+ghost use Rattle.std.specs.Prelude.{◌≡◌, ◌≢◌, ◌≤◌, [], true, Some, IfSome};
 ghost use Rattle.turn_cell.specs.Passes.{IsPassOf, seen};
 ghost use Rattle.flow_defs.specs.declared.cause.Cause.TheVariants.{Done, Stopped};
 ghost use Rattle.outside.specs.Links.{IsUnfinished};
@@ -17,6 +17,7 @@ use turn_cell::{Pass, TurnCell};
 fn close_half<O: LinkOut, R: Wait>(rt: &R, out: &mut O, cause: Cause) -> Cause
     requires cause { IsSendCause cause }
     requires unfinished { IsUnfinished (O.finished out.old) }
+    ensures finished { IfSome (O.finished out.old) (λ _. O.finished out.new ≡ Some true) }
     ensures line { O.line out.new ≡ O.line out.old }
     ensures never_falls { O.faults out.old ≤ O.faults out.new }
     ensures closed { ClosedAs cause result (O.sent out.old) (O.sent out.new) (O.faults out.old) (O.faults out.new) }
@@ -48,6 +49,7 @@ pub(crate) fn end_loop<O: LinkOut, R: Wait>(
     requires stop { IsPassOf stop.now stop_pass.old }
     requires stopped { cause ≡ Stopped → seen stop_pass.old ≢ [] }
     requires done { cause ≡ Done → seen stop_pass.old ≡ [] }
+    ensures finished { IfSome (O.finished out.old) (λ _. O.finished out.new ≡ Some true) }
     ensures line { O.line out.new ≡ O.line out.old }
     ensures never_falls { O.faults out.old ≤ O.faults out.new }
     ensures closed { ClosedAs cause result (O.sent out.old) (O.sent out.new) (O.faults out.old) (O.faults out.new) }

@@ -9,10 +9,10 @@ ghost use Rattle.conn_announce.specs.Taking.{HaveEnded};
 ghost use Rattle.conn_announce.specs.Going.{Announced, EndedFor};
 
 use crate::step::announce_at;
-use conn_parts::Outgoing;
+use conn_parts::{Outgoing, Watch};
 use flow_defs::{Cause, ChannelId, ListOf};
 use input_channel::InputChannel;
-use outside::{Failed, LinkOut, Pause, StopState, look_for_stop};
+use outside::{Failed, LinkOut, Pause, StopState};
 use std::sync::Wait;
 use turn_cell::{Pass, TurnCell};
 
@@ -82,11 +82,11 @@ pub(crate) fn announce_rounds<O: LinkOut, R: Wait>(
     ensures stopped { result ≡ Stopped → seen stop_pass.new ≢ [] }
     ensures done { result ≡ Done → seen stop_pass.new ≡ [] }
 {
+    let mut watch = Watch::new();
     let mut pause = Pause::new();
     for _round in rt.forever() {
-        match look_for_stop(rt, stop, stop_pass) {
-            Some(_) => return Cause::Stopped,
-            None => {}
+        if let Some(_) = watch.look(rt, stop, stop_pass) {
+            return Cause::Stopped;
         }
         let told = match announce_all(rt, out, outgoing, channels, cells, passes, ended) {
             Ok(told) => told,

@@ -1,5 +1,5 @@
 // How the loop ends.
-ghost use Rattle.std.specs.Prelude.{◌≡◌, ◌≤◌};
+ghost use Rattle.std.specs.Prelude.{◌≡◌, ◌≤◌, Some, true, IfSome};
 ghost use Rattle.outside.specs.Links.{IsUnfinished};
 ghost use Rattle.conn_parts.specs.Stopping.{ToldStop};
 ghost use Rattle.conn_send.specs.Steps.{ClosedAfter, ClosedAs, LooksForStop};
@@ -13,6 +13,7 @@ use turn_cell::{Pass, TurnCell};
 // Writes the closing frame and finishes the half. Where a write had failed it only finishes it.
 fn close_half<O: LinkOut, R: Wait>(rt: &R, out: &mut O, cause: Cause) -> Result<(), Failed>
     requires { IsUnfinished (O.finished out.old) }
+    ensures finished { IfSome (O.finished out.old) (λ _. O.finished out.new ≡ Some true) }
     ensures line { O.line out.new ≡ O.line out.old }
     ensures closed { ClosedAfter (O.sent out.old) (O.sent out.new) (O.faults out.old) (O.faults out.new) cause result }
     ensures never_falls { O.faults out.old ≤ O.faults out.new }
@@ -35,6 +36,7 @@ pub fn end_half<O: LinkOut, R: Wait>(
 ) -> Cause
     requires unfinished { IsUnfinished (O.finished out.old) }
     requires stop { LooksForStop stop.now stop_pass.old stop_pass.old cause }
+    ensures finished { IfSome (O.finished out.old) (λ _. O.finished out.new ≡ Some true) }
     ensures line { O.line out.new ≡ O.line out.old }
     ensures closed { ClosedAs (O.sent out.old) (O.sent out.new) (O.faults out.old) (O.faults out.new) cause result }
     ensures never_falls { O.faults out.old ≤ O.faults out.new }

@@ -1,5 +1,5 @@
 // The loop that takes items under credit and writes them.
-ghost use Rattle.std.specs.Prelude.{◌≡◌, ◌≢◌, ◌<◌, ◌≤◌, ℕ, [], true, length, slice_get, Some, IsTrue};
+ghost use Rattle.std.specs.Prelude.{◌≡◌, ◌≢◌, ◌<◌, ◌≤◌, ℕ, [], true, length, slice_get, Some, IfSome, IsTrue};
 ghost use Rattle.turn_cell.specs.Passes.{IsPassOf, mine};
 ghost use Rattle.outside.specs.Links.{IsUnfinished};
 ghost use Rattle.conn_parts.specs.Stopping.{ToldStop};
@@ -11,9 +11,9 @@ use crate::ending::end_half;
 use crate::laying::round;
 use crate::ready::tell_fronts;
 use crate::room::Room;
-use conn_parts::{ConnShare, LoopEnd, SharePasses};
+use conn_parts::{ConnShare, LoopEnd, SharePasses, Watch};
 use flow_defs::Cause;
-use outside::{LinkOut, Pause, StopState, look_for_stop};
+use outside::{LinkOut, Pause, StopState};
 use std::alloc::Global;
 use std::sync::Wait;
 use turn_cell::{Pass, TurnCell};
@@ -51,9 +51,10 @@ fn send_until<'p, O: LinkOut, R: Wait>(
     ensures writes { WritesUntil cells.now.channels.now passes.old.subpartitions.items passes.new.subpartitions.items (mine passes.old.readers) (mine passes.new.readers) room.old.ended.items room.new.ended.items (O.sent out.old) (O.sent out.new) (O.faults out.old) (O.faults out.new) result }
     ensures stop { LooksForStop stop.now stop_pass.old stop_pass.new result }
 {
+    let mut watch = Watch::new();
     let mut pause = Pause::new();
     for _round in rt.forever() {
-        if let Some(_) = look_for_stop(rt, stop, stop_pass) {
+        if let Some(_) = watch.look(rt, stop, stop_pass) {
             return Cause::Stopped;
         }
         if all_raised(room.ended.as_slice()) {
@@ -117,6 +118,7 @@ pub fn send_items<'a, 'p, O: LinkOut, R: Wait>(
     requires share { MaySendItems share }
     requires unfinished { IsUnfinished (O.finished out) }
     ensures passes { SendHandsBack share.entry result.passes }
+    ensures finished { IfSome (O.finished out) (λ _. O.finished result.half ≡ Some true) }
     ensures line { O.line result.half ≡ O.line out }
     ensures account { SendAccount share.entry.channels.now share.entry.passes result.passes (O.sent out) (O.sent result.half) (O.faults out) (O.faults result.half) result.cause }
     ensures stop { ToldStop share.entry.stop.now result.cause share.entry.passes.stop result.passes.stop }

@@ -1,4 +1,4 @@
-use Rattle.std.proofs.Common.{◌≡◌, Bool, true, refl, ◌∙◌, subst, arith}
+use Rattle.std.proofs.Common.{◌≡◌, Bool, true, refl, sym, ◌∙◌, subst, arith}
 use Rattle.std.specs.Prelude.{All}
 use Rattle.conn_announce.proofs.Ends.{all_ended}
 use Rattle.conn_announce.proofs.Steps.{WentWell, went_well, was_cut, well_none, well_on, cut_after, ended_done, ended_link}
@@ -14,6 +14,7 @@ loop-round-init g c = record {
   ended = c.requires.ended;
   stop = c.requires.stop;
   same = (refl, refl);
+  calm = λ e. let n = c.new-watch.ensures in absurd (cc);
   empty = c.requires.empty;
   account = subst (λ laid. WentWell c.args.channels.now c.args.passes.now.items c.args.passes.now.items (g.O.LinkOut.sent c.args.out.now) (g.O.LinkOut.sent c.args.out.now) laid c.args.outgoing.now) c.requires.empty
       (well_none c.args.channels.now c.args.passes.now.items (g.O.LinkOut.sent c.args.out.now) c.args.outgoing.now);
@@ -40,8 +41,9 @@ loop-round-preserved-then-told g c = let i = c.loop-round.invariant in record {
   never_falls = omega (arith, i.never_falls, c.announce_all.ensures.never_falls);
   many = c.announce_all.ensures.ended.0;
   ended = c.announce_all.ensures.ended.1;
-  stop = c.look_for_stop.ensures.pass.0;
-  same = (c.look_for_stop.ensures.pass.1.0 ∙ i.same.0, c.look_for_stop.ensures.pass.1.1 ∙ i.same.1);
+  stop = c.look.ensures.pass.0;
+  same = (c.look.ensures.pass.1.0 ∙ i.same.0, c.look.ensures.pass.1.1 ∙ i.same.1);
+  calm = λ _. sym (sym c.in_default.is ∙ c.look.ensures.answer);
   empty = c.in-Ok.ensures.empty;
   account = well_on c.args.channels.now _ _ _ _ _ _ _ _ _ i.account (went_well c.args.channels.now _ _ _ _ _ _ _ _ _ c.in-Ok.ensures.account);
 }
@@ -54,8 +56,9 @@ loop-round-preserved g c = let i = c.loop-round.invariant in record {
   never_falls = omega (arith, i.never_falls, c.announce_all.ensures.never_falls);
   many = c.announce_all.ensures.ended.0;
   ended = c.announce_all.ensures.ended.1;
-  stop = c.look_for_stop.ensures.pass.0;
-  same = (c.look_for_stop.ensures.pass.1.0 ∙ i.same.0, c.look_for_stop.ensures.pass.1.1 ∙ i.same.1);
+  stop = c.look.ensures.pass.0;
+  same = (c.look.ensures.pass.1.0 ∙ i.same.0, c.look.ensures.pass.1.1 ∙ i.same.1);
+  calm = λ _. sym (sym c.in_default.is ∙ c.look.ensures.answer);
   empty = c.in-Ok.ensures.empty;
   account = well_on c.args.channels.now _ _ _ _ _ _ _ _ _ i.account (went_well c.args.channels.now _ _ _ _ _ _ _ _ _ c.in-Ok.ensures.account);
 }

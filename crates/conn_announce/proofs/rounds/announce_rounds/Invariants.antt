@@ -1,5 +1,6 @@
-use Rattle.std.proofs.Common.{◌≡◌, ◌≤◌, [], length}
-use Rattle.turn_cell.specs.Passes.{IsPassOf, IsSamePass}
+use Rattle.std.proofs.Common.{◌≡◌, ◌≤◌, true, None, [], length}
+use Rattle.turn_cell.specs.Passes.{IsPassOf, IsSamePass, seen}
+use Rattle.outside.specs.Stops.{first_met}
 use Rattle.conn_parts.specs.Shares.{AreOwn}
 use Rattle.conn_announce.specs.Taking.{HaveEnded}
 use Rattle.conn_announce.proofs.Steps.{WentWell}
@@ -15,6 +16,7 @@ invariant-loop-round g l = record {
   ended : HaveEnded l.ended.items l.passes.items;
   stop : IsPassOf l.stop l.stop_pass;
   same : IsSamePass l.initial.stop_pass l.stop_pass;
+  calm : l.watch ≡ true → first_met (seen l.stop_pass) ≡ None;
   empty : l.outgoing ≡ [];
   account : WentWell l.channels l.initial.passes.items l.passes.items (g.O.LinkOut.sent l.initial.out) (g.O.LinkOut.sent l.out) [] l.outgoing;
 }

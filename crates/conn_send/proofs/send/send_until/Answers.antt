@@ -1,4 +1,4 @@
-use Rattle.std.proofs.Common.{◌∙◌, refl, arith}
+use Rattle.std.proofs.Common.{◌∙◌, refl, sym, arith}
 use Rattle.turn_cell.specs.Passes.{mine}
 use Rattle.conn_send.proofs.Ends.{written_none, written_more, until_link}
 use Rattle.conn_send.proofs.send.send_until.Goals as goal
@@ -22,6 +22,7 @@ loop-round-init g c = let was = c.args.passes.now in let out = g.O.LinkOut in re
   written = written_none c.args.cells.now.channels.now was.subpartitions.items (mine was.readers) c.args.room.now.ended.items (out.sent c.args.out.now);
   stop = c.requires.stop;
   stop_same = (refl, refl);
+  calm = λ e. let n = c.new-watch.ensures in absurd (cc);
 }
 
 pub loop-round-preserved-then-some : goal.loop-round-preserved-then-some
@@ -37,8 +38,9 @@ loop-round-preserved-then-some g c = let was = c.args.passes.now in let at = c.l
   written = written_more c.args.cells.now.channels.now was.subpartitions.items at.subpartitions.items now.subpartitions.items (mine was.readers) (mine at.readers) (mine now.readers)
       c.args.room.now.ended.items c.loop-round.room.ended.items c.round.new.room.ended.items (out.sent c.args.out.now) (out.sent c.loop-round.out) (out.sent c.round.new.out)
       (out.faults c.args.out.now) (out.faults c.loop-round.out) (out.faults c.round.new.out) i.written c.in-Ok.some c.in-Ok.ensures.writes;
-  stop = c.look_for_stop.ensures.pass.0;
-  stop_same = (c.look_for_stop.ensures.pass.1.0 ∙ i.stop_same.0, c.look_for_stop.ensures.pass.1.1 ∙ i.stop_same.1);
+  stop = c.look.ensures.pass.0;
+  stop_same = (c.look.ensures.pass.1.0 ∙ i.stop_same.0, c.look.ensures.pass.1.1 ∙ i.stop_same.1);
+  calm = λ _. sym (sym c.in_default.is ∙ c.look.ensures.answer);
 }
 
 pub loop-round-preserved : goal.loop-round-preserved
@@ -54,6 +56,7 @@ loop-round-preserved g c = let was = c.args.passes.now in let at = c.loop-round.
   written = written_more c.args.cells.now.channels.now was.subpartitions.items at.subpartitions.items now.subpartitions.items (mine was.readers) (mine at.readers) (mine now.readers)
       c.args.room.now.ended.items c.loop-round.room.ended.items c.round.new.room.ended.items (out.sent c.args.out.now) (out.sent c.loop-round.out) (out.sent c.round.new.out)
       (out.faults c.args.out.now) (out.faults c.loop-round.out) (out.faults c.round.new.out) i.written c.in-Ok.some c.in-Ok.ensures.writes;
-  stop = c.look_for_stop.ensures.pass.0;
-  stop_same = (c.look_for_stop.ensures.pass.1.0 ∙ i.stop_same.0, c.look_for_stop.ensures.pass.1.1 ∙ i.stop_same.1);
+  stop = c.look.ensures.pass.0;
+  stop_same = (c.look.ensures.pass.1.0 ∙ i.stop_same.0, c.look.ensures.pass.1.1 ∙ i.stop_same.1);
+  calm = λ _. sym (sym c.in_default.is ∙ c.look.ensures.answer);
 }

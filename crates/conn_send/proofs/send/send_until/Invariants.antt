@@ -1,5 +1,6 @@
-use Rattle.std.proofs.Common.{◌≡◌, ◌≤◌, [], length}
-use Rattle.turn_cell.specs.Passes.{IsPassOf, IsSamePass, mine}
+use Rattle.std.proofs.Common.{◌≡◌, ◌≤◌, true, None, [], length}
+use Rattle.turn_cell.specs.Passes.{IsPassOf, IsSamePass, mine, seen}
+use Rattle.outside.specs.Stops.{first_met}
 use Rattle.conn_send.specs.Steps.{HasPasses, AllStand, HasWritten}
 use Rattle.conn_send.proofs.send.send_until.Given as goal
 
@@ -16,4 +17,5 @@ invariant-loop-round g l = let was = l.initial.passes in let now = l.passes in r
   written : HasWritten l.cells.channels.now was.subpartitions.items now.subpartitions.items (mine was.readers) (mine now.readers) l.initial.room.ended.items l.room.ended.items (g.O.LinkOut.sent l.initial.out) (g.O.LinkOut.sent l.out);
   stop : IsPassOf l.stop l.stop_pass;
   stop_same : IsSamePass l.initial.stop_pass l.stop_pass;
+  calm : l.watch ≡ true → first_met (seen l.stop_pass) ≡ None;
 }

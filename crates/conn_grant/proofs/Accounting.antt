@@ -61,7 +61,7 @@ module _ (share : ConnShare) (after : SharePasses) (w e f : Option Bool) (left m
 
   ended_by : (k l m : ℕ) (met : Cause) → l ≤ m → EndsBy share.channels.now share.size (seen_readers after) w e left k l met →
       (met ≡ causes.Peer peers.Cut → (f ≡ e) × (first_met (seen after.stop) ≡ Some (causes.Peer peers.Cut))) → EndedBy share after w f (left ++ more) k m met
-  ended_by k l m causes.Done le h cut = (h.0 ++ more, ap (λ l. l ++ more) h.1 ∙ append_assoc closing h.0 more)
+  ended_by k l m causes.Done le h cut = ((h.0.0 ++ more, ap (λ l. l ++ more) h.0.1 ∙ append_assoc closing h.0.0 more), h.1)
   ended_by k l m causes.Stopped le h cut = tt
   ended_by k l m causes.Link le h cut = risen_after k l m h le
   ended_by k l m (causes.OverCredit channel received announced) le h cut = absurd h
@@ -97,6 +97,7 @@ accounted share readers passes stop o p q w e f k l m met cause new h first came
         bytes = subst (Appended o q) (ap (λ l. l ++ came.0) goes.spelled ∙ append_assoc (all_spelled h.messages) h.left came.0)
             (appended_more o p q h.gets.added came.0 h.gets.told came.1);
       };
+      allowed = goes.heard.allowed;
       heard = record { told = goes.heard.told ∙ ap (λ l. l ++ flat_map entries_in h.messages) new; sizes = goes.heard.sizes };
       cause_is = counts share (handed_back share passes stop) w e f h.left came.0 k l m met cause next h.ends finished;
       never_falls = omega arith;

@@ -53,12 +53,12 @@ module _ (cells : ControlCells) (first a : ControlPasses) (readers : a.readers �
   pub round_handled : (b : ControlPasses) (o : Option (List ℕ)) (w : Option Bool) (k : ℕ) (x y : List ℕ) (r : Option Cause) → seen b.stop ≡ [] →
       HasHandled cells a b x y r → Went cells first b o o w w k k x y r
   round_handled b o w k x y None empty h =
-      ((h.0, gets_from_goes cells.channels.now first b o x y h.0 (goes_from cells.channels.now first a b x y h.0 readers subpartitions h.1)), refl)
+      ((h.0, gets_from_goes cells.channels.now cells.size first b o x y h.0 (goes_from cells.channels.now cells.size first a b x y h.0 readers subpartitions h.1)), refl)
   round_handled b o w k x y (Some causes.Done) empty h = record {
     messages = [];
     left = x;
-    gets = gets_from_goes cells.channels.now first b o x x [] (goes_from cells.channels.now first a b x x [] readers subpartitions h.0);
-    ends = h.1;
+    gets = gets_from_goes cells.channels.now cells.size first b o x x [] (goes_from cells.channels.now cells.size first a b x x [] readers subpartitions h.0);
+    ends = (h.1, h.2);
     looked = record { stopped = λ e. absurd (cc); done = λ e. empty };
   }
   round_handled b o w k x y (Some causes.Stopped) empty h = absurd h
@@ -67,7 +67,7 @@ module _ (cells : ControlCells) (first a : ControlPasses) (readers : a.readers �
   round_handled b o w k x y (Some (causes.Peer fault)) empty h = record {
     messages = h.0;
     left = h.1;
-    gets = gets_from_goes cells.channels.now first b o x h.1 h.0 (goes_from cells.channels.now first a b x h.1 h.0 readers subpartitions h.2);
+    gets = gets_from_goes cells.channels.now cells.size first b o x h.1 h.0 (goes_from cells.channels.now cells.size first a b x h.1 h.0 readers subpartitions h.2);
     ends = meets_any cells.channels.now cells.size (seen b.readers) w w h.1 fault h.3 h.4;
     looked = peer_looked fault (seen b.stop);
   }
@@ -75,13 +75,13 @@ module _ (cells : ControlCells) (first a : ControlPasses) (readers : a.readers �
 
   pub round_read : (o p : Option (List ℕ)) (w e : Option Bool) (k l : ℕ) (x y : List ℕ) (r : Option Cause) → HasRead o p w e k l x y r → Went cells first a o p w e k l x y r
   round_read o p w e k l x y None h =
-      (([], subst (λ z. Gets cells.channels.now first a o p x z []) (sym h.2) (gets_bytes cells.channels.now first a o p x h.0 readers subpartitions h.1)), h.3)
+      (([], subst (λ z. Gets cells.channels.now cells.size first a o p x z []) (sym h.2) (gets_bytes cells.channels.now cells.size first a o p x h.0 readers subpartitions h.1)), h.3)
   round_read o p w e k l x y (Some causes.Done) h = absurd h
   round_read o p w e k l x y (Some causes.Stopped) h = absurd h
   round_read o p w e k l x y (Some causes.Link) h = record {
     messages = [];
     left = x ++ [];
-    gets = gets_bytes cells.channels.now first a o p x [] readers subpartitions (appended_same o o p [] (appended_none o) h.0);
+    gets = gets_bytes cells.channels.now cells.size first a o p x [] readers subpartitions (appended_same o o p [] (appended_none o) h.0);
     ends = h.1;
     looked = record { stopped = λ e. absurd (cc); done = λ e. absurd (cc) };
   }
@@ -97,7 +97,7 @@ module _ (cells : ControlCells) (first a : ControlPasses) (readers : a.readers �
   round_read o p w e k l x y (Some (causes.Peer peers.Cut)) h = record {
     messages = [];
     left = x ++ h.0;
-    gets = gets_bytes cells.channels.now first a o p x h.0 readers subpartitions h.1;
+    gets = gets_bytes cells.channels.now cells.size first a o p x h.0 readers subpartitions h.1;
     ends = h.2;
     looked = peer_looked peers.Cut (seen a.stop);
   }
@@ -108,7 +108,7 @@ module _ (cells : ControlCells) (first a : ControlPasses) (readers : a.readers �
   round_stopped o w k x y some = record {
     messages = [];
     left = x ++ [];
-    gets = gets_bytes cells.channels.now first a o o x [] readers subpartitions (appended_none o);
+    gets = gets_bytes cells.channels.now cells.size first a o o x [] readers subpartitions (appended_none o);
     ends = tt;
     looked = record { stopped = λ e. some; done = λ e. absurd (cc) };
   }
@@ -117,7 +117,7 @@ module _ (cells : ControlCells) (first a : ControlPasses) (readers : a.readers �
   round_bad o w k x y bad = record {
     messages = [];
     left = x ++ [];
-    gets = gets_bytes cells.channels.now first a o o x [] readers subpartitions (appended_none o);
+    gets = gets_bytes cells.channels.now cells.size first a o o x [] readers subpartitions (appended_none o);
     ends = inl (subst CannotBegin (sym (append-nil x)) bad);
     looked = peer_looked peers.BadFrame (seen a.stop);
   }
@@ -135,11 +135,11 @@ risen_end channels size history w e left k l m (causes.Peer fault) le h = h
 risen_end channels size history w e left k l m causes.Memory le h = h
 
 pub ended_more : (cells : ControlCells) (a b c : ControlPasses) (o p q : Option (List ℕ)) (w e f : Option Bool) (k l m : ℕ) (x y : List ℕ) (xs : List Message) (cause : Cause) →
-    Gets cells.channels.now a b o p x y xs → e ≡ w → k ≤ l → HasEnded cells b c p q e f l m y cause → HasEnded cells a c o q w f k m x cause
+    Gets cells.channels.now cells.size a b o p x y xs → e ≡ w → k ≤ l → HasEnded cells b c p q e f l m y cause → HasEnded cells a c o q w f k m x cause
 ended_more cells a b c o p q w e f k l m x y xs cause first same le h = record {
   messages = xs ++ h.messages;
   left = h.left;
-  gets = gets_more cells.channels.now a b c o p q x y h.left xs h.messages first h.gets;
+  gets = gets_more cells.channels.now cells.size a b c o p q x y h.left xs h.messages first h.gets;
   ends = risen_end cells.channels.now cells.size (seen c.readers) w f h.left k l m cause le
       (subst (λ v. EndsBy cells.channels.now cells.size (seen c.readers) v f h.left l m cause) same h.ends);
   looked = h.looked;
@@ -149,15 +149,15 @@ pub ended_memory : (cells : ControlCells) (a : ControlPasses) (o : Option (List 
 ended_memory cells a o w k = record {
   messages = [];
   left = [] ++ [];
-  gets = gets_bytes cells.channels.now a a o o [] [] refl refl (appended_none o);
+  gets = gets_bytes cells.channels.now cells.size a a o o [] [] refl refl (appended_none o);
   ends = tt;
   looked = record { stopped = λ e. absurd (cc); done = λ e. absurd (cc) };
 }
 
 -- Nothing came yet.
-pub gets_first : (cells : ControlCells) (a : ControlPasses) (o : Option (List ℕ)) (x : List ℕ) → x ≡ [] → Gets cells.channels.now a a o o [] x []
+pub gets_first : (cells : ControlCells) (a : ControlPasses) (o : Option (List ℕ)) (x : List ℕ) → x ≡ [] → Gets cells.channels.now cells.size a a o o [] x []
 gets_first cells a o x none =
-    subst (λ l. Gets cells.channels.now a a o o [] l []) (sym none) (gets_bytes cells.channels.now a a o o [] [] refl refl (appended_none o))
+    subst (λ l. Gets cells.channels.now cells.size a a o o [] l []) (sym none) (gets_bytes cells.channels.now cells.size a a o o [] [] refl refl (appended_none o))
 
 -- Only bytes that are not whole are mended by more of them.
 pub cannot_begin : (bytes incoming : List ℕ) (e f : FrameFault) → bytes ≡ incoming → e ≡ f → f ≢ NeedMore → (e ≢ NeedMore → CannotBegin bytes) → CannotBegin incoming

@@ -18,7 +18,7 @@ use Rattle.subpartition.specs.declared.entry.SendEntry.{SendEntry}
 use Rattle.subpartition.specs.declared.entry.SendEntry.TheVariants.{Size}
 use Rattle.reader_state.specs.declared.entry.ReaderEntry.{ReaderEntry}
 use Rattle.reader_state.specs.declared.entry.ReaderEntry.TheVariants.{Asked, Granted, Resumed}
-use Rattle.reader_state.specs.Ledgers.{IsOverdueCredit, IsOverdueResumption}
+use Rattle.reader_state.specs.Ledgers.{IsOverdueCredit, IsOverdueResumption, HasNoneOverdue}
 use Rattle.reader_state.specs.Turning.{ReaderPass, channels_in, ledger_after, IsReaderPass, IsRefused}
 use Rattle.outside.specs.Faults.{HasRisen}
 use Rattle.outside.specs.Stops.{first_met}
@@ -102,6 +102,17 @@ IsTooLarge size (frames.AddCredit channel credit, content) = ⊥
 IsTooLarge size (frames.ResumeConsumption channel, content) = ⊥
 IsTooLarge size (frames.BacklogAnnouncement channel backlog, content) = ⊥
 
+-- A size may be desired on a channel that there is, up to that of a segment. The other messages are judged by the readers.
+abbrev pub IsAllowed : List ChannelId → ℕ → Message → Type 0
+IsAllowed channels size (frames.NewBufferSize channel n, content) = ((k : ℕ) × (slice_get channels k ≡ Some channel)) × (n ≤ size)
+IsAllowed channels size (frames.BufferResponse channel sequence backlog what, content) = Unit {0}
+IsAllowed channels size (frames.ErrorResponse channel code, content) = Unit {0}
+IsAllowed channels size (frames.PartitionRequest channel credit, content) = Unit {0}
+IsAllowed channels size (frames.Close, content) = Unit {0}
+IsAllowed channels size (frames.AddCredit channel credit, content) = Unit {0}
+IsAllowed channels size (frames.ResumeConsumption channel, content) = Unit {0}
+IsAllowed channels size (frames.BacklogAnnouncement channel backlog, content) = Unit {0}
+
 -- What is known where it met a fault of the other end, with the bytes that were left.
 module _ (share : ConnShare) (after : SharePasses) (was_ended ended : Option Bool) (left : List ℕ) where
   abbrev pub MetPeer : PeerFault → Type 0
@@ -115,18 +126,19 @@ module _ (share : ConnShare) (after : SharePasses) (was_ended ended : Option Boo
 
   -- And where it ended by a cause.
   abbrev pub EndedBy : ℕ → ℕ → Cause → Type 0
-  EndedBy fell rose causes.Done = StartsWith left closing
+  EndedBy fell rose causes.Done = StartsWith left closing × HasNoneOverdue (ledger_after share.channels.now (seen_readers after))
   EndedBy fell rose causes.Stopped = Unit {0}
   EndedBy fell rose causes.Link = HasRisen fell rose
   EndedBy fell rose (causes.OverCredit channel received announced) = ⊥
   EndedBy fell rose (causes.Peer fault) = MetPeer fault
   EndedBy fell rose causes.Memory = Unit {0}
 
--- What the loop read, and what it told of it.
+-- What the loop read, and what it told of it. Each size that was read is desired on a channel that there is, and fits a segment.
 pub record ControlAccount (share : ConnShare) (after : SharePasses) (old new : Option (List ℕ)) (was_ended ended : Option Bool) (fell rose : ℕ) (cause : Cause) : Type 0 where
   pub messages : List Message
   pub left : List ℕ
   pub read : Read is_from_receiver old new messages left
+  pub allowed : All (IsAllowed share.channels.now share.size) messages
   pub heard : HeardControl share.channels.now share.passes after messages
   pub cause_is : EndedBy share after was_ended ended left fell rose cause
   pub never_falls : fell ≤ rose

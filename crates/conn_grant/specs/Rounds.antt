@@ -16,7 +16,7 @@ use Rattle.subpartition.specs.Queues.{Queue}
 use Rattle.subpartition.specs.declared.entry.SendEntry.{SendEntry}
 use Rattle.subpartition.specs.declared.entry.SendEntry.TheVariants.{Size}
 use Rattle.reader_state.specs.declared.entry.ReaderEntry.{ReaderEntry}
-use Rattle.reader_state.specs.Ledgers.{IsOverdueCredit, IsOverdueResumption}
+use Rattle.reader_state.specs.Ledgers.{IsOverdueCredit, IsOverdueResumption, HasNoneOverdue}
 use Rattle.reader_state.specs.Turning.{channels_in, ledger_after, IsReaderPass}
 use Rattle.outside.specs.declared.stop.StopEntry.{StopEntry}
 use Rattle.outside.specs.Faults.{HasRisen}
@@ -27,7 +27,7 @@ use Rattle.conn_parts.specs.Messages.{Message, closing, AreFrom, is_from_receive
 use Rattle.conn_parts.specs.Reading.{BeginsBadly, BeginsWith}
 use Rattle.conn_grant.specs.declared.cells.ControlCells.{ControlCells}
 use Rattle.conn_grant.specs.declared.cells.ControlPasses.{ControlPasses}
-use Rattle.conn_grant.specs.Granting.{entries_in, reads_control, IsWrong, IsTooLarge}
+use Rattle.conn_grant.specs.Granting.{entries_in, reads_control, IsWrong, IsTooLarge, IsAllowed}
 
 -- ---- sizes
 
@@ -50,7 +50,7 @@ HeardSizes channels before after messages = (k : ℕ) (c : ChannelId) → slice_
 -- What became of a desired size.
 module _ (channels : List ChannelId) (size : ℕ) (channel : ChannelId) (n : ℕ) (before after : List SendPass) where
   abbrev pub TookSize : Result (Unit {0}) PeerFault → Type 0
-  TookSize (Ok done) = HeardSizes channels before after ((frames.NewBufferSize channel n, []) ∷ [])
+  TookSize (Ok done) = HeardSizes channels before after ((frames.NewBufferSize channel n, []) ∷ []) × IsAllowed channels size (frames.NewBufferSize channel n, [])
   TookSize (Err peers.Channel) = (after ≡ before) × ((k : ℕ) → slice_get channels k ≢ Some channel)
   TookSize (Err peers.Size) = (after ≡ before) × (size < n)
   TookSize (Err fault) = ⊥
@@ -70,9 +70,10 @@ pub record FitCells (cells : ControlCells) (passes : ControlPasses) : Type 0 whe
   pub subpartitions : AreOwn 2 cells.subpartitions.now passes.subpartitions.items
   pub stop : IsPassOf cells.stop.now passes.stop
 
--- The readers and the subpartitions were told of these messages.
-pub record Heard (channels : List ChannelId) (before after : ControlPasses) (messages : List Message) : Type 0 where
+-- The readers and the subpartitions were told of these messages, in which each size was allowed.
+pub record Heard (channels : List ChannelId) (size : ℕ) (before after : ControlPasses) (messages : List Message) : Type 0 where
   pub direction : AreFrom is_from_receiver messages
+  pub allowed : All (IsAllowed channels size) messages
   pub told : mine after.readers ≡ mine before.readers ++ flat_map entries_in messages
   pub sizes : HeardSizes channels before.subpartitions.items after.subpartitions.items messages
 
@@ -97,25 +98,30 @@ module _ (channels : List ChannelId) (size : ℕ) (history : List (ℕ × Reader
   IsFaultAt peers.Resume = IsOverdueResumption (ledger_after channels history)
   IsFaultAt fault = ⊥
 
+-- At the closing frame nothing is overdue.
+abbrev pub LookedAt : List ChannelId → List (ℕ × ReaderEntry) → Message → Type 0
+LookedAt channels history (frames.Close, content) = HasNoneOverdue (ledger_after channels history)
+LookedAt channels history m = Unit {0}
+
 -- What became of a message.
 module _ (cells : ControlCells) (before after : ControlPasses) (m : Message) where
   abbrev pub TookFrame : Result (Unit {0}) PeerFault → Type 0
-  TookFrame (Ok done) = Heard cells.channels.now before after (but_closing m)
-  TookFrame (Err fault) = Heard cells.channels.now before after (read_at m fault) × IsFaultAt cells.channels.now cells.size (seen after.readers) m fault
+  TookFrame (Ok done) = Heard cells.channels.now cells.size before after (but_closing m) × LookedAt cells.channels.now (seen after.readers) m
+  TookFrame (Err fault) = Heard cells.channels.now cells.size before after (read_at m fault) × IsFaultAt cells.channels.now cells.size (seen after.readers) m fault
 
 -- ---- one round
 
 -- Messages at the front of the pending bytes were read and told, and these bytes are left.
-pub record Goes (channels : List ChannelId) (before after : ControlPasses) (pending left : List ℕ) (messages : List Message) : Type 0 where
+pub record Goes (channels : List ChannelId) (size : ℕ) (before after : ControlPasses) (pending left : List ℕ) (messages : List Message) : Type 0 where
   pub frames : AreFrames messages
-  pub heard : Heard channels before after messages
+  pub heard : Heard channels size before after messages
   pub spelled : pending ≡ all_spelled messages ++ left
 
 -- Bytes came, and those that were pending and they are messages that were read and told, and then those that are left.
-pub record Gets (channels : List ChannelId) (before after : ControlPasses) (old new : Option (List ℕ)) (pending left : List ℕ) (messages : List Message) : Type 0 where
+pub record Gets (channels : List ChannelId) (size : ℕ) (before after : ControlPasses) (old new : Option (List ℕ)) (pending left : List ℕ) (messages : List Message) : Type 0 where
   pub added : List ℕ
   pub told : Appended old new added
-  pub goes : Goes channels before after (pending ++ added) left messages
+  pub goes : Goes channels size before after (pending ++ added) left messages
 
 -- What a fault of the other end says of the bytes that are left, of the readers, or of the end of the bytes.
 module _ (channels : List ChannelId) (size : ℕ) (history : List (ℕ × ReaderEntry)) (was_ended ended : Option Bool) (left : List ℕ) where
@@ -130,7 +136,7 @@ module _ (channels : List ChannelId) (size : ℕ) (history : List (ℕ × Reader
 
   -- And where the rounds ended by a cause.
   abbrev pub EndsBy : ℕ → ℕ → Cause → Type 0
-  EndsBy fell rose causes.Done = StartsWith left closing
+  EndsBy fell rose causes.Done = StartsWith left closing × HasNoneOverdue (ledger_after channels history)
   EndsBy fell rose causes.Stopped = Unit {0}
   EndsBy fell rose causes.Link = HasRisen fell rose
   EndsBy fell rose (causes.OverCredit channel received announced) = ⊥
@@ -145,10 +151,11 @@ pub record HasLooked (cause : Cause) (stops : List (ℕ × StopEntry)) : Type 0 
 -- What handling the first frame came to: it was told, or the loop is to end.
 module _ (cells : ControlCells) (before after : ControlPasses) (pending left : List ℕ) where
   abbrev pub HasHandled : Option Cause → Type 0
-  HasHandled None = (messages : List Message) × Goes cells.channels.now before after pending left messages
-  HasHandled (Some causes.Done) = Goes cells.channels.now before after pending pending [] × StartsWith pending closing
+  HasHandled None = (messages : List Message) × Goes cells.channels.now cells.size before after pending left messages
+  HasHandled (Some causes.Done) =
+      Goes cells.channels.now cells.size before after pending pending [] × StartsWith pending closing × HasNoneOverdue (ledger_after cells.channels.now (seen after.readers))
   HasHandled (Some (causes.Peer fault)) =
-      (messages : List Message) × (rest : List ℕ) × Goes cells.channels.now before after pending rest messages
+      (messages : List Message) × (rest : List ℕ) × Goes cells.channels.now cells.size before after pending rest messages
       × (fault ≢ peers.Cut) × MeetsPeer cells.channels.now cells.size (seen after.readers) None None rest fault
   HasHandled (Some cause) = ⊥
 
@@ -164,14 +171,14 @@ module _ (old new : Option (List ℕ)) (was_ended ended : Option Bool) (fell ros
 pub record HasEnded (cells : ControlCells) (before after : ControlPasses) (old new : Option (List ℕ)) (was_ended ended : Option Bool) (fell rose : ℕ) (pending : List ℕ) (cause : Cause) : Type 0 where
   pub messages : List Message
   pub left : List ℕ
-  pub gets : Gets cells.channels.now before after old new pending left messages
+  pub gets : Gets cells.channels.now cells.size before after old new pending left messages
   pub ends : EndsBy cells.channels.now cells.size (seen after.readers) was_ended ended left fell rose cause
   pub looked : HasLooked cause (seen after.stop)
 
 -- What a round came to.
 module _ (cells : ControlCells) (before after : ControlPasses) (old new : Option (List ℕ)) (was_ended ended : Option Bool) (fell rose : ℕ) (pending left : List ℕ) where
   abbrev pub Went : Option Cause → Type 0
-  Went None = ((messages : List Message) × Gets cells.channels.now before after old new pending left messages) × (ended ≡ was_ended)
+  Went None = ((messages : List Message) × Gets cells.channels.now cells.size before after old new pending left messages) × (ended ≡ was_ended)
   Went (Some cause) = HasEnded cells before after old new was_ended ended fell rose pending cause
 
 -- ---- the end

@@ -1,16 +1,17 @@
 // The rounds of the loop: in each it looks at the stop cell, and then handles one frame or reads.
-ghost use Rattle.std.specs.Prelude.{◌≡◌, ◌<◌, ◌≤◌, [], length};
+ghost use Rattle.std.specs.Prelude.{◌≡◌, ◌<◌, ◌≤◌, true, [], length, None, IfNone};
 ghost use Rattle.net_frames.specs.declared.frame.TheConstants.{LEN_MAX};
 ghost use Rattle.net_frames.specs.Faults.{IsFound};
-ghost use Rattle.turn_cell.specs.Passes.{IsSamePass};
+ghost use Rattle.turn_cell.specs.Passes.{IsSamePass, seen};
+ghost use Rattle.outside.specs.Stops.{first_met};
 ghost use Rattle.conn_grant.specs.Rounds.{AreCells, FitCells, HasHandled, HasRead, Went, HasEnded};
 
 use crate::cells::{ControlCells, ControlPasses};
 use crate::message::take_frame;
-use conn_parts::Incoming;
+use conn_parts::{Incoming, Watch};
 use flow_defs::{Cause, PeerFault};
 use net_frames::{Decoded, Frame, FrameFault, decode};
-use outside::{LinkIn, look_for_stop};
+use outside::LinkIn;
 use std::alloc::Global;
 use std::sync::Wait;
 
@@ -70,6 +71,7 @@ fn read_more<I: LinkIn, R: Wait>(rt: &R, incoming: &mut Incoming, input: &mut I)
 // One round. Answers why the loop is to end, if it is.
 fn round<I: LinkIn, R: Wait>(
     rt: &R,
+    watch: &mut Watch,
     cells: &ControlCells,
     passes: &mut ControlPasses,
     incoming: &mut Incoming,
@@ -77,12 +79,14 @@ fn round<I: LinkIn, R: Wait>(
 ) -> Option<Cause>
     requires cells { AreCells cells.now }
     requires passes { FitCells cells.now passes.old }
+    requires calm { watch.old ≡ true → first_met (seen passes.old.stop) ≡ None }
+    ensures calm { IfNone result (first_met (seen passes.new.stop) ≡ None) }
     ensures passes { FitCells cells.now passes.new × IsSamePass passes.old.stop passes.new.stop }
     ensures line { I.line input.new ≡ I.line input.old }
     ensures never_falls { I.faults input.old ≤ I.faults input.new }
     ensures went { Went cells.now passes.old passes.new (I.got input.old) (I.got input.new) (I.ended input.old) (I.ended input.new) (I.faults input.old) (I.faults input.new) incoming.old incoming.new result }
 {
-    if let Some(_) = look_for_stop(rt, cells.stop, &mut passes.stop) {
+    if let Some(_) = watch.look(rt, cells.stop, &mut passes.stop) {
         return Some(Cause::Stopped);
     }
     match decode(incoming.bytes()) {
@@ -114,8 +118,9 @@ pub(crate) fn read_frames<I: LinkIn, R: Wait>(
     let Ok(mut incoming) = Incoming::new(alloc) else {
         return Cause::Memory;
     };
+    let mut watch = Watch::new();
     for _round in rt.forever() {
-        if let Some(cause) = round(rt, cells, passes, &mut incoming, input) {
+        if let Some(cause) = round(rt, &mut watch, cells, passes, &mut incoming, input) {
             return cause;
         }
     }

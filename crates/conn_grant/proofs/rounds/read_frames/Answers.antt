@@ -14,6 +14,7 @@ loop-round-init g c = record {
   line = refl;
   ended = refl;
   never_falls = omega arith;
+  calm = λ e. let n = c.new-watch.ensures in absurd (cc);
   account = ([], gets_first c.args.cells.now c.args.passes.now (g.I.LinkIn.got c.args.input.now) c.in-Ok.incoming c.in-Ok.ensures);
 }
 
@@ -33,9 +34,10 @@ loop-round-preserved g c =
       line = c.round.ensures.line ∙ i.line;
       ended = went.1 ∙ i.ended;
       never_falls = omega (arith, i.never_falls, c.round.ensures.never_falls);
+      calm = λ _. c.in_default-round.ensures.calm;
       account = (
         i.account.0 ++ went.0.0,
-        gets_more c.args.cells.now.channels.now c.args.passes.now c.loop-round.passes c.round.new.passes (g.I.LinkIn.got first) (g.I.LinkIn.got old) (g.I.LinkIn.got new)
+        gets_more c.args.cells.now.channels.now c.args.cells.now.size c.args.passes.now c.loop-round.passes c.round.new.passes (g.I.LinkIn.got first) (g.I.LinkIn.got old) (g.I.LinkIn.got new)
             [] c.loop-round.incoming c.round.new.incoming i.account.0 went.0.0 i.account.1 went.0.1,
       );
     }

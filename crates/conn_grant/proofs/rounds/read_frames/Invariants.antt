@@ -1,5 +1,6 @@
-use Rattle.std.proofs.Common.{◌≡◌, ◌≤◌, List, []}
-use Rattle.turn_cell.specs.Passes.{IsSamePass}
+use Rattle.std.proofs.Common.{◌≡◌, ◌≤◌, true, None, List, []}
+use Rattle.turn_cell.specs.Passes.{IsSamePass, seen}
+use Rattle.outside.specs.Stops.{first_met}
 use Rattle.conn_parts.specs.Messages.{Message}
 use Rattle.conn_grant.specs.Rounds.{FitCells, Gets}
 use Rattle.conn_grant.proofs.rounds.read_frames.Given as goal
@@ -12,5 +13,6 @@ invariant-loop-round g l =
       line : g.I.LinkIn.line l.input ≡ g.I.LinkIn.line l.initial.input;
       ended : ended l.input ≡ ended l.initial.input;
       never_falls : faults l.initial.input ≤ faults l.input;
-      account : (messages : List Message) × Gets l.cells.channels.now l.initial.passes l.passes (got l.initial.input) (got l.input) [] l.incoming messages;
+      calm : l.watch ≡ true → first_met (seen l.passes.stop) ≡ None;
+      account : (messages : List Message) × Gets l.cells.channels.now l.cells.size l.initial.passes l.passes (got l.initial.input) (got l.input) [] l.incoming messages;
     }

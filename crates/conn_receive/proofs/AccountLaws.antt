@@ -111,6 +111,7 @@ items_account share after o p q was then ended fell mid rose cause r came le kep
     direction = r.read.direction;
     bytes = subst (Appended o q) (append_assoc (all_spelled r.messages) r.left came.0) (appended_more o p q (all_spelled r.messages ++ r.left) came.0 r.read.bytes came.1);
   };
+  known = r.known;
   pushed = r.pushed;
   cause_is = ended_why share after was ended r.left came.0 fell mid rose then cause le kept r.why;
   never_falls = never;

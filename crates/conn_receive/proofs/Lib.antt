@@ -1,4 +1,5 @@
 pub mod AccountLaws
+pub mod Dealt
 pub mod EndLaws
 pub mod EntryLaws
 pub mod MessageLaws

@@ -15,7 +15,7 @@ use Rattle.input_channel.specs.Answers.{parcel_in}
 use Rattle.input_channel.specs.Inboxes.{pushed}
 use Rattle.conn_parts.specs.Messages.{parcel_with, items_on}
 use Rattle.conn_parts.specs.Shares.{mine_at}
-use Rattle.conn_receive.specs.Receiving.{kind_with, arrival_with, shuts}
+use Rattle.conn_receive.specs.Receiving.{kind_with, arrival_with, shuts, IsChannel}
 use Rattle.conn_receive.specs.Turning.{InputPass}
 use Rattle.conn_receive.specs.Taking.{GaveAt, Gave, TookFrame, brought}
 
@@ -98,9 +98,10 @@ brings c channel sequence backlog what content =
     ∙ ap (λ p. brought channel p c) (sym (parcel_same what content))
 
 pub took_response : (channels : List ChannelId) (before after : List InputPass) (channel : ChannelId) (sequence backlog : ℕ) (what : ArrivalKind2) (content : List ℕ) →
-    Gave channels before after (brought channel (parcel_in (kind_with what) content)) → TookFrame channels before after (frames.BufferResponse channel sequence backlog what) content
-took_response channels before after channel sequence backlog what content gave = record {
+    IsChannel channels channel → Gave channels before after (brought channel (parcel_in (kind_with what) content)) → TookFrame channels before after (frames.BufferResponse channel sequence backlog what) content
+took_response channels before after channel sequence backlog what content known gave = record {
   direction = refl;
+  known = known;
   gave = record {
     each = λ k c at. gave.each k c at ∙ ap (λ l. pushed (mine_at k before) ++ l) (sym (brings c channel sequence backlog what content));
     open_still = gave.open_still;
@@ -108,14 +109,14 @@ took_response channels before after channel sequence backlog what content gave =
 }
 
 pub took_backlog : (channels : List ChannelId) (before after : List InputPass) (channel : ChannelId) (backlog : ℕ) (content : List ℕ) →
-    Gave channels before after (λ _. []) → TookFrame channels before after (frames.BacklogAnnouncement channel backlog) content
-took_backlog channels before after channel backlog content gave = record { direction = refl; gave = record { each = gave.each; open_still = gave.open_still } }
+    IsChannel channels channel → Gave channels before after (λ _. []) → TookFrame channels before after (frames.BacklogAnnouncement channel backlog) content
+took_backlog channels before after channel backlog content known gave = record { direction = refl; known = known; gave = record { each = gave.each; open_still = gave.open_still } }
 
 -- The same, where the channel may have refused it.
 pub took_if : (channels : List ChannelId) (before after : List InputPass) (frame : Frame) (channel : ChannelId) (sequence backlog : ℕ) (what : ArrivalKind2) (content : List ℕ) (a : Arrival) (r : Result (Unit {0}) Cause) →
     frame ≡ frames.BufferResponse channel sequence backlog what → a ≡ arrival_with sequence backlog what →
-    OnOk r (Gave channels before after (brought channel (parcel_in a.what content))) → OnOk r (TookFrame channels before after frame content)
-took_if channels before after frame channel sequence backlog what content a (Ok u) is is_a gave =
-    subst (λ f. TookFrame channels before after f content) (sym is) (took_response channels before after channel sequence backlog what content
+    OnOk r (IsChannel channels channel) → OnOk r (Gave channels before after (brought channel (parcel_in a.what content))) → OnOk r (TookFrame channels before after frame content)
+took_if channels before after frame channel sequence backlog what content a (Ok u) is is_a known gave =
+    subst (λ f. TookFrame channels before after f content) (sym is) (took_response channels before after channel sequence backlog what content known
     (subst (λ (x : Arrival). Gave channels before after (brought channel (parcel_in x.what content))) is_a gave))
-took_if channels before after frame channel sequence backlog what content a (Err cause) is is_a gave = tt
+took_if channels before after frame channel sequence backlog what content a (Err cause) is is_a known gave = tt

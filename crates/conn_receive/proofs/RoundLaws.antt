@@ -1,6 +1,7 @@
 -- What rounds of the loop did, one after another.
 use Rattle.std.proofs.Common.{◌≡◌, inl, inr, ℕ, ◌≤◌, true, false, Bool, List, [], ◌∷◌, ◌++◌, drop, Option, Some, None, refl, sym, ap, subst, ◌∙◌, append_assoc, append-nil}
 use Rattle.std.specs.Prelude.{◌≢◌, IfSome}
+use Rattle.std.proofs.lemmas.List.Elements.{All-nil, All-cons, All-append}
 use Rattle.turn_cell.specs.Passes.{IsPassOf, number, seen, mine}
 use Rattle.flow_defs.specs.declared.task.ChannelId.{ChannelId}
 use Rattle.flow_defs.specs.declared.cause.Cause.{Cause}
@@ -19,6 +20,7 @@ use Rattle.conn_parts.specs.Stopping.{StopCell, StopPass, ToldStop}
 use Rattle.conn_parts.proofs.Appends.{spelled-append, frames-append, from-append, items-append}
 use Rattle.conn_parts.proofs.Telling.{appended_none, appended_more, risen_before}
 use Rattle.conn_receive.specs.declared.cells.Cells.{Cells}
+use Rattle.conn_receive.specs.Receiving.{IsKnown}
 use Rattle.conn_receive.specs.Turning.{InputPass}
 use Rattle.conn_receive.specs.Taking.{Gave, GaveNothing, TookMessage, EndsBy, WhyEnded, WentOn, ReadToEnd}
 
@@ -34,6 +36,7 @@ went_on_read channels before after old new pending left count same came = record
   messages = [];
   frames = tt;
   direction = tt;
+  known = All-nil (IsKnown channels);
   added = came.bytes;
   told = came.told;
   spelled = sym came.behind;
@@ -47,6 +50,7 @@ went_on_took channels before after got pending left count rest took = record {
   messages = (took.frame, took.content) ∷ [];
   frames = (took.begins.is_frame, tt);
   direction = (took.took.direction, tt);
+  known = All-cons (IsKnown channels) (took.frame, took.content) [] took.took.known (All-nil (IsKnown channels));
   added = [];
   told = appended_none got;
   spelled = append-nil pending ∙ took.begins.bytes_are ∙ ap (λ l. l ++ drop count pending) (sym (append-nil (spelling took.frame took.content)))
@@ -61,6 +65,7 @@ went_nowhere channels passes got pending fresh = record {
   messages = [];
   frames = tt;
   direction = tt;
+  known = All-nil (IsKnown channels);
   added = [];
   told = appended_none got;
   spelled = sym fresh;
@@ -72,6 +77,7 @@ went_further channels a b c o p q x y z u v = record {
   messages = u.messages ++ v.messages;
   frames = frames-append u.messages v.messages u.frames v.frames;
   direction = from-append is_from_sender u.messages v.messages u.direction v.direction;
+  known = All-append (IsKnown channels) u.messages v.messages u.known v.known;
   added = u.added ++ v.added;
   told = appended_more o p q u.added v.added u.told v.told;
   spelled = sym (append_assoc x u.added v.added) ∙ ap (λ l. l ++ v.added) u.spelled ∙ append_assoc (all_spelled u.messages) y v.added ∙ ap (λ l. all_spelled u.messages ++ l) v.spelled
@@ -106,6 +112,7 @@ read_to_end cells a b c o p q was now ended left fell mid rose cause went same l
     direction = went.direction;
     bytes = subst (Appended o q) (append-nil went.added ∙ went.spelled) (appended_more o p q went.added [] went.told came);
   };
+  known = went.known;
   pushed = record {
     pushes = λ k d at. nothing.none k ∙ went.gave.each k d at;
     open_still = λ calm k. nothing.open_still calm k ∙ went.gave.open_still k;

@@ -84,6 +84,21 @@ kind_with arrivals.End = kinds.End
 abbrev pub arrival_with : ℕ → ℕ → ArrivalKind2 → Arrival
 arrival_with sequence backlog what = record { sequence = sequence; backlog = backlog; what = kind_with what }
 
+-- There is such a channel.
+abbrev pub IsChannel : List ChannelId → ChannelId → Type 0
+IsChannel channels channel = (k : ℕ) × (slice_get channels k ≡ Some channel)
+
+-- A message of the sender's end is on a channel that there is.
+abbrev pub IsKnown : List ChannelId → Message → Type 0
+IsKnown channels (frames.BufferResponse channel sequence backlog what, content) = IsChannel channels channel
+IsKnown channels (frames.BacklogAnnouncement channel backlog, content) = IsChannel channels channel
+IsKnown channels (frames.ErrorResponse channel code, content) = Unit {0}
+IsKnown channels (frames.PartitionRequest channel credit, content) = Unit {0}
+IsKnown channels (frames.Close, content) = Unit {0}
+IsKnown channels (frames.AddCredit channel credit, content) = Unit {0}
+IsKnown channels (frames.ResumeConsumption channel, content) = Unit {0}
+IsKnown channels (frames.NewBufferSize channel size, content) = Unit {0}
+
 -- The first message of the bytes that are left is on a channel that there isn't.
 abbrev pub NamesWrong : List ChannelId → Message → Type 0
 NamesWrong channels (frames.BufferResponse channel sequence backlog what, content) = (k : ℕ) → slice_get channels k ≢ Some channel
@@ -142,11 +157,12 @@ module _ (share : ConnShare) (after : SharePasses) (was_ended ended : Option Boo
   EndedBy fell rose (causes.Peer fault) = MetPeer fault
   EndedBy fell rose causes.Memory = Unit {0}
 
--- What the loop read, and what it gave to the channels.
+-- What the loop read, and what it gave to the channels. Each message that was read is on a channel that there is.
 pub record ItemsAccount (share : ConnShare) (after : SharePasses) (old new : Option (List ℕ)) (was_ended ended : Option Bool) (fell rose : ℕ) (cause : Cause) : Type 0 where
   pub messages : List Message
   pub left : List ℕ
   pub read : Read is_from_sender old new messages left
+  pub known : All (IsKnown share.channels.now) messages
   pub pushed : PushedItems share.channels.now share.passes after messages cause
   pub cause_is : EndedBy share after was_ended ended left fell rose cause
   pub never_falls : fell ≤ rose

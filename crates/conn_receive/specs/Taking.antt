@@ -32,7 +32,7 @@ use Rattle.conn_parts.specs.Stopping.{ToldStop}
 use Rattle.conn_receive.specs.declared.cells.Cells.{Cells}
 use Rattle.conn_receive.specs.declared.message.Step.{Step}
 use Rattle.conn_receive.specs.declared.message.Step.TheVariants as steps
-use Rattle.conn_receive.specs.Receiving.{shuts, is_over_credit, reads_items, arrival_with, NamesWrong, WasRefused, PushedItems}
+use Rattle.conn_receive.specs.Receiving.{shuts, is_over_credit, reads_items, arrival_with, IsKnown, NamesWrong, WasRefused, PushedItems}
 use Rattle.conn_receive.specs.Turning.{InputPass, WasRefusedWith}
 use Rattle.conn_parts.specs.Reading.{Read}
 
@@ -119,6 +119,7 @@ module _ (channels : List ChannelId) (before after : List InputPass) where
   -- A frame was taken.
   pub record TookFrame (frame : Frame) (content : List ℕ) : Type 0 where
     pub direction : is_from_sender frame ≡ true
+    pub known : IsKnown channels (frame, content)
     pub gave : Gave channels before after (λ c. items_on c ((frame, content) ∷ []))
 
   -- A frame ended the loop.
@@ -188,6 +189,7 @@ pub record WentOn (channels : List ChannelId) (before after : List InputPass) (o
   pub messages : List Message
   pub frames : AreFrames messages
   pub direction : AreFrom is_from_sender messages
+  pub known : All (IsKnown channels) messages
   pub added : List ℕ
   pub told : Appended old new added
   pub spelled : pending ++ added ≡ all_spelled messages ++ left
@@ -205,6 +207,7 @@ pub record ReadToEnd (cells : Cells) (before after : SharePasses) (old new : Opt
   pub messages : List Message
   pub left : List ℕ
   pub read : Read is_from_sender old new messages left
+  pub known : All (IsKnown cells.channels.now) messages
   pub pushed : PushedItems cells.channels.now before after messages cause
   pub why : WhyEnded cells.channels.now after was_ended ended left fell rose cause
 

@@ -9,6 +9,8 @@ mod channels;
 mod message;
 mod receive;
 mod rounds;
+#[cfg(test)]
+mod tests;
 mod turns;
 
 pub use receive::read_items;

@@ -2,7 +2,7 @@
 ghost use Rattle.std.specs.Prelude.{◌≡◌, ◌<◌, ◌≤◌, ◌⊎◌, ◌^◌, [], OnOk, IfErr};
 ghost use Rattle.net_frames.specs.Frames.{IsFrame};
 ghost use Rattle.input_channel.specs.Answers.{parcel_in};
-ghost use Rattle.conn_receive.specs.Receiving.{arrival_with};
+ghost use Rattle.conn_receive.specs.Receiving.{arrival_with, IsChannel};
 ghost use Rattle.conn_receive.specs.Taking.{AreLent, KeepsStop, Gave, IsUnknown, RefusedBy, TookFrame, EndsWith, Stepped, brought, cause_of};
 
 use crate::cells::Cells;
@@ -88,6 +88,7 @@ fn take_arrival<'p, R: Wait>(
     requires backlog { a.backlog < 2 ^ 31 }
     ensures lent { AreLent cells.now passes.new }
     ensures others { KeepsStop passes.old passes.new }
+    ensures known { OnOk result (IsChannel cells.now.channels.now channel) }
     ensures gave { OnOk result (Gave cells.now.channels.now passes.old.inputs.items passes.new.inputs.items (brought channel (parcel_in a.what bytes.now))) }
     ensures ended { IfErr result (λ cause. IsUnknown cells.now.channels.now passes.old.inputs.items passes.new.inputs.items channel cause ⊎ RefusedBy cells.now.channels.now passes.old.inputs.items passes.new.inputs.items channel a bytes.now cause) }
 {
@@ -114,6 +115,7 @@ fn take_backlog<'p, R: Wait>(
     requires backlog { n < 2 ^ 31 }
     ensures lent { AreLent cells.now passes.new }
     ensures others { KeepsStop passes.old passes.new }
+    ensures known { OnOk result (IsChannel cells.now.channels.now channel) }
     ensures gave { OnOk result (Gave cells.now.channels.now passes.old.inputs.items passes.new.inputs.items (λ _. [])) }
     ensures ended { IfErr result (λ cause. IsUnknown cells.now.channels.now passes.old.inputs.items passes.new.inputs.items channel cause) }
 {

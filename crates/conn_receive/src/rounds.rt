@@ -8,9 +8,9 @@ ghost use Rattle.conn_receive.specs.Taking.{AreLent, KeepsOthers, KeepsStop, Wen
 
 use crate::cells::Cells;
 use crate::message::{Step, take_message};
-use conn_parts::{Incoming, SharePasses};
+use conn_parts::{Incoming, SharePasses, Watch};
 use flow_defs::{Cause, PeerFault};
-use outside::{LinkIn, StopState, look_for_stop, tell_cause, tell_stop, tell_stop_if_first};
+use outside::{LinkIn, StopState, tell_cause, tell_stop, tell_stop_if_first};
 use std::sync::Wait;
 use turn_cell::{Pass, TurnCell};
 
@@ -114,8 +114,9 @@ pub(crate) fn read_rounds<'p, I: LinkIn, R: Wait>(
     ensures account { ReadToEnd cells.now passes.old passes.new (I.got input.old) (I.got input.new) (I.ended input.old) (I.ended input.new) (I.faults input.old) (I.faults input.new) result }
     ensures stop { ToldStop cells.now.stop.now result passes.old.stop passes.new.stop }
 {
+    let mut watch = Watch::new();
     for _round in rt.forever() {
-        match look_for_stop(rt, cells.stop, &mut passes.stop) {
+        match watch.look(rt, cells.stop, &mut passes.stop) {
             Some(_) => return Cause::Stopped,
             None => {}
         }

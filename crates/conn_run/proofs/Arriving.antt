@@ -1,24 +1,21 @@
 -- What the bytes of the data link tell of both ends.
-use Rattle.std.proofs.Common.{◌≡◌, ℕ, ◌⊎◌, inl, inr, Bool, List, [], ◌∷◌, ◌++◌, take, length, Option, Some, refl, sym, ap, subst, ◌∙◌}
+use Rattle.std.proofs.Common.{◌≡◌, ℕ, inl, inr, Bool, List, [], ◌++◌, take, length, Option, Some, refl, sym, ap, subst, ◌∙◌}
 use Rattle.std.specs.Prelude.{slice_get}
 use Rattle.std.proofs.Math.Seq.{take-length}
-use Rattle.turn_cell.specs.History.{StartsWith, entries_of}
-use Rattle.flow_defs.specs.declared.task.ChannelId.{ChannelId}
+use Rattle.turn_cell.specs.History.{StartsWith}
 use Rattle.flow_defs.specs.declared.cause.Cause.{Cause}
 use Rattle.flow_defs.specs.declared.cause.Cause.TheVariants as causes
 use Rattle.net_frames.specs.declared.frame.Frame.{Frame}
 use Rattle.net_frames.specs.Frames.{all_spelled}
-use Rattle.subpartition.specs.Sending.{taken}
 use Rattle.input_channel.specs.Inboxes.{pushed}
 use Rattle.conn_parts.specs.declared.share.ConnShare.{ConnShare}
 use Rattle.conn_parts.specs.declared.share.SharePasses.{SharePasses}
-use Rattle.conn_parts.specs.Shares.{mine_at, seen_at}
+use Rattle.conn_parts.specs.Shares.{mine_at}
 use Rattle.conn_parts.specs.Messages.{Message, closing, is_from_sender, items_on}
 use Rattle.conn_parts.specs.Writing.{Wrote}
 use Rattle.conn_parts.specs.Theorems.{ReadIsWritten, FrontsCarryFronts}
-use Rattle.conn_send.specs.Sending.{SendAccount}
-use Rattle.conn_receive.specs.Receiving.{ItemsAccount, EndedBy}
-use Rattle.conn_run.specs.Theorems.{ItemsArrive, Arrived}
+use Rattle.conn_receive.specs.Receiving.{EndedBy}
+use Rattle.conn_run.specs.Theorems.{ItemsArrive}
 
 pub some_is : {A : Type 0} (x y : A) → Some x ≡ Some y → x ≡ y
 some_is x y e = cc

@@ -1,10 +1,10 @@
 -- From the credit that was announced to the data that arrive, one step after another.
-use Rattle.std.proofs.Common.{◌≡◌, ◌≢◌, ℕ, zero, suc, ◌+◌, ◌<◌, ◌≤◌, ◌⊎◌, inl, inr, Bool, true, false, cond, List, [], ◌∷◌, ◌++◌, length, map, flat_map, Option, Some, refl, sym, ap, subst, ◌∙◌, arith}
+use Rattle.std.proofs.Common.{◌≡◌, ◌≢◌, ℕ, suc, ◌+◌, ◌<◌, ◌≤◌, ◌⊎◌, inl, inr, Bool, true, false, cond, List, [], ◌∷◌, ◌++◌, length, map, flat_map, refl, sym, ap, subst, ◌∙◌, arith}
 use Rattle.std.specs.Prelude.{count_by, sum_by, slice_get, slice_index_or, All}
 use Rattle.std.proofs.lemmas.List.Elements.{All-head, All-tail}
 use Rattle.std.proofs.lemmas.List.Sums.{sum_by-append, sum_by-cons}
 use Rattle.std.proofs.lemmas.Bool.{eqb-true, and_parts, false_from_ne_true}
-use Rattle.turn_cell.specs.History.{StartsWith, by, entries_of}
+use Rattle.turn_cell.specs.History.{StartsWith, entries_of}
 use Rattle.flow_defs.specs.declared.task.ChannelId.{ChannelId}
 use Rattle.flow_defs.specs.declared.task.BarrierKind.TheVariants as barrier
 use Rattle.flow_defs.specs.declared.parcel.Parcel.{Parcel}
@@ -12,13 +12,10 @@ use Rattle.flow_defs.specs.declared.parcel.Parcel.TheVariants.{Data, Barrier, En
 use Rattle.flow_defs.specs.Parcels.{is_data}
 use Rattle.credit_reader.specs.declared.reader.SentKind.{SentKind}
 use Rattle.credit_reader.specs.Senders.{AreDistinct, is_same}
-use Rattle.net_frames.specs.declared.frame.Frame.{Frame}
 use Rattle.net_frames.specs.declared.frame.Frame.TheVariants.{BufferResponse, ErrorResponse, PartitionRequest, Close, AddCredit, ResumeConsumption, BacklogAnnouncement, NewBufferSize}
 use Rattle.reader_state.specs.declared.entry.ReaderEntry.{ReaderEntry}
-use Rattle.reader_state.specs.declared.entry.ReaderEntry.TheVariants.{Asked, Granted, Resumed}
 use Rattle.reader_state.specs.Standing as readers
 use Rattle.reader_state.specs.Theorems as laws
-use Rattle.input_channel.specs.Legal.{credit_told}
 use Rattle.input_channel.specs.Inboxes.{pushed}
 use Rattle.conn_parts.specs.Shares.{mine_at}
 use Rattle.conn_parts.specs.Messages.{Message, is_from_sender, is_from_receiver, items_on, credit_in, credit_on, is_request, requests_of}

@@ -1,5 +1,6 @@
-use Rattle.std.proofs.Common.{refl, ap, ◌∙◌, [], arith}
-use Rattle.turn_cell.specs.Passes.{number, mine}
+use Rattle.std.proofs.Common.{refl, sym, ap, ◌∙◌, [], arith}
+use Rattle.turn_cell.specs.Passes.{number, mine, seen}
+use Rattle.outside.specs.Stops.{first_met}
 use Rattle.conn_parts.specs.Stopping.{StopPass}
 use Rattle.conn_receive.proofs.RoundLaws.{went_nowhere, went_further, read_to_end}
 use Rattle.conn_receive.proofs.rounds.read_rounds.Goals as goal
@@ -14,10 +15,11 @@ loop-round-init g c = record {
   account = went_nowhere c.args.cells.now.channels.now c.args.passes.now.inputs.items (g.I.LinkIn.got c.args.input.now) c.args.incoming.now c.requires.fresh;
   same_number = refl;
   no_entry = refl;
+  calm = λ e. let n = c.new-watch.ensures in absurd (cc);
 }
 
 pub loop-round-preserved : goal.loop-round-preserved
-loop-round-preserved g c = let i = c.loop-round.invariant in let went = c.in-None-go_on.ensures in let look = c.look_for_stop.ensures.pass.1 in record {
+loop-round-preserved g c = let i = c.loop-round.invariant in let went = c.in-None-go_on.ensures in let look = c.look.ensures.pass.1 in record {
   lent = went.lent;
   others = record { readers = went.others.readers ∙ i.others.readers; subpartitions = went.others.subpartitions ∙ i.others.subpartitions };
   line = went.line ∙ i.line;
@@ -27,6 +29,7 @@ loop-round-preserved g c = let i = c.loop-round.invariant in let went = c.in-Non
       (g.I.LinkIn.got c.args.input.now) (g.I.LinkIn.got c.loop-round.input) (g.I.LinkIn.got c.go_on.new.input) [] c.loop-round.incoming c.go_on.new.incoming i.account went.went_on;
   same_number = ap (λ (p : StopPass). number p) went.stop ∙ look.0 ∙ i.same_number;
   no_entry = ap (λ (p : StopPass). mine p) went.stop ∙ look.1 ∙ i.no_entry;
+  calm = λ _. ap (λ (p : StopPass). first_met (seen p)) went.stop ∙ sym (sym c.in-None-look.is ∙ c.look.ensures.answer);
 }
 
 pub returns-in-Some-go_on-clause-account : goal.returns-in-Some-go_on-clause-account

@@ -1,5 +1,6 @@
-use Rattle.std.proofs.Common.{◌≡◌, ◌≤◌, []}
-use Rattle.turn_cell.specs.Passes.{number, mine}
+use Rattle.std.proofs.Common.{◌≡◌, ◌≤◌, true, None, []}
+use Rattle.turn_cell.specs.Passes.{number, mine, seen}
+use Rattle.outside.specs.Stops.{first_met}
 use Rattle.conn_receive.specs.Taking.{AreLent, KeepsOthers, WentOn}
 use Rattle.conn_receive.proofs.rounds.read_rounds.Given as goal
 
@@ -13,4 +14,5 @@ invariant-loop-round g l = record {
   account : WentOn l.cells.channels.now l.initial.passes.inputs.items l.passes.inputs.items (g.I.LinkIn.got l.initial.input) (g.I.LinkIn.got l.input) [] l.incoming;
   same_number : number l.passes.stop ≡ number l.initial.passes.stop;
   no_entry : mine l.passes.stop ≡ mine l.initial.passes.stop;
+  calm : l.watch ≡ true → first_met (seen l.passes.stop) ≡ None;
 }

@@ -1,0 +1,7 @@
+mod Channels
+mod Dealt
+mod GroupLaws
+mod IdLaws
+mod InletLaws
+mod Puts
+mod TaskLaws

@@ -1,0 +1,27 @@
+//! A connection at work: a source, the four loops and a sink, each in a thread of its own, over links that
+//! the caller gives. Its tests run it over links in memory, and the program links_bench times it.
+#![tactic(auto)]
+
+mod carrying;
+mod cells;
+mod connection;
+mod group;
+mod idle;
+mod ids;
+mod inlet;
+mod opening;
+mod outlet;
+mod pools;
+mod shares;
+mod sink;
+mod source;
+#[cfg(test)]
+mod taps;
+#[cfg(test)]
+mod tests;
+mod workers;
+
+pub use connection::{Carried, Plan, carry, open_pool};
+pub use pools::CHANNELS_MAX;
+pub use sink::Counted;
+pub use source::Work;

@@ -220,7 +220,18 @@ fn channels_that_are_not_polled_hold_none_up(rt: HostRuntime) -> Result<(), Fail
         }
     );
     assert!(rt; carried.put < 16_000);
-    assert_eq!(rt; all_causes(&carried), [Cause::Stopped; 4]);
+    assert_eq!(rt; carried.told, Some(Cause::Memory));
+    assert_eq!(rt;
+        (carried.items, carried.asked),
+        (Cause::Stopped, Cause::Stopped)
+    );
+    // A reading loop may come to the closing frame of a stopped end before it looks at the stop cell.
+    for cause in [carried.control, carried.read] {
+        assert!(rt;
+            cause == Cause::Stopped || cause == Cause::Done,
+            "{cause:?}"
+        );
+    }
     Ok(())
 }
 

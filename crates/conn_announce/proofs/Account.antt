@@ -21,7 +21,10 @@ use Rattle.conn_announce.proofs.Going.{front_more, cut_longer}
 pub send_cause : (cause : Cause) (a b : Option (List ℕ)) (f g : ℕ) (bytes : List ℕ) → GoneOut cause a b f g bytes → IsSendCause cause
 send_cause causes.Done a b f g bytes gone = tt
 send_cause causes.Stopped a b f g bytes gone = tt
+send_cause (causes.Input source) a b f g bytes gone = gone
 send_cause causes.Link a b f g bytes gone = tt
+send_cause (causes.LongLine source) a b f g bytes gone = gone
+send_cause (causes.BigSource source) a b f g bytes gone = gone
 send_cause causes.Memory a b f g bytes gone = tt
 send_cause (causes.OverCredit channel received announced) a b f g bytes gone = gone
 send_cause (causes.Peer fault) a b f g bytes gone = gone
@@ -49,29 +52,44 @@ module _ (a b e : Option (List ℕ)) (f g h : ℕ) (ms : List Message) (frames :
       Wrote is_from_receiver a e f h ms d × (d ≡ causes.Done → c ≡ causes.Done) × IsSendCause d
   closes causes.Done causes.Done closed gone le le' = (wrote_whole _ (λ is. absurd (cc)) (appended_more a b e (all_spelled ms) closing gone closed) le le', λ is. refl, tt)
   closes causes.Done causes.Stopped closed gone le le' = absurd closed
+  closes causes.Done (causes.Input source) closed gone le le' = absurd closed
   closes causes.Done causes.Link closed gone le le' = (wrote_cut _ (λ is. absurd (cc)) (λ is. absurd (cc)) (cut_behind gone closed le) le le', λ is. absurd (cc), tt)
+  closes causes.Done (causes.LongLine source) closed gone le le' = absurd closed
+  closes causes.Done (causes.BigSource source) closed gone le le' = absurd closed
   closes causes.Done causes.Memory closed gone le le' = absurd closed
   closes causes.Done (causes.OverCredit channel received announced) closed gone le le' = absurd closed
   closes causes.Done (causes.Peer fault) closed gone le le' = absurd closed
   closes causes.Stopped causes.Done closed gone le le' = absurd closed
   closes causes.Stopped causes.Stopped closed gone le le' = (wrote_whole _ (λ is. absurd (cc)) (appended_more a b e (all_spelled ms) closing gone closed) le le', λ is. absurd (cc), tt)
+  closes causes.Stopped (causes.Input source) closed gone le le' = absurd closed
   closes causes.Stopped causes.Link closed gone le le' = (wrote_cut _ (λ is. absurd (cc)) (λ is. absurd (cc)) (cut_behind gone closed le) le le', λ is. absurd (cc), tt)
+  closes causes.Stopped (causes.LongLine source) closed gone le le' = absurd closed
+  closes causes.Stopped (causes.BigSource source) closed gone le le' = absurd closed
   closes causes.Stopped causes.Memory closed gone le le' = absurd closed
   closes causes.Stopped (causes.OverCredit channel received announced) closed gone le le' = absurd closed
   closes causes.Stopped (causes.Peer fault) closed gone le le' = absurd closed
   closes causes.Link causes.Done closed gone le le' = absurd closed
   closes causes.Link causes.Stopped closed gone le le' = absurd closed
+  closes causes.Link (causes.Input source) closed gone le le' = absurd closed
   closes causes.Link causes.Link closed gone le le' = (wrote_cut _ (λ is. absurd (cc)) (λ is. absurd (cc)) (cut_before gone closed le') le le', λ is. absurd (cc), tt)
+  closes causes.Link (causes.LongLine source) closed gone le le' = absurd closed
+  closes causes.Link (causes.BigSource source) closed gone le le' = absurd closed
   closes causes.Link causes.Memory closed gone le le' = absurd closed
   closes causes.Link (causes.OverCredit channel received announced) closed gone le le' = absurd closed
   closes causes.Link (causes.Peer fault) closed gone le le' = absurd closed
   closes causes.Memory causes.Done closed gone le le' = absurd closed
   closes causes.Memory causes.Stopped closed gone le le' = absurd closed
+  closes causes.Memory (causes.Input source) closed gone le le' = absurd closed
   closes causes.Memory causes.Link closed gone le le' = absurd closed
+  closes causes.Memory (causes.LongLine source) closed gone le le' = absurd closed
+  closes causes.Memory (causes.BigSource source) closed gone le le' = absurd closed
   closes causes.Memory causes.Memory (inl told) gone le le' = (wrote_whole _ (λ is. absurd (cc)) (appended_more a b e (all_spelled ms) closing gone told) le le', λ is. absurd (cc), tt)
   closes causes.Memory causes.Memory (inr cut) gone le le' = (wrote_cut _ (λ is. absurd (cc)) (λ is. absurd (cc)) (cut_behind gone cut le) le le', λ is. absurd (cc), tt)
   closes causes.Memory (causes.OverCredit channel received announced) closed gone le le' = absurd closed
   closes causes.Memory (causes.Peer fault) closed gone le le' = absurd closed
+  closes (causes.Input source) d closed gone le le' = absurd gone
+  closes (causes.LongLine source) d closed gone le le' = absurd gone
+  closes (causes.BigSource source) d closed gone le le' = absurd gone
   closes (causes.OverCredit channel received announced) d closed gone le le' = absurd gone
   closes (causes.Peer fault) d closed gone le le' = absurd gone
 

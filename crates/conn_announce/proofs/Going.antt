@@ -62,6 +62,9 @@ pub gone_on : (a b c : Option (List ℕ)) (f g h : ℕ) (xs ys : List ℕ) (caus
 gone_on a b c f g h xs ys causes.Done le told gone = appended_more a b c xs ys told gone
 gone_on a b c f g h xs ys causes.Stopped le told gone = appended_more a b c xs ys told gone
 gone_on a b c f g h xs ys causes.Memory le told gone = appended_more a b c xs ys told gone
+gone_on a b c f g h xs ys (causes.Input source) le told gone = absurd gone
 gone_on a b c f g h xs ys causes.Link le told (front, risen) = (front_more a b c xs ys told front, risen_before f g h le risen)
+gone_on a b c f g h xs ys (causes.LongLine source) le told gone = absurd gone
+gone_on a b c f g h xs ys (causes.BigSource source) le told gone = absurd gone
 gone_on a b c f g h xs ys (causes.OverCredit channel received announced) le told gone = absurd gone
 gone_on a b c f g h xs ys (causes.Peer fault) le told gone = absurd gone

@@ -56,6 +56,7 @@ module _ (share : ConnShare) (after : SharePasses) (w e f : Option Bool) (left m
   met_peer peers.Channel h cut = (h.0, with_more h.0 left more h.1, h.2)
   met_peer peers.Credit h cut = h
   met_peer peers.Resume h cut = h
+  met_peer peers.Left h cut = absurd h
   met_peer peers.Cut h cut = let told = cut refl in (subst (λ v. IfSome w (λ _. v ≡ Some true)) (sym told.0) h, told.1)
   met_peer peers.Refused h cut = absurd h
 
@@ -63,7 +64,10 @@ module _ (share : ConnShare) (after : SharePasses) (w e f : Option Bool) (left m
       (met ≡ causes.Peer peers.Cut → (f ≡ e) × (first_met (seen after.stop) ≡ Some (causes.Peer peers.Cut))) → EndedBy share after w f (left ++ more) k m met
   ended_by k l m causes.Done le h cut = ((h.0.0 ++ more, ap (λ l. l ++ more) h.0.1 ∙ append_assoc closing h.0.0 more), h.1)
   ended_by k l m causes.Stopped le h cut = tt
+  ended_by k l m (causes.Input source) le h cut = absurd h
   ended_by k l m causes.Link le h cut = risen_after k l m h le
+  ended_by k l m (causes.LongLine source) le h cut = absurd h
+  ended_by k l m (causes.BigSource source) le h cut = absurd h
   ended_by k l m (causes.OverCredit channel received announced) le h cut = absurd h
   ended_by k l m (causes.Peer fault) le h cut = met_peer fault h cut
   ended_by k l m causes.Memory le h cut = tt

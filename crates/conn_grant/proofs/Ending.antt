@@ -43,6 +43,7 @@ meets_any channels size history w e left peers.AfterEnd ne h = h
 meets_any channels size history w e left peers.Channel ne h = h
 meets_any channels size history w e left peers.Credit ne h = h
 meets_any channels size history w e left peers.Resume ne h = h
+meets_any channels size history w e left peers.Left ne h = h
 meets_any channels size history w e left peers.Cut ne h = absurd (ne refl)
 meets_any channels size history w e left peers.Refused ne h = h
 
@@ -62,7 +63,10 @@ module _ (cells : ControlCells) (first a : ControlPasses) (readers : a.readers �
     looked = record { stopped = λ e. absurd (cc); done = λ e. empty };
   }
   round_handled b o w k x y (Some causes.Stopped) empty h = absurd h
+  round_handled b o w k x y (Some (causes.Input source)) empty h = absurd h
   round_handled b o w k x y (Some causes.Link) empty h = absurd h
+  round_handled b o w k x y (Some (causes.LongLine source)) empty h = absurd h
+  round_handled b o w k x y (Some (causes.BigSource source)) empty h = absurd h
   round_handled b o w k x y (Some (causes.OverCredit channel received announced)) empty h = absurd h
   round_handled b o w k x y (Some (causes.Peer fault)) empty h = record {
     messages = h.0;
@@ -78,6 +82,7 @@ module _ (cells : ControlCells) (first a : ControlPasses) (readers : a.readers �
       (([], subst (λ z. Gets cells.channels.now cells.size first a o p x z []) (sym h.2) (gets_bytes cells.channels.now cells.size first a o p x h.0 readers subpartitions h.1)), h.3)
   round_read o p w e k l x y (Some causes.Done) h = absurd h
   round_read o p w e k l x y (Some causes.Stopped) h = absurd h
+  round_read o p w e k l x y (Some (causes.Input source)) h = absurd h
   round_read o p w e k l x y (Some causes.Link) h = record {
     messages = [];
     left = x ++ [];
@@ -85,6 +90,8 @@ module _ (cells : ControlCells) (first a : ControlPasses) (readers : a.readers �
     ends = h.1;
     looked = record { stopped = λ e. absurd (cc); done = λ e. absurd (cc) };
   }
+  round_read o p w e k l x y (Some (causes.LongLine source)) h = absurd h
+  round_read o p w e k l x y (Some (causes.BigSource source)) h = absurd h
   round_read o p w e k l x y (Some (causes.OverCredit channel received announced)) h = absurd h
   round_read o p w e k l x y (Some (causes.Peer peers.BadFrame)) h = absurd h
   round_read o p w e k l x y (Some (causes.Peer peers.Sequence)) h = absurd h
@@ -94,6 +101,7 @@ module _ (cells : ControlCells) (first a : ControlPasses) (readers : a.readers �
   round_read o p w e k l x y (Some (causes.Peer peers.Channel)) h = absurd h
   round_read o p w e k l x y (Some (causes.Peer peers.Credit)) h = absurd h
   round_read o p w e k l x y (Some (causes.Peer peers.Resume)) h = absurd h
+  round_read o p w e k l x y (Some (causes.Peer peers.Left)) h = absurd h
   round_read o p w e k l x y (Some (causes.Peer peers.Cut)) h = record {
     messages = [];
     left = x ++ h.0;
@@ -129,7 +137,10 @@ risen_end : (channels : List ChannelId) (size : ℕ) (history : List (ℕ × Rea
     EndsBy channels size history w e left l m cause → EndsBy channels size history w e left k m cause
 risen_end channels size history w e left k l m causes.Done le h = h
 risen_end channels size history w e left k l m causes.Stopped le h = h
+risen_end channels size history w e left k l m (causes.Input source) le h = h
 risen_end channels size history w e left k l m causes.Link le h = risen_before k l m le h
+risen_end channels size history w e left k l m (causes.LongLine source) le h = h
+risen_end channels size history w e left k l m (causes.BigSource source) le h = h
 risen_end channels size history w e left k l m (causes.OverCredit channel received announced) le h = h
 risen_end channels size history w e left k l m (causes.Peer fault) le h = h
 risen_end channels size history w e left k l m causes.Memory le h = h

@@ -161,5 +161,6 @@ handled_fault cells a b bytes left frame content rest peers.Resume begins took =
 handled_fault cells a b bytes left frame content rest peers.Sequence begins took = absurd took.1
 handled_fault cells a b bytes left frame content rest peers.Barrier begins took = absurd took.1
 handled_fault cells a b bytes left frame content rest peers.AfterEnd begins took = absurd took.1
+handled_fault cells a b bytes left frame content rest peers.Left begins took = absurd took.1
 handled_fault cells a b bytes left frame content rest peers.Cut begins took = absurd took.1
 handled_fault cells a b bytes left frame content rest peers.Refused begins took = absurd took.1

@@ -68,12 +68,16 @@ module _ (share : ConnShare) (after : SharePasses) (was ended : Option Bool) (le
   met_by peers.Refused h = (h.0, h.1, with_more _ left more h.2)
   met_by peers.Credit h = absurd h
   met_by peers.Resume h = absurd h
+  met_by peers.Left h = absurd h
   met_by peers.Cut h = absurd h
 
   ended_by : (fell rose : ℕ) (cause : Cause) → EndsBy share.channels.now after.inputs.items left cause → EndedBy share after was ended (left ++ more) fell rose cause
   ended_by fell rose causes.Done h = starts_more left more h
   ended_by fell rose causes.Stopped h = absurd h
+  ended_by fell rose (causes.Input source) h = absurd h
   ended_by fell rose causes.Link h = absurd h
+  ended_by fell rose (causes.LongLine source) h = absurd h
+  ended_by fell rose (causes.BigSource source) h = absurd h
   ended_by fell rose (causes.OverCredit channel received announced) h = record {
     place = h.place;
     is = h.is;

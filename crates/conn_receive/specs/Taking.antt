@@ -163,7 +163,10 @@ module _ (channels : List ChannelId) (after : List InputPass) (left : List ℕ) 
   abbrev pub EndsBy : Cause → Type 0
   EndsBy causes.Done = StartsWith left closing
   EndsBy causes.Stopped = ⊥
+  EndsBy (causes.Input source) = ⊥
   EndsBy causes.Link = ⊥
+  EndsBy (causes.LongLine source) = ⊥
+  EndsBy (causes.BigSource source) = ⊥
   EndsBy (causes.OverCredit channel received announced) = WasShutAt channel received announced
   EndsBy (causes.Peer fault) = EndsByPeer fault
   EndsBy causes.Memory = Unit {0}

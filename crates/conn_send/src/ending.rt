@@ -54,10 +54,13 @@ pub fn end_half<O: LinkOut, R: Wait>(
                 tell_cause(rt, stop, stop_pass, Cause::Link);
                 Cause::Link
             }
+            Cause::Input { .. } => cause,
             Cause::Link => Cause::Link,
-            Cause::Memory => Cause::Memory,
+            Cause::LongLine { .. } => cause,
+            Cause::BigSource { .. } => cause,
             Cause::OverCredit { .. } => cause,
             Cause::Peer { .. } => cause,
+            Cause::Memory => Cause::Memory,
         },
     }
 }

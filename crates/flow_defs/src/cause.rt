@@ -22,6 +22,8 @@ pub enum PeerFault {
     Credit,
     /// A resumption that still resumed nothing once the channel's end had been sent.
     Resume,
+    /// The end of a channel in the middle of a record, or a length that is no record's.
+    Left,
     /// The end of the bytes before a closing frame.
     Cut,
     /// An error response.
@@ -35,8 +37,20 @@ pub enum Cause {
     Done,
     /// Another worker had met a fault before.
     Stopped,
+    /// A read of the source failed. Sources are counted from 0.
+    Input {
+        source: u32,
+    },
     /// Its half of a link failed.
     Link,
+    /// A line of the source is longer than a record may be.
+    LongLine {
+        source: u32,
+    },
+    /// The source has more bytes than it may have.
+    BigSource {
+        source: u32,
+    },
     /// A data frame came whose number on its channel is above the credit announced there. Both numbers
     /// are modulo 2^64.
     OverCredit {

@@ -1,4 +1,5 @@
 pub mod CountLemmas
+pub mod EndLaws
 pub mod LineLemmas
 pub mod KeptLemmas
 pub mod PollLemmas

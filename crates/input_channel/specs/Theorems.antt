@@ -1,6 +1,6 @@
 -- The laws of a channel's receiving end.
 use Rattle.std.specs.Prelude.{◌≡◌, ℕ, ◌+◌, ◌<◌, true, Bool, List, [], ◌∷◌, ◌++◌, map, length, option_to_list, None}
-use Rattle.flow_defs.specs.Parcels.{data_of, barriers_of}
+use Rattle.flow_defs.specs.Parcels.{data_of, barriers_of, has_end}
 use Rattle.turn_cell.specs.History.{by}
 use Rattle.input_channel.specs.declared.entry.Gave.{Gave}
 use Rattle.input_channel.specs.declared.entry.ReceiveEntry.{ReceiveEntry}
@@ -49,6 +49,11 @@ CreditAgrees = (room : ℕ) (es : List ReceiveEntry) → IsHistory (MayReceive r
 abbrev pub ArrivalsAreNumbered : Type 0
 ArrivalsAreNumbered = (room : ℕ) (es : List ReceiveEntry) → IsHistory (MayReceive room) es →
     map (λ barrier. barrier.0) (barriers_of (pushed es)) ≡ range_with_len 1 (length (barriers_of (pushed es)))
+
+-- Once the end was given nothing waits, and it had arrived.
+abbrev pub EndIsGivenLast : Type 0
+EndIsGivenLast = (room : ℕ) (es : List ReceiveEntry) → IsHistory (MayReceive room) es → has_end (inbox es).given ≡ true →
+    (waiting (inbox es).arrivals ≡ []) × (has_end (pushed es) ≡ true)
 
 -- ---- of a channel and the history for which it stands
 

@@ -1,5 +1,5 @@
 //! The laws of histories. Each function does nothing; what it ensures is the law.
-ghost use Rattle.input_channel.specs.Theorems.{ArrivalsArePushed, DataComeInOrder, BarriersComeInOrder, ShutAnnouncesNothing, CreditAgrees, AnnouncedIsTold, ArrivalsAreNumbered, OpensEmpty, CallsAreLegal, CallsAddEntries, PassesAreKept, EntriesAreLegal, PollTells, ReturnFits, OverCreditIsSpent, AcceptedIsAllowed, PolledIsAllowed, AnswerIsGiven, ReaderTellsPushed, GateTellsBuffers, WriterTellsCredit, GivenStays};
+ghost use Rattle.input_channel.specs.Theorems.{ArrivalsArePushed, DataComeInOrder, BarriersComeInOrder, ShutAnnouncesNothing, CreditAgrees, AnnouncedIsTold, ArrivalsAreNumbered, EndIsGivenLast, OpensEmpty, CallsAreLegal, CallsAddEntries, PassesAreKept, EntriesAreLegal, PollTells, ReturnFits, OverCreditIsSpent, AcceptedIsAllowed, PolledIsAllowed, AnswerIsGiven, ReaderTellsPushed, GateTellsBuffers, WriterTellsCredit, GivenStays};
 
 /// What every history keeps: what arrived is what was pushed, polls give data in the order of arrival,
 /// and barriers too, and nothing is announced once the channel was shut.
@@ -10,11 +10,13 @@ pub fn histories_keep_order()
     ensures shut { ShutAnnouncesNothing }
 {}
 
-/// What every legal history keeps: the account of credit, and the numbers of its barriers.
+/// What every legal history keeps: the account of credit, the numbers of its barriers, and that the end
+/// is given last.
 pub fn legal_histories_agree()
     ensures credit { CreditAgrees }
     ensures told { AnnouncedIsTold }
     ensures numbered { ArrivalsAreNumbered }
+    ensures end { EndIsGivenLast }
 {}
 
 /// What the calls of a channel tell of the history for which it stands.

@@ -1,0 +1,26 @@
+-- Passes that the tests deal out one by one, the last one first.
+use Rattle.std.proofs.Common.{◌≡◌, ℕ, zero, suc, List, [], ◌∷◌, ◌++◌, length, refl, ap, ◌∙◌}
+use mathlib.Core.Option.{some}
+use lib.ListN.{get_elem?}
+use Rattle.turn_cell.specs.declared.cell.TurnCell.{TurnCell}
+use Rattle.turn_cell.specs.declared.pass.Pass.{Pass}
+use Rattle.turn_cell.specs.Passes.{IsPassOf}
+use Rattle.turn_cell.specs.Closing.{AreFresh, IsFresh}
+
+module _ {A : Type 0} where
+  in_front : (xs ys : List A) (k : ℕ) (x : A) → get_elem? xs k ≡ some x → get_elem? (xs ++ ys) k ≡ some x
+  in_front [] ys k x at = absurd (cc)
+  in_front (y ∷ xs) ys zero x at = at
+  in_front (y ∷ xs) ys (suc k) x at = in_front xs ys k x at
+
+  at_last : (xs : List A) (x : A) → get_elem? (xs ++ x ∷ []) (length xs) ≡ some x
+  at_last [] x = refl
+  at_last (y ∷ xs) x = at_last xs x
+
+module _ {S E F : Type 0} where
+  pub still_fresh : (cell : TurnCell S E F) (passes rest : List (Pass S E F)) (last : Pass S E F) → passes ≡ rest ++ last ∷ [] → AreFresh cell passes → AreFresh cell rest
+  still_fresh cell passes rest last is fresh k pass at = fresh k pass (ap (λ l. get_elem? l k) is ∙ in_front rest (last ∷ []) k pass at)
+
+  pub last_fresh : (cell : TurnCell S E F) (passes rest : List (Pass S E F)) (last : Pass S E F) → passes ≡ rest ++ last ∷ [] → AreFresh cell passes →
+      IsPassOf cell last × IsFresh (length rest) last
+  last_fresh cell passes rest last is fresh = fresh (length rest) last (ap (λ l. get_elem? l (length rest)) is ∙ at_last rest last)

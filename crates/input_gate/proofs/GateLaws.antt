@@ -1,0 +1,250 @@
+-- What a gate tells of the passes that it has, and what a gate is when it is made.
+use Rattle.std.proofs.Common.{◌≡◌, ◌≢◌, ◌⊎◌, inl, inr, ℕ, zero, suc, ◌+◌, ◌-◌, ◌<◌, ◌≤◌, Bool, true, false, List, [], ◌∷◌, ◌++◌, map, length, get_or, take, drop, refl, sym, ap, subst, ◌∙◌, arith, Result, Ok, Err, Option, Some, None, true≢false, append-nil, append_assoc}
+use Rattle.std.specs.Prelude.{slice_get, All, IfSome, IfOk, OnOk, is_some}
+use Rattle.input_gate.specs.declared.gate.GateEnd.{GateEnd}
+use Rattle.input_gate.specs.States.{GateState, LookedFirst, AllCameBack}
+use Rattle.std.specs.List.{AllByRecursion}
+use Rattle.std.specs.Option.{option_map_or}
+use Rattle.std.proofs.lemmas.List.{length-map, drop_more}
+use Rattle.std.proofs.lemmas.List.Elements.{recursion_from_All, All-from_recursion}
+use Rattle.turn_cell.specs.Passes.{IsPassOf, opened_with, number, seen, mine}
+use Rattle.flow_defs.specs.Parcels.{data_of, has_end, barriers_of}
+use Rattle.flow_defs.specs.Records.{all_encoded, spans, IsShort}
+use Rattle.flow_defs.specs.declared.cause.Cause.{Cause}
+use Rattle.conn_parts.specs.Shares.{AreOf, AreOwn, AreNew, seen_at, mine_at}
+use Rattle.input_channel.specs.declared.entry.ReceiveEntry.{ReceiveEntry}
+use Rattle.input_channel.specs.declared.held.HeldBuf.{HeldBuf}
+use Rattle.input_channel.specs.Legal.{polled_with, returned, asks, inline_in}
+use Rattle.outside.specs.declared.stop.StopEntry.{StopEntry}
+use Rattle.outside.specs.Stops.{first_met}
+use Rattle.input_gate.specs.declared.gate.GateItem.{GateItem}
+use Rattle.input_gate.specs.declared.gate.GateItem.TheVariants as items
+use Rattle.input_gate.specs.declared.lane.Lane.{Lane}
+use Rattle.input_gate.specs.Gates.{Account, IsNew, lines_in}
+use Rattle.input_gate.specs.Turning.{InputCell, InputPass, IsEven, Looked, given_in, given_to}
+use Rattle.input_gate.specs.Told.{told, IsRead}
+use Rattle.input_gate.specs.Lanes.{IsLane, polled, left_of, told_by, barriers_by, resumed_by, ready_bytes, spare_bytes, weight, due_back}
+use Rattle.input_gate.specs.Channels.{AreLanes, AreQuiet, HaveNoSpare, account_of, at_of, cells_in, passes_in, seen_in, LookedIn}
+use Rattle.input_gate.specs.Making.{IsFreshLane, AreFreshLanes}
+use Rattle.input_gate.proofs.Growing.{gives-all, all-short, spans-all}
+use Rattle.input_gate.proofs.RoundLaws.{looked_through, same_of}
+
+-- ---- passes by their place
+
+pub seen_at_is : (ls : List Lane) (c : ℕ) → seen_at c (passes_in ls) ≡ seen_in ls c
+seen_at_is [] c = refl
+seen_at_is (l ∷ ls) zero = refl
+seen_at_is (l ∷ ls) (suc c) = seen_at_is ls c
+
+pub cells_length : (ls ms : List Lane) → cells_in ms ≡ cells_in ls → length ms ≡ length ls
+cells_length ls ms e = sym (length-map ms (λ (lane : Lane). lane.cell.now)) ∙ ap length e ∙ length-map ls (λ (lane : Lane). lane.cell.now)
+
+-- ---- what the passes tell
+
+pub bytes_at : (size : ℕ) (ls : List Lane) → AreLanes size ls → (c : ℕ) → data_of (given_in (seen_at c (passes_in ls))) ≡ all_encoded (lines_in ((account_of ls).told c)) ++ (account_of ls).left c
+bytes_at size [] h c = refl
+bytes_at size (l ∷ ls) h zero = gives-all (polled l) (left_of l) h.0.read
+bytes_at size (l ∷ ls) h (suc c) = bytes_at size ls h.1 c
+
+pub ends_of : (size : ℕ) (ls : List Lane) → AreLanes size ls → (c : ℕ) → (account_of ls).ended c ≡ true → has_end (given_in (seen_at c (passes_in ls))) ≡ true
+ends_of size [] h c e = absurd (true≢false (sym e))
+ends_of size (l ∷ ls) h zero e = h.0.ends e
+ends_of size (l ∷ ls) h (suc c) e = ends_of size ls h.1 c e
+
+pub short_at : (size : ℕ) (ls : List Lane) → AreLanes size ls → (c : ℕ) → AllByRecursion IsShort (lines_in ((account_of ls).told c))
+short_at size [] h c = tt
+short_at size (l ∷ ls) h zero = all-short (polled l) (left_of l) h.0.read
+short_at size (l ∷ ls) h (suc c) = short_at size ls h.1 c
+
+pub came_back : (size : ℕ) (ls : List Lane) → AreLanes size ls → HaveNoSpare ls → (c : ℕ) (exclusive : Bool) → returned exclusive (mine_at c (passes_in ls)) ≡ polled_with exclusive (mine_at c (passes_in ls))
+came_back size [] h none c exclusive = refl
+came_back size (l ∷ ls) h none zero exclusive = subst IsEven (append-nil (mine l.pass)) (subst (λ s. IsEven (mine l.pass ++ due_back s)) (none 0) h.0.even) exclusive
+came_back size (l ∷ ls) h none (suc c) exclusive = came_back size ls h.1 (λ d. none (suc d)) c exclusive
+
+each_of : (size : ℕ) (ls : List Lane) → AreLanes size ls → (k : ℕ) (cell : InputCell) (pass : InputPass) → slice_get (cells_in ls) k ≡ Some cell → slice_get (passes_in ls) k ≡ Some pass → IsPassOf cell pass
+each_of size [] h k cell pass e f = cc
+each_of size (l ∷ ls) h zero cell pass e f = subst (λ c. IsPassOf c pass) (same l.cell.now cell e) (subst (λ p. IsPassOf l.cell.now p) (same l.pass pass f) h.0.pass.0)
+  where
+    same : {A : Type 0} (x y : A) → Some x ≡ Some y → x ≡ y
+    same x y e = cc
+each_of size (l ∷ ls) h (suc k) cell pass e f = each_of size ls h.1 k cell pass e f
+
+numbers_are : (size : ℕ) (ls : List Lane) → AreLanes size ls → AllByRecursion (λ (pass : InputPass). number pass ≡ 0) (passes_in ls)
+numbers_are size [] h = tt
+numbers_are size (l ∷ ls) h = (h.0.pass.1, numbers_are size ls h.1)
+
+pub own_of : (size : ℕ) (ls : List Lane) → AreLanes size ls → AreOwn 0 (cells_in ls) (passes_in ls)
+own_of size ls h = record {
+  of_cells = record { many = length-map ls (λ (lane : Lane). lane.pass) ∙ sym (length-map ls (λ (lane : Lane). lane.cell.now)); each = each_of size ls h };
+  numbered = All-from_recursion (λ (pass : InputPass). number pass ≡ 0) (passes_in ls) (numbers_are size ls h);
+}
+
+-- ---- stops
+
+stop_seen : (history : List (ℕ × StopEntry)) (met : Option Cause) → met ≡ first_met history → is_some met ≡ true → history ≢ []
+stop_seen history met e some none = absurd (true≢false (sym some ∙ ap is_some (e ∙ ap first_met none)))
+
+pub seen_stop : (history : List (ℕ × StopEntry)) (met : Option Cause) (some : Bool) → met ≡ first_met history → some ≡ is_some met → some ≡ true → history ≢ []
+seen_stop history met some e is found = stop_seen history met e (sym is ∙ found)
+
+-- ---- looks
+
+pub looked_on : (hold : Bool) (ls ms ns : List Lane) (item : GateItem) → AreQuiet ls ms → length ms ≡ length ls → LookedIn hold ms item ns → LookedIn hold ls item ns
+looked_on hold ls ms ns (items.Line c line) q same k = λ d low. looked_through hold ls ms ns ns q (λ d. (refl, refl)) d (k d (subst (λ n. d < n) (sym same) low))
+looked_on hold ls ms ns (items.Barrier c k kind) q same h = tt
+looked_on hold ls ms ns items.AllEnded q same h = tt
+
+-- ---- a gate that is made
+
+module _ (size : ℕ) (c : InputCell) (p : InputPass) (l : Lane) (f : IsFreshLane c p l) (pass : IsPassOf c p) (first : number p ≡ 0) (no_entry : mine p ≡ []) (unseen : seen p ≡ []) (fits : (opened_with c).size ≡ size) where
+  given_none : polled l ≡ []
+  given_none = ap given_to f.pass_is ∙ ap given_in unseen
+
+  left_none : left_of l ≡ []
+  left_none = ap (λ r. ready_bytes r ++ (l.reader ++ spare_bytes l.spare)) f.ready_is ∙ ap (λ s. l.reader ++ spare_bytes s) f.spare_is ∙ append-nil l.reader ∙ f.reader_is
+
+  mine_none : mine l.pass ≡ []
+  mine_none = ap mine f.pass_is ∙ no_entry
+
+  read_none : IsRead [] []
+  read_none = record { lines = []; short = tt; is = refl; before = refl; past_short = tt }
+
+  even_none_yet : IsEven []
+  even_none_yet kind = refl
+
+  told_none : told [] [] ≡ []
+  told_none = ap (map Rattle.input_gate.specs.Gates.Line) (spans-all [] tt)
+
+  pub lane_fresh : IsLane size l
+  lane_fresh = record {
+    pass = (subst (λ cell. IsPassOf cell l.pass) (sym f.cell_is) (subst (IsPassOf c) (sym f.pass_is) pass), ap number f.pass_is ∙ first);
+    size_is = ap (λ (cell : InputCell). (opened_with cell).size) f.cell_is ∙ fits;
+    read = subst (λ ps. IsRead ps (left_of l)) (sym given_none) (subst (IsRead []) (sym left_none) read_none);
+    count = f.barriers_are ∙ ap (λ ps. length (barriers_of ps)) (sym given_none);
+    asked = ap (λ es. asks es + weight l.blocked) mine_none ∙ ap (λ b. 0 + weight b) f.blocked_is ∙ ap inline_in (sym given_none);
+    ends = λ e. absurd (true≢false (sym e ∙ f.ended_is));
+    even = subst (λ es. IsEven (es ++ due_back l.spare)) (sym mine_none) (subst (λ s. IsEven (due_back s)) (sym f.spare_is) even_none_yet);
+    spare_size = subst (λ s. IfSome s (λ buf. length buf.segment ≡ size)) (sym f.spare_is) tt;
+    short = subst (λ r. IfSome r (λ line. IsShort line.items)) (sym f.ready_is) tt;
+  }
+
+  pub new_told : told_by l ≡ []
+  new_told = ap (λ ps. told ps (left_of l)) given_none ∙ ap (told []) left_none ∙ told_none
+
+  pub new_barriers : barriers_by l ≡ []
+  new_barriers = ap barriers_of given_none
+
+  pub new_resumed : resumed_by l ≡ 0
+  new_resumed = ap asks mine_none
+
+-- Lists of cells and passes.
+pub record AreFirst (size : ℕ) (cells : List InputCell) (passes : List InputPass) : Type 0 where
+  pub each : (k : ℕ) (cell : InputCell) (pass : InputPass) → slice_get cells k ≡ Some cell → slice_get passes k ≡ Some pass → IsPassOf cell pass
+  pub first : AllByRecursion (λ (pass : InputPass). number pass ≡ 0) passes
+  pub no_entry : AllByRecursion (λ (pass : InputPass). mine pass ≡ []) passes
+  pub unseen : AllByRecursion (λ (pass : InputPass). seen pass ≡ []) passes
+  pub fits : AllByRecursion (λ (cell : InputCell). (opened_with cell).size ≡ size) cells
+
+pub first_of : (size : ℕ) (cells : List InputCell) (passes : List InputPass) → AreOwn 0 cells passes → AreNew passes → All (λ (pass : InputPass). seen pass ≡ []) passes → All (λ (cell : InputCell). (opened_with cell).size ≡ size) cells → AreFirst size cells passes
+first_of size cells passes own new unseen fits = record {
+  each = own.of_cells.each;
+  first = recursion_from_All (λ (pass : InputPass). number pass ≡ 0) passes own.numbered;
+  no_entry = recursion_from_All (λ (pass : InputPass). mine pass ≡ []) passes new;
+  unseen = recursion_from_All (λ (pass : InputPass). seen pass ≡ []) passes unseen;
+  fits = recursion_from_All (λ (cell : InputCell). (opened_with cell).size ≡ size) cells fits;
+}
+
+first_rest : (size : ℕ) (cell : InputCell) (cells : List InputCell) (pass : InputPass) (passes : List InputPass) → AreFirst size (cell ∷ cells) (pass ∷ passes) → AreFirst size cells passes
+first_rest size cell cells pass passes h = record { each = λ k. h.each (suc k); first = h.first.1; no_entry = h.no_entry.1; unseen = h.unseen.1; fits = h.fits.1 }
+
+pub lanes_fresh : (size : ℕ) (cells : List InputCell) (passes : List InputPass) (ls : List Lane) → AreFreshLanes cells passes ls → AreFirst size cells passes → AreLanes size ls
+lanes_fresh size [] [] [] f h = tt
+lanes_fresh size [] [] (l ∷ ls) f h = absurd f
+lanes_fresh size [] (p ∷ ps) ls f h = absurd f
+lanes_fresh size (c ∷ cs) [] ls f h = absurd f
+lanes_fresh size (c ∷ cs) (p ∷ ps) [] f h = absurd f
+lanes_fresh size (c ∷ cs) (p ∷ ps) (l ∷ ls) f h = (lane_fresh size c p l f.0 (h.each 0 c p refl refl) h.first.0 h.no_entry.0 h.unseen.0 h.fits.0, lanes_fresh size cs ps ls f.1 (first_rest size c cs p ps h))
+
+pub cells_fresh : (cells : List InputCell) (passes : List InputPass) (ls : List Lane) → AreFreshLanes cells passes ls → cells_in ls ≡ cells
+cells_fresh [] [] [] f = refl
+cells_fresh [] [] (l ∷ ls) f = absurd f
+cells_fresh [] (p ∷ ps) ls f = absurd f
+cells_fresh (c ∷ cs) [] ls f = absurd f
+cells_fresh (c ∷ cs) (p ∷ ps) [] f = absurd f
+cells_fresh (c ∷ cs) (p ∷ ps) (l ∷ ls) f = ap (λ x. x ∷ cells_in ls) f.0.cell_is ∙ ap (λ xs. c ∷ xs) (cells_fresh cs ps ls f.1)
+
+pub length_fresh : (cells : List InputCell) (passes : List InputPass) (ls : List Lane) → AreFreshLanes cells passes ls → length ls ≡ length cells
+length_fresh cells passes ls f = sym (length-map ls (λ (lane : Lane). lane.cell.now)) ∙ ap length (cells_fresh cells passes ls f)
+
+module _ {A : Type 0} (w : Lane → A) (z : A) (size : ℕ)
+    (none : (c : InputCell) (p : InputPass) (l : Lane) → IsFreshLane c p l → IsPassOf c p → number p ≡ 0 → mine p ≡ [] → seen p ≡ [] → (opened_with c).size ≡ size → w l ≡ z) where
+  at_fresh : (cells : List InputCell) (passes : List InputPass) (ls : List Lane) → AreFreshLanes cells passes ls → AreFirst size cells passes → (d : ℕ) → at_of w z ls d ≡ z
+  at_fresh [] [] [] f h d = refl
+  at_fresh [] [] (l ∷ ls) f h d = absurd f
+  at_fresh [] (p ∷ ps) ls f h d = absurd f
+  at_fresh (c ∷ cs) [] ls f h d = absurd f
+  at_fresh (c ∷ cs) (p ∷ ps) [] f h d = absurd f
+  at_fresh (c ∷ cs) (p ∷ ps) (l ∷ ls) f h zero = none c p l f.0 (h.each 0 c p refl refl) h.first.0 h.no_entry.0 h.unseen.0 h.fits.0
+  at_fresh (c ∷ cs) (p ∷ ps) (l ∷ ls) f h (suc d) = at_fresh cs ps ls f.1 (first_rest size c cs p ps h) d
+
+pub is_new : (size : ℕ) (cells : List InputCell) (passes : List InputPass) (ls : List Lane) → AreFreshLanes cells passes ls → AreFirst size cells passes → IsNew (account_of ls)
+is_new size cells passes ls f h = record {
+  told = at_fresh told_by [] size (λ c p l f a b m s k. new_told size c p l f a b m s k) cells passes ls f h;
+  barriers = at_fresh barriers_by [] size (λ c p l f a b m s k. new_barriers size c p l f a b m s k) cells passes ls f h;
+  resumed = at_fresh resumed_by 0 size (λ c p l f a b m s k. new_resumed size c p l f a b m s k) cells passes ls f h;
+  ended = at_fresh (λ (lane : Lane). lane.ended) false size (λ c p l f a b m s k. f.ended_is) cells passes ls f h;
+  left = at_fresh left_of [] size (λ c p l f a b m s k. left_none size c p l f a b m s k) cells passes ls f h;
+}
+
+-- The last of the passes that are left goes with the last of the cells that are left.
+last_taken : {T : Type 0} (xs : List T) (m : ℕ) (ys : List T) (x : T) → suc m ≤ length xs → take (suc m) xs ≡ ys ++ x ∷ [] → (ys ≡ take m xs) × (drop m xs ≡ x ∷ drop (suc m) xs)
+last_taken [] m ys x low e = absurd (omega (arith, low))
+last_taken (a ∷ as') zero [] x low e = (refl, ap (λ z. z ∷ as') (head a x [] [] e))
+  where
+    head : {T : Type 0} (x y : T) (xs ys : List T) → x ∷ xs ≡ y ∷ ys → x ≡ y
+    head x y xs ys e = cc
+last_taken (a ∷ as') zero (y ∷ ys) x low e = absurd (none a y ys x e)
+  where
+    none : {T : Type 0} (a y : T) (ys : List T) (x : T) → a ∷ [] ≡ y ∷ (ys ++ x ∷ []) → ⊥
+    none a y [] x e = cc
+    none a y (z ∷ ys) x e = cc
+last_taken (a ∷ []) (suc m) ys x low e = absurd (omega (arith, low))
+last_taken (a ∷ b ∷ as') (suc m) [] x low e = absurd (none a b (take m as') x e)
+  where
+    none : {T : Type 0} (a b : T) (xs : List T) (x : T) → a ∷ b ∷ xs ≡ x ∷ [] → ⊥
+    none a b xs x e = cc
+last_taken (a ∷ b ∷ as') (suc m) (y ∷ ys) x low e =
+    let r = last_taken (b ∷ as') m ys x (omega (arith, low)) (tail a y (take (suc m) (b ∷ as')) (ys ++ x ∷ []) e) in
+    (ap (λ z. z ∷ ys) (sym (head a y (take (suc m) (b ∷ as')) (ys ++ x ∷ []) e)) ∙ ap (λ l. a ∷ l) r.0, r.1)
+  where
+    head : {T : Type 0} (x y : T) (xs ys : List T) → x ∷ xs ≡ y ∷ ys → x ≡ y
+    head x y xs ys e = cc
+
+    tail : {T : Type 0} (x y : T) (xs ys : List T) → x ∷ xs ≡ y ∷ ys → xs ≡ ys
+    tail x y xs ys e = cc
+
+pub dealt : (cells : List InputCell) (passes : List InputPass) (n i at : ℕ) (left : List InputPass) (c d : InputCell) (p : InputPass) (l : Lane) (ls : List Lane) → length cells ≡ n → length passes ≡ n → i < n → at ≡ n - 1 - i →
+    take (n - i) passes ≡ left ++ p ∷ [] → c ≡ get_or cells at d → IsFreshLane c p l → AreFreshLanes (drop (n - i) cells) (drop (n - i) passes) ls →
+    (left ≡ take (n - (i + 1)) passes) × AreFreshLanes (drop (n - (i + 1)) cells) (drop (n - (i + 1)) passes) (l ∷ ls)
+dealt cells passes n i at left c d p l ls cn pn low is taken here f fs =
+    let m = n - (i + 1) in
+    let more : n - i ≡ suc m = omega (arith, low) in
+    let r = last_taken passes m left p (omega (arith, pn, low)) (ap (λ k. take k passes) (sym more) ∙ taken) in
+    let at_m : at ≡ m = omega (arith, is, low) in
+    let cell : drop m cells ≡ c ∷ drop (suc m) cells =
+    drop_more cells m d (omega (arith, cn, low)) ∙ ap (λ x. x ∷ drop (m + 1) cells) (ap (λ k. get_or cells k d) (sym at_m) ∙ sym here) ∙ ap (λ k. c ∷ drop k cells) (let z : m + 1 ≡ suc m = omega arith in z) in
+    let rest = subst (λ k. AreFreshLanes (drop k cells) (drop k passes) ls) more fs in
+    (r.0, subst (λ cs. AreFreshLanes cs (drop m passes) (l ∷ ls)) (sym cell) (subst (λ ps. AreFreshLanes (c ∷ drop (suc m) cells) ps (l ∷ ls)) (sym r.1) (f, rest)))
+
+-- ---- what a call of `next` tells, of gates
+
+pub looked_first : (hold : Bool) (a b : GateState) (result : Result GateItem GateEnd) → IfOk result (λ item. LookedIn hold a.lanes item b.lanes) → IfOk result (λ item. LookedFirst hold a b item)
+looked_first hold a b (Ok (items.Line c line)) k = λ d low free may still.
+    subst (λ z. Looked z (seen_at d (passes_in b.lanes))) (sym (seen_at_is a.lanes d)) (subst (λ z. Looked (seen_in a.lanes d) z) (sym (seen_at_is b.lanes d)) (k d low free may still))
+looked_first hold a b (Ok (items.Barrier c n kind)) k = tt
+looked_first hold a b (Ok items.AllEnded) k = tt
+looked_first hold a b (Err end) k = tt
+
+pub all_came_back : (size : ℕ) (b : GateState) (result : Result GateItem GateEnd) → AreLanes size b.lanes → OnOk result (HaveNoSpare b.lanes) → OnOk result (AllCameBack b)
+all_came_back size b (Ok item) h none = came_back size b.lanes h none
+all_came_back size b (Err end) h none = tt

@@ -1,0 +1,201 @@
+-- What a turn makes of the gate's pass.
+use Rattle.std.proofs.Common.{◌≡◌, ◌≢◌, inl, inr, ℕ, zero, suc, ◌+◌, ◌<◌, Bool, true, false, cond, eqb, drop, List, [], ◌∷◌, ◌++◌, map, length, Some, None, refl, sym, ap, subst, ◌∙◌, append_assoc, append-nil, arith}
+use Rattle.std.specs.Prelude.{option_to_list, if◌then◌else◌}
+use Rattle.std.specs.List.{filter, range_with_len}
+use Rattle.std.proofs.lemmas.List.{append_cancel_left, map-append}
+use Rattle.turn_cell.specs.declared.pass.Pass.{Pass}
+use Rattle.turn_cell.specs.History.{by, entries_of, StartsWith, IsHistory}
+use Rattle.turn_cell.specs.Passes.{IsSamePass, HasEntered, HasRested, IsPassOf, number, seen, mine}
+use Rattle.flow_defs.specs.declared.parcel.Parcel.{Parcel}
+use Rattle.flow_defs.specs.declared.parcel.Parcel.TheVariants.{Data, Barrier, End}
+use Rattle.flow_defs.specs.declared.task.BarrierKind.{BarrierKind}
+use Rattle.flow_defs.specs.declared.task.BarrierKind.TheVariants.{Inline, Front}
+use Rattle.flow_defs.specs.Parcels.{barriers_of}
+use Rattle.input_channel.specs.declared.entry.ReceiveEntry.{ReceiveEntry}
+use Rattle.input_channel.specs.declared.entry.ReceiveEntry.TheVariants.{Poll, Returned, Added, Ask}
+use Rattle.input_channel.specs.declared.entry.Gave.{Gave}
+use Rattle.input_channel.specs.declared.held.HeldBuf.{HeldBuf}
+use Rattle.input_channel.specs.declared.polled.Polled.{Polled}
+use Rattle.input_channel.specs.declared.polled.Polled.TheVariants as answers
+use Rattle.input_channel.specs.Answers.{gave_of, given_by, IsAnswer}
+use Rattle.input_channel.specs.Inboxes.{inbox, Inbox, received_one, waiting, front_waits, due, first_barrier, poll_gives}
+use Rattle.input_channel.specs.Legal.{may_receive, ReceivedByPasses, MayReceive, polled_with, returned, asks, inline_in}
+use Rattle.input_channel.specs.States.{ChannelState, StandsFor, Allows, after}
+use Rattle.input_channel.specs.Theorems.{CallsAreLegal, CallsAddEntries, PassesAreKept, EntriesAreLegal, PollTells, GivenStays, GateTellsBuffers, BarriersComeInOrder, ArrivalsAreNumbered, AnswerIsGiven}
+use Rattle.input_channel.proofs.HistoryLemmas.{entries_of-append}
+use Rattle.input_channel.proofs.InboxLaws.{inbox-more}
+use Rattle.input_channel.proofs.KeptLemmas.{barriers_of-append}
+use Rattle.input_gate.specs.Turning.{InputPass, given_in, given_to, Fits, Looked}
+
+-- ---- histories
+
+by-append : {E : Type 0} (k : ℕ) (xs ys : List (ℕ × E)) → by k (xs ++ ys) ≡ by k xs ++ by k ys
+by-append k [] ys = refl
+by-append k (x ∷ xs) ys =
+    elim (eqb k x.0) as (λ b. map (λ e. e.1) (cond b (x ∷ filter (λ e. eqb k e.0) (xs ++ ys)) (filter (λ e. eqb k e.0) (xs ++ ys))) ≡ map (λ e. e.1) (cond b (x ∷ filter (λ e. eqb k e.0) xs) (filter (λ e. eqb k e.0) xs)) ++ by k ys) [
+      | true ↦ ap (λ l. x.1 ∷ l) (by-append k xs ys)
+      | false ↦ by-append k xs ys
+    ]
+
+passes_behind : (xs ys : List (ℕ × ReceiveEntry)) → ReceivedByPasses (xs ++ ys) → ReceivedByPasses ys
+passes_behind [] ys h = h
+passes_behind (x ∷ xs) ys h = passes_behind xs ys h.1
+
+pub starts_more : {A : Type 0} (before turn now : List A) (x : A) → StartsWith turn before → now ≡ turn ++ x ∷ [] → StartsWith now before
+starts_more before turn now x later is = (later.0 ++ x ∷ [], is ∙ ap (λ l. l ++ x ∷ []) later.1 ∙ append_assoc before later.0 (x ∷ []))
+
+pub starts_same : {A : Type 0} (before turn now : List A) → StartsWith turn before → now ≡ turn → StartsWith now before
+starts_same before turn now later is = (later.0, is ∙ later.1)
+
+pub starts_then : {A : Type 0} (xs ys zs : List A) → StartsWith ys xs → StartsWith zs ys → StartsWith zs xs
+starts_then xs ys zs h k = (h.0 ++ k.0, k.1 ∙ ap (λ l. l ++ k.0) h.1 ∙ append_assoc xs h.0 k.0)
+
+pub starts_refl : {A : Type 0} (xs : List A) → StartsWith xs xs
+starts_refl xs = ([], sym (append-nil xs))
+
+-- Others' turns give nothing.
+pub same_given : (stays : GivenStays) (before turn : List (ℕ × ReceiveEntry)) (own : List ReceiveEntry) →
+    ReceivedByPasses turn → by 0 before ≡ own → by 0 turn ≡ own → StartsWith turn before → given_in turn ≡ given_in before
+same_given stays before turn own passes b t later =
+    ap given_in later.1 ∙ stays before later.0 (passes_behind before later.0 (subst ReceivedByPasses later.1 passes))
+    (append_cancel_left own (by 0 later.0) [] (ap (λ l. l ++ by 0 later.0) (sym b) ∙ sym (by-append 0 before later.0) ∙ ap (by 0) (sym later.1) ∙ t ∙ sym (append-nil own)))
+
+entries_end : (turn : List (ℕ × ReceiveEntry)) (n : ℕ) (e : ReceiveEntry) → entries_of (turn ++ (n, e) ∷ []) ≡ entries_of turn ++ e ∷ []
+entries_end turn n e = entries_of-append turn ((n, e) ∷ [])
+
+-- An entry that is no poll gives nothing.
+given_end : (turn now : List (ℕ × ReceiveEntry)) (n : ℕ) (e : ReceiveEntry) → now ≡ turn ++ (n, e) ∷ [] → ((i : Inbox) → (received_one i e).given ≡ i.given) → given_in now ≡ given_in turn
+given_end turn now n e is none =
+    ap given_in is ∙ ap (λ es. (inbox es).given) (entries_end turn n e) ∙ ap (λ (i : Inbox). i.given) (inbox-more (entries_of turn) e) ∙ none (inbox (entries_of turn))
+
+-- ---- a turn, which began with this state and this history
+
+-- The pass before the turn, and at its beginning.
+pub record Begun (p t : InputPass) (state : ChannelState) : Type 0 where
+  pub first : number p ≡ 0
+  pub same : IsSamePass p t
+  pub later : StartsWith (seen t) (seen p)
+  pub own_before : by (number p) (seen p) ≡ mine p
+  pub own : by (number t) (seen t) ≡ mine t
+  pub stands : StandsFor state (seen t)
+
+module _ (p t : InputPass) (state : ChannelState) (b : Begun p t state) where
+  own_seen : by 0 (seen t) ≡ mine p
+  own_seen = ap (λ n. by n (seen t)) (sym (b.same.0 ∙ b.first)) ∙ b.own ∙ b.same.1
+
+  pub begun_given : GivenStays → PassesAreKept → given_in (seen t) ≡ given_in (seen p)
+  begun_given stays kept = same_given stays (seen p) (seen t) (mine p) (kept state (seen t) b.stands) (ap (λ n. by n (seen p)) (sym b.first) ∙ b.own_before) own_seen b.later
+
+  pub state_after : (legal : CallsAreLegal) (adds : CallsAddEntries) (old new : ChannelState) (e : ReceiveEntry) → old ≡ state → may_receive 0 e ≡ true → Allows old (entries_of (seen t)) e → new ≡ after old e →
+      StandsFor new (seen t ++ (number t, e) ∷ [])
+  state_after legal adds old new e is may allows made =
+      let s = subst (λ c. StandsFor c (seen t)) (sym is) b.stands in
+      subst (λ m. StandsFor new (seen t ++ (m, e) ∷ [])) (sym (b.same.0 ∙ b.first))
+      (subst (λ c. StandsFor c (seen t ++ (0, e) ∷ [])) (sym made) (adds old (seen t) 0 e s (may, legal old (seen t) e s allows)))
+
+  pub more : (q : InputPass) (e : ReceiveEntry) → HasEntered e t q → StartsWith (seen q) (seen p)
+  more q e h = starts_more (seen p) (seen t) (seen q) (number t, e) b.later h.1
+
+  pub rested : (q : InputPass) → HasRested t q → StartsWith (seen q) (seen p)
+  rested q h = starts_same (seen p) (seen t) (seen q) b.later h.1
+
+  pub mine_more : (q : InputPass) (e : ReceiveEntry) → HasEntered e t q → mine q ≡ mine p ++ e ∷ []
+  mine_more q e h = h.2 ∙ ap (λ es. es ++ e ∷ []) b.same.1
+
+  pub rested_given : GivenStays → PassesAreKept → (q : InputPass) → HasRested t q → given_to q ≡ given_to p
+  rested_given stays kept q h = ap given_in h.1 ∙ begun_given stays kept
+
+  pub entered_given : GivenStays → PassesAreKept → (q : InputPass) (e : ReceiveEntry) → HasEntered e t q → ((i : Inbox) → (received_one i e).given ≡ i.given) → given_to q ≡ given_to p
+  entered_given stays kept q e h none = given_end (seen t) (seen q) (number t) e h.1 none ∙ begun_given stays kept
+
+  pub polled_given : GivenStays → PassesAreKept → PollTells → AnswerIsGiven → (q : InputPass) (old : ChannelState) (hold : Bool) (polled : Polled) (gave : Gave) → old ≡ state → IsAnswer hold old polled →
+      HasEntered (Poll hold gave) t q → given_to q ≡ given_to p ++ option_to_list (given_by polled)
+  polled_given stays kept tells answers q old hold polled gave is answer h =
+      ap given_in h.1 ∙ ap (λ es. (inbox es).given) (entries_end (seen t) (number t) (Poll hold gave)) ∙ tells old (seen t) hold gave (subst (λ c. StandsFor c (seen t)) (sym is) b.stands)
+      ∙ ap (λ o. given_in (seen t) ++ option_to_list o) (sym (answers old hold polled answer)) ∙ ap (λ g. g ++ option_to_list (given_by polled)) (begun_given stays kept)
+
+  pub out_here : PassesAreKept → GateTellsBuffers → (exclusive : Bool) → returned exclusive (mine p) < polled_with exclusive (mine p) → returned exclusive (entries_of (seen t)) < polled_with exclusive (entries_of (seen t))
+  out_here kept tell exclusive out =
+      let told = tell (seen t) (kept state (seen t) b.stands) in
+      let more = told.polled exclusive ∙ ap (polled_with exclusive) own_seen in
+      let back = told.returned exclusive ∙ ap (returned exclusive) own_seen in
+      omega (arith, more, back, out)
+
+  pub owed_here : GivenStays → PassesAreKept → GateTellsBuffers → asks (mine p) < inline_in (given_to p) → 0 < state.owed
+  owed_here stays kept tell owed =
+      let asked = (tell (seen t) (kept state (seen t) b.stands)).asked ∙ ap asks own_seen in
+      let given = ap inline_in (begun_given stays kept) in
+      let balance = b.stands.keeps.owed in
+      omega (arith, asked, given, balance, owed)
+
+-- ---- the number of a barrier
+
+number_at : (xs ys : List (ℕ × BarrierKind)) (k : ℕ) (kind : BarrierKind) (m n : ℕ) → map (λ (x : ℕ × BarrierKind). x.0) (xs ++ (k, kind) ∷ ys) ≡ range_with_len m n → k ≡ m + length xs
+number_at xs ys k kind m zero e = absurd (none xs e)
+  where
+    none : (xs : List (ℕ × BarrierKind)) → map (λ (x : ℕ × BarrierKind). x.0) (xs ++ (k, kind) ∷ ys) ≡ [] → ⊥
+    none [] h = cc
+    none (x ∷ xs) h = cc
+number_at [] ys k kind m (suc n) e = let h : k ≡ m = cc in omega (arith, h)
+number_at (x ∷ xs) ys k kind m (suc n) e =
+    let r = number_at xs ys k kind (m + 1) n (ap (drop 1) e) in
+    omega (arith, r)
+
+pub next_number : BarriersComeInOrder → ArrivalsAreNumbered → EntriesAreLegal → (state : ChannelState) (now : List (ℕ × ReceiveEntry)) (given : List Parcel) (k : ℕ) (kind : BarrierKind) →
+    StandsFor state now → given_in now ≡ given ++ Barrier k kind ∷ [] → k ≡ suc (length (barriers_of given))
+next_number ordered numbered legal state now given k kind stands is =
+    let order = ordered (entries_of now) in
+    let here = ap barriers_of is ∙ barriers_of-append given (Barrier k kind ∷ []) in
+    let all = sym order ∙ ap (λ bs. bs ++ barriers_of (waiting (inbox (entries_of now)).arrivals)) here ∙ append_assoc (barriers_of given) ((k, kind) ∷ []) (barriers_of (waiting (inbox (entries_of now)).arrivals)) in
+    let numbers = numbered state.room (entries_of now) (legal state now stands) in
+    let r = number_at (barriers_of given) (barriers_of (waiting (inbox (entries_of now)).arrivals)) k kind 1 _ (ap (map (λ (x : ℕ × BarrierKind). x.0)) (sym all) ∙ numbers) in
+    omega (arith, r)
+
+-- What a poll answers fits.
+pub fits : (size : ℕ) (hold : Bool) (given now : List Parcel) (c : ChannelState) (polled : Polled) → IsAnswer hold c polled → c.size ≡ size → now ≡ given ++ option_to_list (given_by polled) →
+    ((k : ℕ) (kind : BarrierKind) → now ≡ given ++ Barrier k kind ∷ [] → k ≡ suc (length (barriers_of given))) → Fits size hold given polled
+fits size hold given now c (answers.Buffer buf) answer is e next = answer.size ∙ is
+fits size hold given now c (answers.Barrier k kind) answer is e next = (next k kind e, answer.1)
+fits size hold given now c answers.End answer is e next = tt
+fits size hold given now c answers.Empty answer is e next = tt
+fits size hold given now c answers.Held answer is e next = tt
+
+-- ---- front barriers
+
+front_first : (ps : List Parcel) → front_waits ps ≡ true → (k : ℕ) × (first_barrier ps ≡ Some (Barrier k Front))
+front_first [] h = cc
+front_first (Data bytes ∷ ps) h = front_first ps h
+front_first (Barrier k Inline ∷ ps) h = cc
+front_first (Barrier k Front ∷ ps) h = (k, refl)
+front_first (End ∷ ps) h = front_first ps h
+
+pub front_due : (ps : List Parcel) → front_waits ps ≡ true → (k : ℕ) × (due ps ≡ Some (Barrier k Front))
+front_due ps h = let f = front_first ps h in (f.0, ap (λ b. cond b (first_barrier ps) (Rattle.input_channel.specs.Inboxes.first_parcel ps)) h ∙ f.1)
+
+-- Where the turn ended as it began, and no front barrier waited.
+pub looked : (p t q : InputPass) (state : ChannelState) → Begun p t state → HasRested t q → front_waits state.queue ≡ false → Looked (seen p) (seen q)
+looked p t q state b h none = record {
+  history = seen t;
+  later = b.later;
+  earlier = ([], h.1 ∙ sym (append-nil (seen t)));
+  no_front = ap front_waits (sym b.stands.keeps.queue) ∙ none;
+}
+
+barrier_front : (k j : ℕ) (kind : BarrierKind) → Some (Barrier k kind) ≡ Some (Barrier j Front) → kind ≡ Front
+barrier_front k j kind e = cc
+
+no_front_data : (bytes : List ℕ) (j : ℕ) → Some (Data bytes) ≡ Some (Barrier j Front) → ⊥
+no_front_data bytes j e = cc
+
+no_front_end : (j : ℕ) → Some End ≡ Some (Barrier j Front) → ⊥
+no_front_end j e = cc
+
+module _ (c : ChannelState) (polled : Polled) (answer : IsAnswer false c polled) (waits : front_waits c.queue ≡ true) where
+  pub front_answer : (k : ℕ) (kind : BarrierKind) → polled ≡ answers.Barrier k kind → kind ≡ Front
+  front_answer k kind is = let f = front_due c.queue waits in barrier_front k f.0 kind (sym (subst (IsAnswer false c) is answer).0 ∙ f.1)
+
+  pub not_buffer : (buf : HeldBuf) → polled ≡ answers.Buffer buf → ⊥
+  not_buffer buf is = let f = front_due c.queue waits in no_front_data _ f.0 (sym (subst (IsAnswer false c) is answer).due ∙ f.1)
+
+  pub not_end : polled ≡ answers.End → ⊥
+  not_end is = let f = front_due c.queue waits in no_front_end f.0 (sym (subst (IsAnswer false c) is answer) ∙ f.1)

@@ -1,0 +1,82 @@
+use Rattle.std.proofs.Common.{rules, ◌≡◌, ◌<◌, ◌≤◌, ◌∙◌, ◌^◌, length, sym, ap, subst, refl, arith, true, false, Ok, Err, Some, None}
+use Rattle.turn_cell.specs.Passes.{seen}
+use Rattle.input_gate.specs.declared.gate.GateItem.TheVariants as items
+use Rattle.input_gate.specs.Channels.{account_of, Took}
+use Rattle.input_gate.specs.Lanes.{lent_size}
+use Rattle.input_gate.proofs.RoundLaws.{quiet_length, quiet_on, quiet_cells, up_then, gave_on, most_on, same_of, nothing_of}
+use Rattle.input_gate.proofs.GateLaws.{looked_on, seen_stop}
+use Rattle.input_gate.proofs.cell_gate.next_of.Goals as goal
+
+pub returns-in-Err-clause-gave : goal.returns-in-Err-clause-gave
+returns-in-Err-clause-gave g c = (nothing_of (account_of c.args.lanes.now.items) (account_of c.refill_all.new.lanes.items) (same_of c.args.lanes.now.items c.refill_all.new.lanes.items c.refill_all.ensures.quiet), tt)
+
+pub returns-in-Err-clause-cells : goal.returns-in-Err-clause-cells
+returns-in-Err-clause-cells g c = quiet_cells c.args.lanes.now.items c.refill_all.new.lanes.items c.refill_all.ensures.quiet
+
+pub loop-round-init : goal.loop-round-init
+loop-round-init g c = record {
+  lanes = c.refill_all.ensures.lanes;
+  quiet = c.refill_all.ensures.quiet;
+  spare = c.in-Ok.ensures.spare;
+  lender = c.refill_all.ensures.lender.0;
+  same = c.refill_all.ensures.lender.1;
+  most = c.most_held-most.ensures;
+  stop = c.requires.stop;
+  pass = (refl, refl);
+}
+
+pub take-requires-clause-few : goal.take-requires-clause-few
+take-requires-clause-few g c = let same = quiet_length c.args.lanes.now.items c.loop-round.lanes.items c.loop-round.invariant.quiet in let few = c.requires.few in omega (arith, same, few)
+
+pub returns-in-Ok-Item-clause-gave : goal.returns-in-Ok-Item-clause-gave
+returns-in-Ok-Item-clause-gave g c = gave_on c.args.lanes.now.items c.loop-round.lanes.items c.take.new.lanes.items c.args.hold c.in-Ok-Item.item c.loop-round.invariant.quiet (subst (λ taken. Took c.args.hold c.loop-round.lanes.items (Ok taken) c.take.new.lanes.items) c.in-Ok-Item.field-0-is c.in-Ok-Item.ensures.took).0
+
+pub returns-in-Ok-Item-clause-cells : goal.returns-in-Ok-Item-clause-cells
+returns-in-Ok-Item-clause-cells g c = c.take.ensures.cells ∙ quiet_cells c.args.lanes.now.items c.loop-round.lanes.items c.loop-round.invariant.quiet
+
+pub returns-in-Ok-Item-clause-looked : goal.returns-in-Ok-Item-clause-looked
+returns-in-Ok-Item-clause-looked g c = looked_on c.args.hold c.args.lanes.now.items c.loop-round.lanes.items c.take.new.lanes.items c.in-Ok-Item.item c.loop-round.invariant.quiet (quiet_length c.args.lanes.now.items c.loop-round.lanes.items c.loop-round.invariant.quiet) (subst (λ taken. Took c.args.hold c.loop-round.lanes.items (Ok taken) c.take.new.lanes.items) c.in-Ok-Item.field-0-is c.in-Ok-Item.ensures.took).1
+
+pub loop-round-preserved-in-Ok-More : goal.loop-round-preserved-in-Ok-More
+loop-round-preserved-in-Ok-More g c = record {
+  lanes = search (rules, c.take.ensures.lanes, c.loop-round.invariant.same);
+  quiet = quiet_on c.args.lanes.now.items c.loop-round.lanes.items c.take.new.lanes.items c.loop-round.invariant.quiet (subst (λ taken. Took c.args.hold c.loop-round.lanes.items (Ok taken) c.take.new.lanes.items) c.in-Ok-More.field-0-is c.in-Ok-More.ensures.took);
+  spare = c.in-Ok-More.ensures.spare;
+  lender = c.take.ensures.lender.0;
+  same = c.take.ensures.lender.1 ∙ c.loop-round.invariant.same;
+  most = λ is. most_on c.loop-round.lanes.items c.take.new.lanes.items c.most_held-most.result (subst (λ taken. Took c.args.hold c.loop-round.lanes.items (Ok taken) c.take.new.lanes.items) c.in-Ok-More.field-0-is c.in-Ok-More.ensures.took) (c.loop-round.invariant.most is);
+  stop = c.loop-round.invariant.stop;
+  pass = c.loop-round.invariant.pass;
+}
+
+pub returns-then-all_over-clause-gave : goal.returns-then-all_over-clause-gave
+returns-then-all_over-clause-gave g c = (nothing_of (account_of c.args.lanes.now.items) (account_of c.take.new.lanes.items) (same_of c.args.lanes.now.items c.take.new.lanes.items (quiet_on c.args.lanes.now.items c.loop-round.lanes.items c.take.new.lanes.items c.loop-round.invariant.quiet (subst (λ taken. Took c.args.hold c.loop-round.lanes.items (Ok taken) c.take.new.lanes.items) c.in-Ok-Nothing.field-0-is c.in-Ok-Nothing.ensures.took))), c.all_over.ensures c.if-all_over.true)
+
+pub returns-then-all_over-clause-cells : goal.returns-then-all_over-clause-cells
+returns-then-all_over-clause-cells g c = c.take.ensures.cells ∙ quiet_cells c.args.lanes.now.items c.loop-round.lanes.items c.loop-round.invariant.quiet
+
+pub returns-then-is_some-clause-gave : goal.returns-then-is_some-clause-gave
+returns-then-is_some-clause-gave g c = (nothing_of (account_of c.args.lanes.now.items) (account_of c.take.new.lanes.items) (same_of c.args.lanes.now.items c.take.new.lanes.items (quiet_on c.args.lanes.now.items c.loop-round.lanes.items c.take.new.lanes.items c.loop-round.invariant.quiet (subst (λ taken. Took c.args.hold c.loop-round.lanes.items (Ok taken) c.take.new.lanes.items) c.in-Ok-Nothing.field-0-is c.in-Ok-Nothing.ensures.took))), tt)
+
+pub returns-then-is_some-clause-cells : goal.returns-then-is_some-clause-cells
+returns-then-is_some-clause-cells g c = c.take.ensures.cells ∙ quiet_cells c.args.lanes.now.items c.loop-round.lanes.items c.loop-round.invariant.quiet
+
+pub loop-round-preserved : goal.loop-round-preserved
+loop-round-preserved g c = record {
+  lanes = search (rules, c.take.ensures.lanes, c.loop-round.invariant.same);
+  quiet = quiet_on c.args.lanes.now.items c.loop-round.lanes.items c.take.new.lanes.items c.loop-round.invariant.quiet (subst (λ taken. Took c.args.hold c.loop-round.lanes.items (Ok taken) c.take.new.lanes.items) c.in-Ok-Nothing.field-0-is c.in-Ok-Nothing.ensures.took);
+  spare = c.in-Ok-Nothing.ensures.spare;
+  lender = c.take.ensures.lender.0;
+  same = c.take.ensures.lender.1 ∙ c.loop-round.invariant.same;
+  most = λ is. most_on c.loop-round.lanes.items c.take.new.lanes.items c.most_held-most.result (subst (λ taken. Took c.args.hold c.loop-round.lanes.items (Ok taken) c.take.new.lanes.items) c.in-Ok-Nothing.field-0-is c.in-Ok-Nothing.ensures.took) (c.loop-round.invariant.most is);
+  stop = c.look_for_stop.ensures.pass.0;
+  pass = (c.look_for_stop.ensures.pass.1.0 ∙ c.loop-round.invariant.pass.0, c.look_for_stop.ensures.pass.1.1 ∙ c.loop-round.invariant.pass.1);
+}
+
+pub returns-in-Err-take-clause-gave : goal.returns-in-Err-take-clause-gave
+returns-in-Err-take-clause-gave g c =
+    let up = up_then c.args.lanes.now.items c.loop-round.lanes.items c.take.new.lanes.items c.in-Err-take.end c.loop-round.invariant.quiet c.in-Err-take.ensures.took in
+    (nothing_of (account_of c.args.lanes.now.items) (account_of c.take.new.lanes.items) (same_of c.args.lanes.now.items c.take.new.lanes.items up.quiet), up.ended)
+
+pub returns-in-Err-take-clause-cells : goal.returns-in-Err-take-clause-cells
+returns-in-Err-take-clause-cells g c = c.take.ensures.cells ∙ quiet_cells c.args.lanes.now.items c.loop-round.lanes.items c.loop-round.invariant.quiet

@@ -1,0 +1,14 @@
+use Rattle.std.proofs.Common.{rules, ◌≡◌, ◌<◌, ◌≤◌, ◌∙◌, sym, ap, subst, refl, true, false, None}
+use Rattle.input_gate.specs.declared.lane.Lane.{Lane}
+use Rattle.input_gate.specs.Channels.{at_of}
+use Rattle.input_gate.proofs.RoundLaws.{lane_at, quiet_all, quiet_set, cells_set, at_get, at_here, at_there, at_same, no_spare_set, no_spare_at, same_lane, not_free, blocked_here, came_at, may_not, looked_at, resumed_of, line_given, line_cell, fault_given, spare_given, came_cell, here_given, look_given, look_cell, look_looked, gave_of}
+use Rattle.input_gate.proofs.round.refill_at.Goals as goal
+
+pub returns-clause-quiet : goal.returns-clause-quiet
+returns-clause-quiet g c = quiet_set c.args.lanes.now.items c.args.at _ c.index_mut.result.now c.refill.new.lane c.index_mut.ensures.value c.requires.within c.refill.ensures.quiet
+
+pub returns-clause-here : goal.returns-clause-here
+returns-clause-here g c = here_given _ c.args.lanes.now.items c.args.at _ c.index_mut.result.now c.refill.new.lane c.index_mut.ensures.value c.requires.within c.requires.lanes c.refill.result c.refill.ensures.spare
+
+pub returns-clause-others : goal.returns-clause-others
+returns-clause-others g c d ne = at_there (λ (lane : Lane). lane.spare) None c.args.lanes.now.items c.args.at d c.refill.new.lane ne

@@ -1,0 +1,14 @@
+use Rattle.std.proofs.Common.{rules, ◌≡◌, ◌<◌, ◌≤◌, ◌∙◌, sym, ap, subst, refl, true, false, None}
+use Rattle.input_gate.specs.declared.lane.Lane.{Lane}
+use Rattle.input_gate.specs.Channels.{at_of}
+use Rattle.input_gate.proofs.RoundLaws.{lane_at, quiet_all, quiet_set, cells_set, at_get, at_here, at_there, at_same, no_spare_set, no_spare_at, same_lane, not_free, blocked_here, came_at, may_not, looked_at, resumed_of, line_given, line_cell, fault_given, spare_given, came_cell, here_given, look_given, look_cell, look_looked, gave_of}
+use Rattle.input_gate.proofs.round.resume_at.Goals as goal
+
+pub go_on-requires-clause-blocked : goal.go_on-requires-clause-blocked
+go_on-requires-clause-blocked g c = blocked_here c.requires.lanes.0 c.args.lanes.now.items c.args.at _ c.index_mut.result.now c.index_mut.result.now c.index_mut.ensures.value c.requires.within c.requires.lanes.1 c.index_mut.result.now.blocked refl c.requires.stopped
+
+pub returns-clause-resumed : goal.returns-clause-resumed
+returns-clause-resumed g c = resumed_of c.requires.lanes.0 c.args.lanes.now.items c.args.at _ c.index_mut.result.now c.go_on.new.lane c.index_mut.ensures.value c.requires.within c.requires.lanes.1 c.go_on.ensures.resumed
+
+pub returns-clause-cells : goal.returns-clause-cells
+returns-clause-cells g c = cells_set c.args.lanes.now.items c.args.at _ c.index_mut.result.now c.go_on.new.lane c.index_mut.ensures.value c.requires.within c.go_on.ensures.resumed.cell

@@ -1,0 +1,24 @@
+use Rattle.std.proofs.Common.{rules, ◌≡◌, ◌<◌, ◌≤◌, ◌∙◌, sym, ap, subst, refl, true, false, None}
+use Rattle.input_gate.specs.declared.lane.Lane.{Lane}
+use Rattle.input_gate.specs.Channels.{at_of}
+use Rattle.input_gate.proofs.RoundLaws.{lane_at, quiet_all, quiet_set, cells_set, at_get, at_here, at_there, at_same, no_spare_set, no_spare_at, same_lane, not_free, blocked_here, came_at, may_not, looked_at, resumed_of, line_given, line_cell, fault_given, spare_given, came_cell, here_given, look_given, look_cell, look_looked, gave_of}
+use Rattle.input_gate.proofs.round.step_at.Goals as goal
+
+pub returns-then-index-clause-came : goal.returns-then-index-clause-came
+returns-then-index-clause-came g c = quiet_all c.args.lanes.now.items
+
+pub step-requires-clause-free : goal.step-requires-clause-free
+step-requires-clause-free g c = ap (λ (lane : Lane). lane.blocked) (same_lane c.args.lanes.now.items c.args.at _ _ c.index_mut.result.now c.index.result.now c.index_mut.ensures.value c.index.ensures c.requires.within) ∙ c.if-index.false
+
+pub step-requires-clause-spare : goal.step-requires-clause-spare
+step-requires-clause-spare g c = no_spare_at c.args.lanes.now.items c.args.at _ c.index_mut.result.now c.requires.spare c.requires.within c.index_mut.ensures.value
+
+pub returns-clause-came : goal.returns-clause-came
+returns-clause-came g c = came_at _ c.args.lanes.now.items c.args.at _ c.index_mut.result.now c.step.new.lane c.index_mut.ensures.value c.requires.within c.requires.lanes c.args.hold c.args.most c.requires.most c.is_held-held.result c.step.result c.step.ensures.came
+    (λ f is. subst (λ (lane : Lane). lane.barriers < c.args.most) (same_lane c.args.lanes.now.items c.args.at _ _ c.index-2.result.now c.index_mut.result.now c.index-2.ensures c.index_mut.ensures.value c.requires.within) (c.is_held-held.ensures.not_held f is))
+
+pub returns-clause-cells : goal.returns-clause-cells
+returns-clause-cells g c = cells_set c.args.lanes.now.items c.args.at _ c.index_mut.result.now c.step.new.lane c.index_mut.ensures.value c.requires.within (came_cell _ c.args.lanes.now.items c.args.at _ c.index_mut.result.now c.step.new.lane c.index_mut.ensures.value c.requires.within c.requires.lanes c.is_held-held.result c.step.result c.step.ensures.came)
+
+pub returns-clause-spare : goal.returns-clause-spare
+returns-clause-spare g c = spare_given _ c.args.lanes.now.items c.args.at _ c.index_mut.result.now c.step.new.lane c.index_mut.ensures.value c.requires.within c.requires.lanes c.step.result c.requires.spare c.step.ensures.spare

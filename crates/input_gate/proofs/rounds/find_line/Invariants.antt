@@ -1,0 +1,12 @@
+use Rattle.std.proofs.Common.{◌≡◌, ◌<◌, ◌≤◌, ℕ, length}
+use Rattle.input_gate.specs.Lanes.{IsLender, lent_size}
+use Rattle.input_gate.specs.Channels.{AreLanes, AreQuiet, HaveNoSpare, HaveNoSpareBelow, HasLooked, account_of, seen_in}
+use Rattle.input_gate.proofs.RoundLaws.{OverBelow, MostBelow, Reached}
+use Rattle.input_gate.proofs.rounds.find_line.Given as goal
+
+abbrev pub invariant-loop-turn : goal.invariant-loop-turn
+invariant-loop-turn l = record {
+  lanes : (size : ℕ) → AreLanes size l.fn.lanes.items → AreLanes size l.lanes.items;
+  quiet : AreQuiet l.fn.lanes.items l.lanes.items;
+  spare : HaveNoSpare l.lanes.items;
+}

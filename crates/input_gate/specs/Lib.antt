@@ -1,0 +1,7 @@
+pub mod Channels
+pub mod Gates
+pub mod Lanes
+pub mod Making
+pub mod States
+pub mod Told
+pub mod Turning

@@ -1,0 +1,80 @@
+-- What contracts see of a gate over cells. That a gate has a cell for each channel, one for its pool and one for what stops all workers is
+-- this project's own choice.
+use Rattle.std.specs.Prelude.{◌≡◌, ◌≢◌, ℕ, ◌<◌, ◌^◌, Bool, true, false, List, [], length, All, Option, Some, None, Result, Ok, Err, IsSomeAnd, IfSome}
+use Rattle.turn_cell.specs.declared.cell.TurnCell.{TurnCell}
+use Rattle.turn_cell.specs.declared.pass.Pass.{Pass}
+use Rattle.turn_cell.specs.Passes.{IsPassOf, opened_with, number, seen, mine}
+use Rattle.segment_pool.specs.declared.pool.Pool.{Pool}
+use Rattle.segment_pool.specs.Pools.{size_of}
+use Rattle.local_pool.specs.declared.held.HeldPool.{HeldPool}
+use Rattle.local_pool.specs.declared.held.NoEntry.{NoEntry}
+use Rattle.local_pool.specs.Helds.{pool_of}
+use Rattle.flow_defs.specs.declared.parcel.Parcel.{Parcel}
+use Rattle.conn_parts.specs.Shares.{AreOwn, AreNew, seen_at, mine_at}
+use Rattle.conn_parts.specs.Stopping.{StopCell, StopPass}
+use Rattle.input_channel.specs.Legal.{polled_with, returned}
+use Rattle.input_gate.specs.declared.gate.GateItem.{GateItem}
+use Rattle.input_gate.specs.declared.gate.GateItem.TheVariants as items
+use Rattle.input_gate.specs.declared.lane.Lane.{Lane}
+use Rattle.input_gate.specs.declared.lender.Lender.{Lender}
+use Rattle.input_gate.specs.declared.passes.GateEnds.{GateEnds}
+use Rattle.input_gate.specs.Gates.{Account, IsFree}
+use Rattle.input_gate.specs.Turning.{InputCell, InputPass, Looked, given_in}
+use Rattle.input_gate.specs.Lanes.{IsLender, lent_size}
+use Rattle.input_gate.specs.Channels.{AreLanes, account_of, cells_in, passes_in, MayGive}
+
+-- The cell of the gate's pool, and a pass of it.
+abbrev pub PoolCell : Type 0
+PoolCell = TurnCell HeldPool NoEntry (Pool × ℕ)
+
+abbrev pub PoolPass : Type 0
+PoolPass = Pass HeldPool NoEntry (Pool × ℕ)
+
+-- The channels, the pool, and the cell that stops all workers, with the gate's pass of it.
+pub record GateState : Type 0 where
+  pub lanes : List Lane
+  pub lender : Lender
+  pub stop : StopCell
+  pub stop_pass : StopPass
+
+-- What the gate has given.
+abbrev pub account_in : GateState → Account
+account_in gate = account_of gate.lanes
+
+-- Its passes of the channels' cells, in the order of the channels.
+abbrev pub passes_of : GateState → List InputPass
+passes_of gate = passes_in gate.lanes
+
+-- It is the gate of these cells.
+pub record IsGateOf (cells : List InputCell) (pool : PoolCell) (stop : StopCell) (gate : GateState) : Type 0 where
+  pub cells_are : cells_in gate.lanes ≡ cells
+  pub pool_is : gate.lender.cell.now ≡ pool
+  pub stop_is : gate.stop ≡ stop
+
+-- What it is a gate of.
+abbrev pub ends_of : GateState → GateEnds
+ends_of gate = record { cells = cells_in gate.lanes; pool = gate.lender.cell.now; stop = gate.stop; number = number gate.stop_pass }
+
+-- What polls of a channel gave.
+abbrev pub given_at : GateState → ℕ → List Parcel
+given_at gate c = given_in (seen_at c (passes_of gate))
+
+-- Of each kind of buffers as many came back as polls gave.
+abbrev pub AllCameBack : GateState → Type 0
+AllCameBack gate = (c : ℕ) (exclusive : Bool) → returned exclusive (mine_at c (passes_of gate)) ≡ polled_with exclusive (mine_at c (passes_of gate))
+
+-- Before a line is given there was, in the same call, a turn of each channel at which no front barrier waited. None was needed where no
+-- barrier of the channel may be given, or its end was polled.
+abbrev pub LookedFirst : Bool → GateState → GateState → GateItem → Type 0
+LookedFirst hold before after (items.Line c line) = (d : ℕ) → d < (account_in before).channels → IsFree (account_in before) d → MayGive hold (account_in before) d →
+    (account_in after).ended d ≡ false → Looked (seen_at d (passes_of before)) (seen_at d (passes_of after))
+LookedFirst hold before after (items.Barrier c k kind) = Unit {0}
+LookedFirst hold before after items.AllEnded = Unit {0}
+
+-- What is kept fits what the passes tell.
+pub record IsGate (gate : GateState) : Type 0 where
+  pub few : length gate.lanes < 2 ^ 32
+  pub lanes_are : AreLanes (lent_size gate.lender) gate.lanes
+  pub lender_is : IsLender gate.lender
+  pub stop_is : IsPassOf gate.stop gate.stop_pass
+  pub no_fault : mine gate.stop_pass ≡ []

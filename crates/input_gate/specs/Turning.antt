@@ -1,0 +1,53 @@
+-- What a turn of a gate at a channel does to its pass. Polls, and buffers that come back, are those of Flink's input channels; that they are
+-- told by the pass's own lists is this project's own choice.
+use Rattle.std.specs.Prelude.{◌≡◌, ◌≢◌, ℕ, suc, Bool, true, false, List, [], ◌∷◌, ◌++◌, length, Option, Some, None}
+use Rattle.turn_cell.specs.declared.cell.TurnCell.{TurnCell}
+use Rattle.turn_cell.specs.declared.pass.Pass.{Pass}
+use Rattle.turn_cell.specs.History.{StartsWith, entries_of}
+use Rattle.turn_cell.specs.Passes.{IsPassOf, number, seen, mine}
+use Rattle.flow_defs.specs.declared.parcel.Parcel.{Parcel}
+use Rattle.flow_defs.specs.Parcels.{barriers_of}
+use Rattle.input_channel.specs.declared.entry.ReceiveEntry.{ReceiveEntry}
+use Rattle.input_channel.specs.declared.held.HeldBuf.{HeldBuf}
+use Rattle.input_channel.specs.declared.polled.Polled.{Polled}
+use Rattle.input_channel.specs.declared.polled.Polled.TheVariants.{Buffer, Barrier, End, Empty, Held}
+use Rattle.input_channel.specs.Inboxes.{inbox, waiting, front_waits}
+use Rattle.input_channel.specs.Legal.{polled_with, returned}
+use Rattle.input_channel.specs.States.{ChannelState}
+
+-- An input channel's cell, and a pass of it.
+abbrev pub InputCell : Type 0
+InputCell = TurnCell ChannelState ReceiveEntry ℕ
+
+abbrev pub InputPass : Type 0
+InputPass = Pass ChannelState ReceiveEntry ℕ
+
+-- What the polls of a channel gave, by the history that a pass has seen.
+abbrev pub given_in : List (ℕ × ReceiveEntry) → List Parcel
+given_in history = (inbox (entries_of history)).given
+
+abbrev pub given_to : InputPass → List Parcel
+given_to pass = given_in (seen pass)
+
+-- The gate's pass of the cell.
+abbrev pub IsGatePass : InputCell → InputPass → Type 0
+IsGatePass cell pass = IsPassOf cell pass × (number pass ≡ 0)
+
+-- Between these two histories there is one at whose end no front barrier was the first barrier that waited.
+pub record Looked (before after : List (ℕ × ReceiveEntry)) : Type 0 where
+  pub history : List (ℕ × ReceiveEntry)
+  pub later : StartsWith history before
+  pub earlier : StartsWith after history
+  pub no_front : front_waits (waiting (inbox (entries_of history)).arrivals) ≡ false
+
+-- Of each kind of buffers as many came back as polls gave.
+abbrev pub IsEven : List ReceiveEntry → Type 0
+IsEven es = (exclusive : Bool) → returned exclusive es ≡ polled_with exclusive es
+
+-- A buffer that was polled has this length; a barrier has the number that follows those given, and was not held back.
+abbrev pub Fits : ℕ → Bool → List Parcel → Polled → Type 0
+Fits size hold given (Buffer buf) = length buf.segment ≡ size
+Fits size hold given (Barrier k kind) = (k ≡ suc (length (barriers_of given))) × (hold ≡ false)
+Fits size hold given End = Unit {0}
+Fits size hold given Empty = Unit {0}
+Fits size hold given Held = Unit {0}

@@ -1,0 +1,19 @@
+// The law of a gate.
+ghost use Rattle.std.specs.Prelude.{◌≡◌, ◌++◌, ℕ, true};
+ghost use Rattle.std.specs.List.{AllByRecursion};
+ghost use Rattle.flow_defs.specs.Parcels.{data_of, has_end};
+ghost use Rattle.flow_defs.specs.Records.{all_encoded, IsShort};
+ghost use Rattle.input_gate.specs.Gates.{lines_in};
+ghost use Rattle.input_gate.specs.States.{account_in, given_at};
+
+use crate::cell_gate::CellGate;
+
+/// Of each channel, what was polled is the encodings of the lines given, and then what is left. Where its
+/// end is told, that was polled. It does nothing.
+pub fn lines_are_polled(gate: &CellGate<'_, '_>)
+    ensures bytes { (c : ℕ) → data_of (given_at gate.now c) ≡ all_encoded (lines_in ((account_in gate.now).told c)) ++ (account_in gate.now).left c }
+    ensures ends { (c : ℕ) → (account_in gate.now).ended c ≡ true → has_end (given_at gate.now c) ≡ true }
+    ensures short { (c : ℕ) → AllByRecursion IsShort (lines_in ((account_in gate.now).told c)) }
+{
+    let _start = gate.start;
+}

@@ -1,0 +1,48 @@
+// The gate's pool, from which its channels are given floating segments.
+ghost use Rattle.std.specs.Prelude.{◌≡◌, length, IfSome};
+ghost use Rattle.input_gate.specs.Lanes.{IsLender, lent_size};
+
+use local_pool::HeldPool;
+use segment_pool::Segment;
+use std::sync::Wait;
+use turn_cell::{Pass, TurnCell};
+
+/// The cell of the gate's pool, with the gate's pass of it, which is away only in a turn.
+#[derive(Drop)]
+pub(crate) struct Lender<'a, 'p> {
+    pub(crate) cell: &'a TurnCell<HeldPool<'p>>,
+    pub(crate) pass: Option<Pass<HeldPool<'p>>>,
+}
+
+/// Asks the pool for a segment.
+pub(crate) fn request<R: Wait>(rt: &R, lender: &mut Lender<'_, '_>) -> Option<Segment>
+    requires { IsLender lender.old }
+    ensures lender { IsLender lender.new × (lender.new.cell ≡ lender.old.cell) }
+    ensures size { IfSome result (λ segment. length segment ≡ lent_size lender.old) }
+{
+    let Some(pass) = lender.pass.take() else {
+        unreachable!()
+    };
+    let (mut pool, turn) = lender.cell.enter_owned(rt, pass);
+    let segment = pool.request(rt);
+    let pass = turn.leave_as_is(pool);
+    lender.pass = Some(pass);
+    segment
+}
+
+/// Gives a segment back to the pool. Where none is lent there it is dropped.
+pub(crate) fn give<R: Wait>(rt: &R, lender: &mut Lender<'_, '_>, segment: Segment)
+    requires lender { IsLender lender.old }
+    requires size { length segment ≡ lent_size lender.old }
+    ensures { IsLender lender.new × (lender.new.cell ≡ lender.old.cell) }
+{
+    let Some(pass) = lender.pass.take() else {
+        unreachable!()
+    };
+    let (mut pool, turn) = lender.cell.enter_owned(rt, pass);
+    if pool.lent() > 0 {
+        pool.give(rt, segment);
+    }
+    let pass = turn.leave_as_is(pool);
+    lender.pass = Some(pass);
+}

@@ -1,0 +1,39 @@
+use Rattle.std.proofs.Common.{◌≡◌, ◌∙◌, refl, rules, arith}
+use Rattle.turn_cell.specs.Passes.{mine}
+use Rattle.flow_defs.specs.Records.{encoded}
+use Rattle.record_writer.specs.Channels.{laid}
+use Rattle.record_writer.proofs.Putting.{on_err, laid_same, laid_more, laid_some, laid_all, encoded_length, same_on}
+use Rattle.record_writer.proofs.channel.lay_down.Goals as goal
+
+pub returns-in_err-put_if_full-clause-stopped : goal.returns-in_err-put_if_full-clause-stopped
+returns-in_err-put_if_full-clause-stopped g c =
+    let before = laid (mine c.args.pass.now) c.args.part.now in let was = laid (mine c.loop-round.pass) c.loop-round.part in
+    on_err c.from_residual.result (laid_some (laid (mine c.put_if_full.new.pass) c.put_if_full.new.part) was before (encoded c.args.line.now) c.loop-round.done c.in_err-put_if_full.ensures.laid c.loop-round.invariant.laid_is, c.in_err-put_if_full.ensures.stopped)
+
+pub returns-then-done-all-clause-laid : goal.returns-then-done-all-clause-laid
+returns-then-done-all-clause-laid g c =
+    let before = laid (mine c.args.pass.now) c.args.part.now in let was = laid (mine c.loop-round.pass) c.loop-round.part in
+    laid_all (laid (mine c.put_if_full.new.pass) c.put_if_full.new.part) was before (encoded c.args.line.now) c.loop-round.done c.in_ok-put_if_full.ensures.laid c.loop-round.invariant.laid_is (omega (arith, encoded_length c.args.line.now))
+
+pub returns-in_err-done-clause-stopped : goal.returns-in_err-done-clause-stopped
+returns-in_err-done-clause-stopped g c =
+    let before = laid (mine c.args.pass.now) c.args.part.now in let was = laid (mine c.loop-round.pass) c.loop-round.part in
+    let own = mine c.put_if_full.new.pass in let full = laid own c.put_if_full.new.part in let now = laid own c.fill.new.part in
+    let same : now ≡ full = laid_same own own c.put_if_full.new.part c.fill.new.part refl c.in_err-done.ensures.stopped.0 in
+    let is : now ≡ was = (◌∙◌) {a = now} {b = full} {c = was} same c.in_ok-put_if_full.ensures.laid in
+    on_err c.from_residual-in_err-done.result (laid_some now was before (encoded c.args.line.now) c.loop-round.done is c.loop-round.invariant.laid_is, c.in_err-done.ensures.stopped.1)
+
+pub loop-round-preserved : goal.loop-round-preserved
+loop-round-preserved g c =
+    let before = laid (mine c.args.pass.now) c.args.part.now in let was = laid (mine c.loop-round.pass) c.loop-round.part in
+    let s1 = c.loop-round.invariant.same in let s2 = c.in_ok-put_if_full.ensures.supply.1 in let s3 = c.in_ok-done.ensures.supply.1 in
+    record {
+      supply = c.in_ok-done.ensures.supply.0;
+      same = same_on _ _ _ (same_on _ _ _ s1 s2) s3;
+      pass = c.in_ok-put_if_full.ensures.pass;
+      part = search rules;
+      is_open = search rules;
+      within = omega (arith, c.in_ok-done.ensures.count);
+      laid_is = laid_more (mine c.put_if_full.new.pass) c.put_if_full.new.part c.fill.new.part was before (encoded c.args.line.now) c.loop-round.done c.in_ok-done.field-0
+          c.in_ok-put_if_full.ensures.laid c.loop-round.invariant.laid_is c.in_ok-done.ensures.copied;
+    }

@@ -1,0 +1,5 @@
+pub mod Writers
+pub mod Routers
+pub mod Channels
+pub mod Lists
+pub mod Partitions

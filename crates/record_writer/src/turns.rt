@@ -1,0 +1,113 @@
+// Turns of a task at the cells of its partition.
+ghost use Rattle.std.specs.Prelude.{◌≡◌, [], ◌∷◌, ◌++◌, false, length, OnOk, IfErr, IfSome, IsTrue, IsFalse};
+ghost use Rattle.turn_cell.specs.Passes.{IsPassOf, IsTurnOf, HasEntered, opened_with, mine, number, seen};
+ghost use Rattle.local_pool.specs.Helds.{pool_of};
+ghost use Rattle.segment_pool.specs.Pools.{size_of};
+ghost use Rattle.subpartition.specs.declared.entry.SendEntry.TheVariants.{Put, Finish};
+ghost use Rattle.subpartition.specs.Queues.{bytes_of, last_bytes};
+ghost use Rattle.subpartition.specs.Sending.{is_finished};
+ghost use Rattle.subpartition.specs.Standing.{StandsFor};
+ghost use Rattle.record_writer.specs.Channels.{IsTaskPass};
+
+use local_pool::HeldPool;
+use segment_pool::Segment;
+use std::marker::Brand;
+use std::sync::Wait;
+use subpartition::laws::{calls_add_entries, calls_tell};
+use subpartition::{Filled, SendEntry, Subpartition};
+use turn_cell::{Named, Pass, Turn, TurnCell};
+
+// Ends the turn in which the last item was put, a buffer.
+fn leave_put<E: Named<SendEntry>>(turn: Turn<Subpartition>)
+    requires entry { E.entry ≡ Put (last_bytes turn.state.items) }
+    requires turn { IsTurnOf turn.cell.now turn.pass.now }
+    requires state { StandsFor turn.state (seen turn.pass.now ++ (number turn.pass.now, Put (last_bytes turn.state.items)) ∷ []) }
+    requires size { turn.state.size ≡ (opened_with turn.cell.now).size }
+    ensures pass { IsPassOf turn.entry.cell.now turn.exit.1.0.now }
+    ensures entered { HasEntered (Put (last_bytes turn.entry.state.items)) turn.entry.pass.now turn.exit.1.0.now }
+{
+    turn.leave::<E>();
+}
+
+/// Puts a buffer in a turn, or hands it back where there is no room.
+pub(crate) fn put_in_turn<R: Wait>(
+    rt: &R,
+    cell: &TurnCell<Subpartition>,
+    pass: &mut Pass<Subpartition>,
+    filled: Filled,
+) -> Result<(), Filled>
+    requires pass { IsTaskPass cell.now pass.old }
+    requires open_end { is_finished (mine pass.old) ≡ false }
+    ensures pass { IsTaskPass cell.now pass.new }
+    ensures entered { OnOk result (mine pass.new ≡ mine pass.old ++ Put (bytes_of filled) ∷ []) }
+    ensures refused { IfErr result (λ back. (back ≡ filled) × (mine pass.new ≡ mine pass.old)) }
+{
+    let mut turn = cell.enter(rt, pass);
+    calls_add_entries();
+    calls_tell();
+    if turn.state().spare() == 0 {
+        turn.leave_as_is();
+        return Err(filled);
+    }
+    turn.state().put(filled);
+    leave_put::<Brand>(turn);
+    Ok(())
+}
+
+/// Puts the end in a turn, and answers whether there was room.
+pub(crate) fn finish_in_turn<R: Wait>(
+    rt: &R,
+    cell: &TurnCell<Subpartition>,
+    pass: &mut Pass<Subpartition>,
+) -> bool
+    requires pass { IsTaskPass cell.now pass.old }
+    requires open_end { is_finished (mine pass.old) ≡ false }
+    ensures pass { IsTaskPass cell.now pass.new }
+    ensures entered { IsTrue result → mine pass.new ≡ mine pass.old ++ Finish ∷ [] }
+    ensures refused { IsFalse result → mine pass.new ≡ mine pass.old }
+{
+    let mut turn = cell.enter(rt, pass);
+    calls_add_entries();
+    calls_tell();
+    if turn.state().spare() == 0 {
+        turn.leave_as_is();
+        return false;
+    }
+    turn.state().finish();
+    turn.leave::<Brand>();
+    true
+}
+
+/// Asks a pool for a segment in a turn, and hands the pass back.
+pub(crate) fn request_in_turn<'p, R: Wait>(
+    rt: &R,
+    cell: &TurnCell<HeldPool<'p>>,
+    pass: Pass<HeldPool<'p>>,
+) -> (Pass<HeldPool<'p>>, Option<Segment>)
+    requires { IsPassOf cell.now pass }
+    ensures pass { IsPassOf cell.now result.0 }
+    ensures size { IfSome result.1 (λ segment. length segment ≡ size_of (pool_of (opened_with cell.now))) }
+{
+    let (mut lender, turn) = cell.enter_owned(rt, pass);
+    let segment = lender.request(rt);
+    (turn.leave_as_is(lender), segment)
+}
+
+/// Gives a segment back to a pool in a turn, and hands the pass back. Where the pool has lent none, the
+/// segment is dropped.
+pub(crate) fn give_in_turn<'p, R: Wait>(
+    rt: &R,
+    cell: &TurnCell<HeldPool<'p>>,
+    pass: Pass<HeldPool<'p>>,
+    segment: Segment,
+) -> Pass<HeldPool<'p>>
+    requires pass { IsPassOf cell.now pass }
+    requires size { length segment ≡ size_of (pool_of (opened_with cell.now)) }
+    ensures { IsPassOf cell.now result }
+{
+    let (mut lender, turn) = cell.enter_owned(rt, pass);
+    if lender.lent() > 0 {
+        lender.give(rt, segment);
+    }
+    turn.leave_as_is(lender)
+}

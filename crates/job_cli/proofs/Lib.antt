@@ -1,6 +1,4 @@
-pub mod CountLemmas
 pub mod CountingLemmas
-pub mod LinesLemmas
 pub mod PlanLemmas
 pub mod RunLemmas
 pub mod ScriptLemmas

@@ -15,7 +15,7 @@ use Rattle.job_text.specs.JobFaults.{first_fault}
 use Rattle.job_cli.specs.declared.run.TheConstants.{JOB_MAX}
 use Rattle.job_cli.specs.declared.fault.Fault.{Fault}
 use Rattle.job_cli.specs.declared.fault.Fault.TheVariants.{Usage, JobLine, ScriptLine, JobInput, ScriptInput, SourceInput, Output, LongJob, LongScript, LongLine, BigSource, TooFewSegments, Memory}
-use Rattle.job_cli.specs.Plans.{IsReady, CanRun}
+use Rattle.job_plan.specs.Plans.{IsReady, CanRun}
 use Rattle.job_cli.specs.Sources.{IsSourceFault}
 use Rattle.job_cli.specs.Scripts.{NamesScript, IsScriptWith, HasEnough, IsScriptFault, ScriptRunsTo, printed_replies}
 use Rattle.script_text.specs.declared.event.Script.{Script}

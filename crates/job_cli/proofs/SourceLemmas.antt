@@ -10,11 +10,11 @@ use Rattle.flow_defs.specs.Tables.{Values}
 use Rattle.plain_machine.specs.Worth.{concat_below}
 use Rattle.job_cli.specs.Counting.{add_lines}
 use Rattle.std.specs.Prelude.{⊤}
-use Rattle.job_cli.specs.declared.input.TheConstants.{SOURCE_MAX}
+use Rattle.job_plan.specs.declared.limits.TheConstants.{SOURCE_MAX}
 use Rattle.job_cli.specs.declared.input.InputFault.{InputFault}
 use Rattle.job_cli.specs.declared.input.InputFault.TheVariants.{Failed, TooBig, LongLine, Memory}
 use Rattle.job_cli.specs.Causes.{of_source}
-use Rattle.job_cli.specs.Limits.{HasLongLine, IsOverLimit}
+use Rattle.job_plan.specs.Limits.{HasLongLine, IsOverLimit}
 use Rattle.job_cli.specs.Sources.{source_name, IsSourceFault}
 use Rattle.job_cli.proofs.CountingLemmas.{lines_in_parts}
 

@@ -7,9 +7,9 @@ use Rattle.outside.specs.Told.{Reads}
 use Rattle.flow_defs.specs.declared.job.Job.{Job}
 use Rattle.flow_defs.specs.Tables.{Values}
 use Rattle.job_cli.specs.declared.lines.Lines.{Lines}
-use Rattle.job_cli.specs.Limits.{HasLongLine, IsOverLimit}
+use Rattle.job_plan.specs.Limits.{HasLongLine, IsOverLimit}
 use Rattle.job_cli.specs.LinesUnderWay.{IsUnderWay, GoesOn}
-use Rattle.job_cli.proofs.LinesLemmas.{long_later, none_long, begun_short}
+use Rattle.job_plan.proofs.LinesLemmas.{long_later, none_long, begun_short}
 
 -- some lines have ended in what was read, so many bytes, and the lines of what is left of all follow them
 abbrev pub IsOnWay : Job → Values → Option (List ℕ) → Option (List ℕ) → ℕ → Lines → Type 0

@@ -1,13 +1,9 @@
-pub mod Begun
 pub mod Causes
 pub mod Counting
-pub mod Entries
 pub mod FaultTexts
 pub mod Faults
 pub mod Front
-pub mod Limits
 pub mod LinesUnderWay
-pub mod Plans
 pub mod Sources
 pub mod TextFaults
 pub mod Scripts

@@ -4,8 +4,8 @@ use Rattle.flow_defs.specs.declared.job.Job.{Job}
 use Rattle.flow_defs.specs.Lines.{lines}
 use Rattle.flow_defs.specs.Tables.{Values}
 use Rattle.job_cli.specs.declared.lines.Lines.{Lines}
-use Rattle.job_cli.specs.Begun.{IsBegun}
-use Rattle.job_cli.specs.Limits.{HasLongLine}
+use Rattle.job_plan.specs.Begun.{IsBegun}
+use Rattle.job_plan.specs.Limits.{HasLongLine}
 use Rattle.job_cli.specs.Counting.{add_lines}
 
 -- Since the counts were these, some lines have ended, none of them too long, and are counted; another one has begun.

@@ -16,7 +16,7 @@ use Rattle.job_cli.specs.declared.fault.Fault.TheVariants.{Usage, JobLine, Scrip
 use Rattle.job_cli.specs.Causes.{status_of}
 use Rattle.job_cli.specs.FaultTexts.{fault_line}
 use Rattle.job_cli.specs.Front.{GotFront}
-use Rattle.job_cli.specs.Limits.{IsOverLimit}
+use Rattle.job_plan.specs.Limits.{IsOverLimit}
 use Rattle.job_cli.specs.Sources.{source_name, IsSourceFault}
 use Rattle.job_cli.specs.declared.script.TheConstants.{SCRIPT_MAX}
 use Rattle.job_cli.specs.Scripts.{NamesScript, IsScriptWith, HasTooFew, HasBadLine, ScriptRunsTo, HasScripted, HasScriptedInPart}

@@ -5,10 +5,10 @@ use Rattle.flow_defs.specs.Items.{Items}
 use Rattle.flow_defs.specs.declared.job.Job.{Job}
 use Rattle.flow_defs.specs.Jobs.{tasks}
 use Rattle.flow_defs.specs.Lines.{lines}
-use Rattle.job_cli.specs.declared.input.TheConstants.{SOURCE_MAX}
+use Rattle.job_plan.specs.declared.limits.TheConstants.{SOURCE_MAX}
 use Rattle.job_cli.specs.declared.fault.Fault.{Fault}
 use Rattle.job_cli.specs.declared.fault.Fault.TheVariants.{SourceInput, LongLine, BigSource, Memory}
-use Rattle.job_cli.specs.Limits.{HasLongLine, IsOverLimit}
+use Rattle.job_plan.specs.Limits.{HasLongLine, IsOverLimit}
 
 -- The file that a source of a job names.
 abbrev pub source_name : Job → ℕ → List ℕ

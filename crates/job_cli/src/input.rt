@@ -2,22 +2,20 @@
 ghost use Rattle.std.specs.Prelude.{◌≡◌, ◌≢◌, ◌<◌, ◌≤◌, ◌^◌, ◌++◌, [], Err, IfOk, IfSome, OnOk, length};
 ghost use Rattle.flow_defs.specs.Lines.{lines as lines_of};
 ghost use Rattle.job_cli.specs.Counting.{add_lines};
-ghost use Rattle.job_cli.specs.Limits.{HasLongLine, IsOverLimit};
-ghost use Rattle.job_cli.specs.Plans.{CanRun};
+ghost use Rattle.job_plan.specs.Limits.{HasLongLine, IsOverLimit};
+ghost use Rattle.job_plan.specs.Plans.{CanRun};
 ghost use Rattle.stage_fns.specs.Kinds.{kinds};
 ghost use Rattle.outside.specs.Faults.{HasRisen};
 
 use crate::lines::{LineFault, Lines};
 use crate::plan::Plan;
 use flow_defs::Bytes;
+use job_plan::SOURCE_MAX;
 use outside::{Failed, Files, FindFault, Source};
 use std::alloc::{AllocError, Global};
 
 // How many bytes are asked for at once.
 const READ: usize = 65_536;
-
-/// The most bytes in a source: 1 TiB.
-pub const SOURCE_MAX: u64 = 1_099_511_627_776;
 
 /// Why an input was not read to its end.
 #[derive(Clone, Copy, Debug, PartialEq, Eq)]

@@ -5,13 +5,13 @@ ghost use Rattle.flow_defs.specs.Lines.{lines};
 ghost use Rattle.flow_defs.specs.Records.{IsShort};
 ghost use Rattle.flow_defs.specs.Tables.{Values};
 ghost use Rattle.job_cli.specs.Counting.{add_lines};
-ghost use Rattle.job_cli.specs.Limits.{HasLongLine};
-ghost use Rattle.job_cli.specs.Plans.{CanRun};
+ghost use Rattle.job_plan.specs.Limits.{HasLongLine};
+ghost use Rattle.job_plan.specs.Plans.{CanRun};
 ghost use Rattle.stage_fns.specs.Kinds.{kinds};
 
-use crate::counts::Counts;
 use crate::plan::Plan;
 use flow_defs::{RECORD_MAX, cut_line};
+use job_plan::Counts;
 use std::alloc::{AllocError, Global};
 
 /// Why a piece was not taken.

@@ -8,7 +8,6 @@
 //! the output for errors.
 #![tactic(auto)]
 
-mod counts;
 mod fault;
 mod input;
 mod lines;

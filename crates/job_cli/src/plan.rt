@@ -9,10 +9,10 @@ ghost use Rattle.stage_fns.specs.Functions.{HasAgg};
 ghost use Rattle.stage_fns.specs.Kinds.{kinds};
 ghost use Rattle.stage_fns.specs.Meets.{records};
 ghost use Rattle.job_cli.specs.Counting.{add_lines};
-ghost use Rattle.job_cli.specs.Plans.{IsReady, CanRun};
+ghost use Rattle.job_plan.specs.Plans.{IsReady, CanRun};
 
-use crate::counts::Counts;
 use flow_defs::{Bytes, Job, ListOf, Stage};
+use job_plan::{Counts, apply_stage};
 use plain_machine::laws::no_stage_lengthens;
 use stage_fns::FnTable;
 use std::alloc::{AllocError, Global};
@@ -59,7 +59,6 @@ impl Plan<'_> {
     }
 
     // What a stage gives for a record.
-    #[tactic(auto, unfolding(flow_defs::specs::Stages::apply))]
     fn apply(&self, stage: &Stage, record: &[u8]) -> Result<ListOf<Bytes>, AllocError>
         requires ready { IsReady (kinds self.now.functions.now) stage.now }
         requires short { IsShort «record».now }
@@ -69,7 +68,7 @@ impl Plan<'_> {
             unreachable!()
         };
         let mut given = ListOf::new(self.alloc);
-        f(self.alloc, stage.arg.as_slice(), record, &mut given)?;
+        apply_stage(self.alloc, stage, f, record, &mut given)?;
         Ok(given)
     }
 

@@ -4,7 +4,7 @@ ghost use Rattle.flow_defs.specs.Jobs.{tasks};
 ghost use Rattle.flow_defs.specs.declared.job.Job.{Job};
 ghost use Rattle.outside.specs.Faults.{HasRisen};
 ghost use Rattle.stage_fns.specs.Kinds.{kinds};
-ghost use Rattle.job_cli.specs.Limits.{IsOverLimit};
+ghost use Rattle.job_plan.specs.Limits.{IsOverLimit};
 ghost use Rattle.job_cli.specs.Run.{NamesCommand, NamesJob, HasDone, HasDoneInPart, IsNoJob, IsTold, PassesLimit, TellsJob, TellsRun, AreWithinLimits};
 ghost use Rattle.job_cli.specs.Scripts.{NamesScript, HasEnough, IsNoScript, IsScriptWith, PassesScriptLimit, TellsScript};
 ghost use Rattle.job_cli.specs.declared.run.TheConstants.{JOB_MAX};

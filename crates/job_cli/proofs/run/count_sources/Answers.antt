@@ -2,9 +2,9 @@ use Rattle.std.proofs.Common.{◌≡◌, ◌<◌, ℕ, List, length, Option, Err
 use Rattle.std.specs.FinMap.{empty}
 use Rattle.flow_defs.specs.Lines.{lines as lines_of}
 use Rattle.job_cli.specs.Counting.{add_lines}
-use Rattle.job_cli.specs.declared.input.TheConstants.{SOURCE_MAX}
+use Rattle.job_plan.specs.declared.limits.TheConstants.{SOURCE_MAX}
 use Rattle.job_cli.specs.Causes.{of_source}
-use Rattle.job_cli.specs.Limits.{HasLongLine, IsOverLimit}
+use Rattle.job_plan.specs.Limits.{HasLongLine, IsOverLimit}
 use Rattle.job_cli.specs.Sources.{source_name, IsSourceFault}
 use Rattle.job_cli.proofs.SourceLemmas.{name_at, within_on, counted_on, fault_is}
 use Rattle.job_cli.proofs.run.count_sources.Goals as goal

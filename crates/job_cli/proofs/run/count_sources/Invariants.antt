@@ -3,7 +3,7 @@ use Rattle.std.specs.FinMap.{empty}
 use Rattle.flow_defs.specs.Lines.{lines as lines_of}
 use Rattle.plain_machine.specs.Worth.{concat_below}
 use Rattle.job_cli.specs.Counting.{add_lines}
-use Rattle.job_cli.specs.Limits.{IsOverLimit}
+use Rattle.job_plan.specs.Limits.{IsOverLimit}
 use Rattle.job_cli.specs.Sources.{source_name}
 use Rattle.job_cli.proofs.run.count_sources.Given as goal
 

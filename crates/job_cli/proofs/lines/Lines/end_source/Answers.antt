@@ -3,7 +3,7 @@ use Rattle.std.proofs.lemmas.Bool.Decides.{nat_tests}
 use Rattle.flow_defs.specs.Tables.{Values}
 use Rattle.job_cli.specs.Counting.{add_lines}
 use Rattle.job_cli.proofs.CountingLemmas.{lines_in_parts}
-use Rattle.job_cli.proofs.LinesLemmas.{last_line}
+use Rattle.job_plan.proofs.LinesLemmas.{last_line}
 use Rattle.job_cli.proofs.lines.Lines.end_source.Goals as goal
 
 pub returns-in_ok-put_line-clause-counted : goal.returns-in_ok-put_line-clause-counted

@@ -2,12 +2,12 @@ use Rattle.std.proofs.Common.{arith, ◌++◌, ◌∷◌, [], ℕ, List, length,
 use Rattle.std.proofs.lemmas.Result.{err_from_is_err_and, on_ok_weaker}
 use Rattle.flow_defs.specs.Lines.{lines}
 use Rattle.flow_defs.specs.Tables.{Values}
-use Rattle.job_cli.specs.Limits.{HasLongLine}
+use Rattle.job_plan.specs.Limits.{HasLongLine}
 use Rattle.job_cli.specs.LinesUnderWay.{IsUnderWay}
 use Rattle.std.proofs.lemmas.List.{append-nil}
 use Rattle.job_cli.specs.Counting.{add_lines}
 use Rattle.job_cli.proofs.CountingLemmas.{lines_in_parts}
-use Rattle.job_cli.proofs.LinesLemmas.{none_begun, ends, goes_on, long_later, long_begun, none_long, one_short}
+use Rattle.job_plan.proofs.LinesLemmas.{none_begun, ends, goes_on, long_later, long_begun, none_long, one_short}
 use Rattle.job_cli.proofs.lines.Lines.feed.Goals as goal
 
 pub lines-init : goal.lines-init

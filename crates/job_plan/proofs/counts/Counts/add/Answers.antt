@@ -8,9 +8,9 @@ use Rattle.std.specs.FinMap.{get, insert, from_entries}
 use Rattle.std.specs.Map.{lookup}
 use Rattle.flow_defs.specs.Aggregates.{key_of, value_of, folded}
 use Rattle.flow_defs.specs.Tables.{Values, key_cmp}
-use Rattle.job_cli.specs.Entries.{entry_pairs}
-use Rattle.job_cli.proofs.CountLemmas.{Key, has_bytes, inserted, set_in, get-entries}
-use Rattle.job_cli.proofs.counts.Counts.add.Goals as goal
+use Rattle.job_plan.specs.Entries.{entry_pairs}
+use Rattle.job_plan.proofs.CountLemmas.{Key, has_bytes, inserted, set_in, get-entries}
+use Rattle.job_plan.proofs.counts.Counts.add.Goals as goal
 
 pub returns-in-Some-clause-ok : goal.returns-in-Some-clause-ok
 returns-in-Some-clause-ok g c =

@@ -8,9 +8,9 @@ use Rattle.std.proofs.lemmas.Iterator.Adapters.{fact_from_collect}
 use Rattle.std.proofs.lemmas.Iterator.Consumers.{YieldsList-from_rest}
 use Rattle.std.proofs.lemmas.Map.Made.{update_all_none}
 use Rattle.flow_defs.specs.Tables.{Values}
-use Rattle.job_cli.specs.Entries.{entry_pairs}
-use Rattle.job_cli.proofs.CountLemmas.{Key, in_order, same_bytes, all_put, all_put_is}
-use Rattle.job_cli.proofs.counts.Counts.into_table.Goals as goal
+use Rattle.job_plan.specs.Entries.{entry_pairs}
+use Rattle.job_plan.proofs.CountLemmas.{Key, in_order, same_bytes, all_put, all_put_is}
+use Rattle.job_plan.proofs.counts.Counts.into_table.Goals as goal
 
 pub loop-key-init : goal.loop-key-init
 loop-key-init c =

@@ -14,7 +14,7 @@ use Rattle.std.proofs.lemmas.Cmp.{nat_list_cmp_total, eq_by_cmp_equiv, on_equiv}
 use Rattle.std.proofs.lemmas.Map.Keys.{sorted_head, sorted_tail}
 use Rattle.flow_defs.specs.Items.{Items}
 use Rattle.flow_defs.specs.Tables.{Values, key_cmp}
-use Rattle.job_cli.specs.Entries.{entry_pairs}
+use Rattle.job_plan.specs.Entries.{entry_pairs}
 
 abbrev pub Key : Type 0
 Key = Items ℕ

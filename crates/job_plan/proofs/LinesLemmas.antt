@@ -3,8 +3,8 @@ use Rattle.std.proofs.Common.{◌≡◌, ℕ, ◌<◌, ◌≤◌, List, [], ◌�
 use Rattle.std.proofs.lemmas.List.{append-nil}
 use Rattle.flow_defs.specs.declared.TheConstants.{RECORD_MAX}
 use Rattle.flow_defs.specs.Lines.{lines, onto_first_line}
-use Rattle.job_cli.specs.Limits.{HasLongLine}
-use Rattle.job_cli.specs.Begun.{IsBegun}
+use Rattle.job_plan.specs.Limits.{HasLongLine}
+use Rattle.job_plan.specs.Begun.{IsBegun}
 
 onto_cons : (line first : List ℕ) (rest : List (List ℕ)) → onto_first_line line (first ∷ rest) ≡ (line ++ first) ∷ rest
 onto_cons [] first rest = refl

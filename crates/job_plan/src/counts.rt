@@ -26,7 +26,7 @@ impl Model for Counts {
     ghost use Rattle.std.specs.Coded.{coded_ℕ, coded_list};
     ghost use Rattle.std.specs.FinMap as map;
     ghost use Rattle.flow_defs.specs.Tables.{Values};
-    ghost use Rattle.job_cli.specs.Entries.{entry_pairs};
+    ghost use Rattle.job_plan.specs.Entries.{entry_pairs};
 
     ghost Value = { Values };
 

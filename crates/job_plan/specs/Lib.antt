@@ -1,0 +1,4 @@
+pub mod Limits
+pub mod Plans
+pub mod Entries
+pub mod Begun

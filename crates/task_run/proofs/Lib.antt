@@ -1,0 +1,11 @@
+pub mod Noting
+pub mod TakingLemmas
+pub mod AggregateLemmas
+pub mod EndingLemmas
+pub mod SendingLemmas
+pub mod StageLemmas
+pub mod PartitionLemmas
+pub mod CuttingLemmas
+pub mod ReadingLemmas
+pub mod Samples
+pub mod OneChannel

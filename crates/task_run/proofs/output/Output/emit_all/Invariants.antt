@@ -1,0 +1,13 @@
+use Rattle.std.proofs.Common.{◌≡◌, ◌++◌, ℕ, List, take}
+use Rattle.flow_defs.specs.declared.job.Job.{Job}
+use Rattle.record_writer.specs.Writers.{IsOpen, IsSame}
+use Rattle.task_run.specs.Sending.{HasSent, bytes_of}
+use Rattle.task_run.proofs.output.Output.emit_all.Given as goal
+
+-- the records before this one have been emitted
+abbrev pub invariant-loop-line : goal.invariant-loop-line
+invariant-loop-line g l = record {
+  same : IsSame l.initial.self.writer l.self.writer;
+  is_open : IsOpen l.self.writer;
+  sent : (job : Job) (e a size : ℕ) (sent : List (List ℕ)) → HasSent job e a size l.initial.self sent → HasSent job e a size l.self (sent ++ bytes_of (take l.line-index l.lines));
+}

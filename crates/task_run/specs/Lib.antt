@@ -1,0 +1,9 @@
+pub mod Tasks
+pub mod Taking
+pub mod Ending
+pub mod Sending
+pub mod Applying
+pub mod Finishing
+pub mod Cutting
+pub mod Reading
+pub mod Samples

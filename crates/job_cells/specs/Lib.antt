@@ -1,0 +1,8 @@
+pub mod Edges
+pub mod Ends
+pub mod Grants
+pub mod Groups
+pub mod Lending
+pub mod Parts
+pub mod Places
+pub mod Spans

@@ -1,0 +1,4 @@
+pub mod Channels
+pub mod Tallies
+pub mod Ends
+pub mod Accounts

@@ -1,0 +1,37 @@
+-- What the four loops of a connection did, each by its share and its half of a link. This is this project's own choice.
+use Rattle.std.specs.Prelude.{◌≡◌, ℕ, Bool, List, Option}
+use Rattle.conn_parts.specs.declared.share.ConnShare.{ConnShare}
+use Rattle.conn_parts.specs.declared.share.LoopEnd.{LoopEnd}
+use Rattle.conn_parts.specs.Stopping.{ToldStop}
+use Rattle.conn_send.specs.Sending.{SendHandsBack, SendAccount}
+use Rattle.conn_grant.specs.Granting.{ControlHandsBack, ControlAccount}
+use Rattle.conn_receive.specs.Receiving.{ItemsHandBack, ItemsAccount}
+use Rattle.conn_announce.specs.Announcing.{AnnounceHandsBack, AnnounceAccount}
+
+module _ {O L : Type 0} (line : O → L) (sent : O → Option (List ℕ)) (faults : O → ℕ) where
+  -- What the loop that sends items did, and the one that sends control frames.
+  pub record SentItems (share : ConnShare) (out : O) (end : LoopEnd O) : Type 0 where
+    pub back : SendHandsBack share end.passes
+    pub line_is : line end.half ≡ line out
+    pub account : SendAccount share.channels.now share.passes end.passes (sent out) (sent end.half) (faults out) (faults end.half) end.cause
+    pub stop : ToldStop share.stop.now end.cause share.passes.stop end.passes.stop
+
+  pub record SentControl (share : ConnShare) (out : O) (end : LoopEnd O) : Type 0 where
+    pub back : AnnounceHandsBack share end.passes
+    pub line_is : line end.half ≡ line out
+    pub account : AnnounceAccount share.channels.now share.passes end.passes (sent out) (sent end.half) (faults out) (faults end.half) end.cause
+    pub stop : ToldStop share.stop.now end.cause share.passes.stop end.passes.stop
+
+module _ {I L : Type 0} (line : I → L) (got : I → Option (List ℕ)) (ended : I → Option Bool) (faults : I → ℕ) where
+  -- What the loop that reads control frames did, and the one that reads items.
+  pub record ReadControl (share : ConnShare) (input : I) (end : LoopEnd I) : Type 0 where
+    pub back : ControlHandsBack share end.passes
+    pub line_is : line end.half ≡ line input
+    pub account : ControlAccount share end.passes (got input) (got end.half) (ended input) (ended end.half) (faults input) (faults end.half) end.cause
+    pub stop : ToldStop share.stop.now end.cause share.passes.stop end.passes.stop
+
+  pub record ReadItems (share : ConnShare) (input : I) (end : LoopEnd I) : Type 0 where
+    pub back : ItemsHandBack share end.passes
+    pub line_is : line end.half ≡ line input
+    pub account : ItemsAccount share end.passes (got input) (got end.half) (ended input) (ended end.half) (faults input) (faults end.half) end.cause
+    pub stop : ToldStop share.stop.now end.cause share.passes.stop end.passes.stop

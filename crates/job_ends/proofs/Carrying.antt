@@ -1,0 +1,84 @@
+-- Each channel of an edge that was settled carries.
+use Rattle.std.proofs.Common.{◌≡◌, ℕ, suc, ◌+◌, ◌*◌, ◌<◌, ◌≤◌, List, [], ◌∷◌, ◌++◌, length, Option, Some, slice_get, get_or, inl, inr, refl, sym, ap, subst, ◌∙◌, arith}
+use Rattle.std.specs.Option.{option_map_or}
+use Rattle.std.proofs.lemmas.Option.{slice_get_cases}
+use Rattle.turn_cell.specs.declared.cell.TurnCell.{TurnCell}
+use Rattle.turn_cell.specs.declared.pass.Pass.{Pass}
+use Rattle.turn_cell.specs.History.{StartsWith, by}
+use Rattle.turn_cell.specs.Passes.{IsPassOf, number, seen, mine}
+use Rattle.flow_defs.specs.declared.job.Job.{Job}
+use Rattle.flow_defs.specs.Jobs.{last_edge, tasks, is_channel, IsJob}
+use Rattle.plain_machine.proofs.Channels.{ends_of}
+use Rattle.subpartition.specs.Standing as sending
+use Rattle.input_channel.specs.States as receiving
+use Rattle.conn_parts.specs.Shares.{mine_at, seen_at}
+use Rattle.conn_parts.proofs.Passes.{number_at}
+use Rattle.record_writer.specs.Writers.{SendCell, SendPass, place_of, ways_on, ways_into}
+use Rattle.job_cells.specs.Edges.{place_into, channels_on}
+use Rattle.job_cells.specs.Places.{PlaceOf, ChannelsHavePlaces}
+use Rattle.input_gate.specs.Turning.{InputCell, InputPass}
+use Rattle.job_laws.specs.Channels.{SendingEnd, ReceivingEnd, LinesAreRecords}
+use Rattle.job_laws.specs.Ends.{CarriesAt, EdgeCarries}
+use Rattle.job_ends.specs.Settling.{AreTaskAt, SettledAt}
+use Rattle.job_ends.specs.Edges.{IsSettled, EdgesCarry}
+use Rattle.job_ends.proofs.Loops.{place_low}
+
+at_place : {A : Type 0} (xs : List A) (k : ℕ) → k < length xs → (x : A) × (slice_get xs k ≡ Some x) × (x ≡ get_or xs k x)
+at_place xs k low = elim (slice_get_cases xs k).1 [
+  | inl at ↦ (at.0, at.2, sym at.3)
+  | inr past ↦ absurd (let high = past.0 in omega (arith, low, high))
+]
+
+module _ {S E F : Type 0} where
+  -- A pass of a cell has its own entries in what it has seen.
+  seen_own : (passes : List (Pass S E F)) (k n : ℕ) (pass : Pass S E F) (cell : TurnCell S E F) → slice_get passes k ≡ Some pass → IsPassOf cell pass → number pass ≡ n →
+      by n (seen_at k passes) ≡ mine_at k passes
+  seen_own passes k n pass cell at is numbered =
+      let seen_is : seen_at k passes ≡ seen pass = ap (λ (o : Option (Pass S E F)). option_map_or (λ (p : Pass S E F). seen p) o []) at in
+      let mine_is : mine_at k passes ≡ mine pass = ap (λ (o : Option (Pass S E F)). option_map_or (λ (p : Pass S E F). mine p) o []) at in
+      ap (by n) seen_is ∙ ap (λ (m : ℕ). by m (seen pass)) (sym numbered) ∙ is.0.5 ∙ sym mine_is
+
+pub edges_carry : LinesAreRecords → ChannelsHavePlaces → EdgesCarry
+edges_carry law places job e senders inputs own gate takers pushers is s a b is_one =
+    let ends = ends_of job e a b is_one in
+    let p = places job e a b is is_one in
+    let k : ℕ = place_into job e b p.i in
+    let there : place_of a (tasks job e) p.c ≡ k = p.one in
+    let sent = s.sent a ends.sender p.c (omega (arith, s.own_many a ends.sender, p.way_out)) in
+    let came = s.came b ends.receiver p.i (omega (arith, s.gate_many b ends.receiver, p.way_in)) in
+    let low : k < length senders = let l = place_low (channels_on job e) k _ p.stands in omega (arith, l, s.cells) in
+    let taker = at_place takers k (let m = s.takers_are.of_cells.many in omega (arith, low, m)) in
+    let cell = at_place senders k low in
+    let gate_pass = at_place (gate b) p.i (omega (arith, s.gate_many b ends.receiver, p.way_in)) in
+    let gate_at = s.gate_are b ends.receiver p.i gate_pass.0 gate_pass.1 in
+    let taker_sees : by 1 (seen_at k takers) ≡ mine_at k takers =
+    seen_own takers k 1 taker.0 cell.0 taker.1 (s.takers_are.of_cells.each k cell.0 taker.0 cell.1 taker.1) (number_at 1 senders takers k taker.0 s.takers_are low taker.2) in
+    let gate_sees : by 0 (seen_at p.i (gate b)) ≡ mine_at p.i (gate b) = seen_own (gate b) p.i 0 gate_pass.0 gate_at.0 gate_pass.1 gate_at.2 gate_at.3 in
+    let same : place_of (b * ways_into job e) 1 p.i ≡ k = omega arith in
+    record {
+      way = p.c;
+      way_below = p.way_out;
+      leads = p.receiver;
+      lane = p.i;
+      lane_below = p.way_in;
+      comes = p.sender;
+      carries = λ records lines puts short gives short_lines ended.
+          law (mine_at p.c (own a)) (seen_at k takers) (mine_at k pushers) (seen_at p.i (gate b)) records lines
+          (record {
+            queue = sent.state;
+            history = sent.history;
+            stands = sent.stands_for;
+            task = sent.of_task;
+            later = subst (λ (x : ℕ). StartsWith sent.history (seen_at x takers)) there sent.later_loop;
+            loop = sent.of_loop ∙ ap (λ (x : ℕ). mine_at x takers) there ∙ sym taker_sees;
+          })
+          (record {
+            channel = came.state;
+            history = came.history;
+            stands = came.stands_for;
+            loop = came.of_loop ∙ ap (λ (x : ℕ). mine_at x pushers) same;
+            later = came.later_task;
+            gate = came.of_task ∙ sym gate_sees;
+          })
+          puts short (s.arrived k _ p.stands) gives short_lines ended;
+    }

@@ -1,0 +1,13 @@
+//! The law of edges that were settled. It does nothing; what it ensures is the law.
+ghost use Rattle.job_ends.specs.Edges.{EdgesCarry};
+
+use job_cells::laws::places_agree;
+use job_laws::laws::channels_carry_records;
+
+/// Each channel of an edge that was settled at both ends carries what was put there.
+pub fn edges_carry()
+    ensures { EdgesCarry }
+{
+    channels_carry_records();
+    places_agree();
+}

@@ -1,12 +1,17 @@
 -- What the four loops of a connection did, each by its share and its half of a link. This is this project's own choice.
 use Rattle.std.specs.Prelude.{◌≡◌, ℕ, Bool, List, Option}
+use Rattle.outside.specs.Links.{IsUnfinished}
 use Rattle.conn_parts.specs.declared.share.ConnShare.{ConnShare}
 use Rattle.conn_parts.specs.declared.share.LoopEnd.{LoopEnd}
 use Rattle.conn_parts.specs.Stopping.{ToldStop}
-use Rattle.conn_send.specs.Sending.{SendHandsBack, SendAccount}
-use Rattle.conn_grant.specs.Granting.{ControlHandsBack, ControlAccount}
-use Rattle.conn_receive.specs.Receiving.{ItemsHandBack, ItemsAccount}
-use Rattle.conn_announce.specs.Announcing.{AnnounceHandsBack, AnnounceAccount}
+use Rattle.conn_send.specs.Sending.{MaySendItems, SendHandsBack, SendAccount}
+use Rattle.conn_grant.specs.Granting.{MayReadControl, ControlHandsBack, ControlAccount}
+use Rattle.conn_receive.specs.Receiving.{MayReadItems, ItemsHandBack, ItemsAccount}
+use Rattle.conn_announce.specs.Announcing.{MaySendControl, AnnounceHandsBack, AnnounceAccount}
+use Rattle.job_workers.specs.declared.connection.ConnLoop.{ConnLoop}
+use Rattle.job_workers.specs.declared.connection.ConnLoop.TheVariants as todo
+use Rattle.job_workers.specs.declared.connection.LoopLeft.{LoopLeft}
+use Rattle.job_workers.specs.declared.connection.LoopLeft.TheVariants as did
 
 module _ {O L : Type 0} (line : O → L) (sent : O → Option (List ℕ)) (faults : O → ℕ) where
   -- What the loop that sends items did, and the one that sends control frames.
@@ -35,3 +40,19 @@ module _ {I L : Type 0} (line : I → L) (got : I → Option (List ℕ)) (ended 
     pub line_is : line end.half ≡ line input
     pub account : ItemsAccount share end.passes (got input) (got end.half) (ended input) (ended end.half) (faults input) (faults end.half) end.cause
     pub stop : ToldStop share.stop.now end.cause share.passes.stop end.passes.stop
+
+-- A loop has passes of the cells that it enters, and a half of a link that is not finished.
+abbrev pub MayRunLoop : {O I : Type 0} → (O → Option Bool) → ConnLoop O I → Type 0
+MayRunLoop finished (todo.SendItems work) = MaySendItems work.share × IsUnfinished (finished work.half)
+MayRunLoop finished (todo.ReadControl work) = MayReadControl work.share
+MayRunLoop finished (todo.ReadItems work) = MayReadItems work.share
+MayRunLoop finished (todo.SendControl work) = MaySendControl work.share × IsUnfinished (finished work.half)
+
+-- Each leaves what it did.
+abbrev pub LeftByLoop : {O I L N : Type 0} → (O → L) → (O → Option (List ℕ)) → (O → ℕ) → (I → N) → (I → Option (List ℕ)) → (I → Option Bool) → (I → ℕ) →
+    ConnLoop O I → LoopLeft O I → Type 0
+LeftByLoop line sent risen end got ended faults (todo.SendItems work) (did.SentItems left) = SentItems line sent risen work.share work.half left
+LeftByLoop line sent risen end got ended faults (todo.ReadControl work) (did.ReadControl left) = ReadControl end got ended faults work.share work.half left
+LeftByLoop line sent risen end got ended faults (todo.ReadItems work) (did.ReadItems left) = ReadItems end got ended faults work.share work.half left
+LeftByLoop line sent risen end got ended faults (todo.SendControl work) (did.SentControl left) = SentControl line sent risen work.share work.half left
+LeftByLoop line sent risen end got ended faults loop left = ⊥

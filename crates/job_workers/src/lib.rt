@@ -1,12 +1,17 @@
-//! The workers of a job: its tasks, and the loops of its connections.
+//! The workers of a job: its tasks, and the loops of its connections. Each stands in a place, and all run
+//! at once.
+//!
+//! It stands on task_run and conn_run. Contracts say place by place what a worker leaves there.
 #![tactic(auto)]
 
-mod loops;
+mod all;
+mod connection;
 mod place;
-mod tasks;
+mod task;
 #[cfg(test)]
 mod tests;
 
-pub use loops::{ControlReader, ControlWriter, ItemsReader, ItemsWriter};
-pub use place::{Place, Worker, run_places, run_rows};
-pub use tasks::{AggregateTask, SourceLeft, SourceTask, StageTask};
+pub use all::{LoopPlace, LoopRow, TaskPlace, TaskRow, run_all};
+pub use connection::{ConnLoop, LoopLeft, LoopWork};
+pub use place::{Place, Worker, run_rows};
+pub use task::{AggregateTask, Lent, SourceTask, StageTask, Task, TaskLeft};

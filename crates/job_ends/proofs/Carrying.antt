@@ -1,26 +1,20 @@
 -- Each channel of an edge that was settled carries.
-use Rattle.std.proofs.Common.{◌≡◌, ℕ, suc, ◌+◌, ◌*◌, ◌<◌, ◌≤◌, List, [], ◌∷◌, ◌++◌, length, Option, Some, slice_get, get_or, inl, inr, refl, sym, ap, subst, ◌∙◌, arith}
+use Rattle.std.proofs.Common.{◌≡◌, ℕ, ◌*◌, ◌<◌, List, [], length, Option, Some, slice_get, get_or, inl, inr, sym, ap, subst, ◌∙◌, arith}
 use Rattle.std.specs.Option.{option_map_or}
 use Rattle.std.proofs.lemmas.Option.{slice_get_cases}
 use Rattle.turn_cell.specs.declared.cell.TurnCell.{TurnCell}
 use Rattle.turn_cell.specs.declared.pass.Pass.{Pass}
 use Rattle.turn_cell.specs.History.{StartsWith, by}
 use Rattle.turn_cell.specs.Passes.{IsPassOf, number, seen, mine}
-use Rattle.flow_defs.specs.declared.job.Job.{Job}
-use Rattle.flow_defs.specs.Jobs.{last_edge, tasks, is_channel, IsJob}
+use Rattle.flow_defs.specs.Jobs.{tasks}
 use Rattle.plain_machine.proofs.Channels.{ends_of}
-use Rattle.subpartition.specs.Standing as sending
-use Rattle.input_channel.specs.States as receiving
 use Rattle.conn_parts.specs.Shares.{mine_at, seen_at}
 use Rattle.conn_parts.proofs.Passes.{number_at}
-use Rattle.record_writer.specs.Writers.{SendCell, SendPass, place_of, ways_on, ways_into}
+use Rattle.record_writer.specs.Writers.{place_of, ways_into}
 use Rattle.job_cells.specs.Edges.{place_into, channels_on}
-use Rattle.job_cells.specs.Places.{PlaceOf, ChannelsHavePlaces}
-use Rattle.input_gate.specs.Turning.{InputCell, InputPass}
-use Rattle.job_laws.specs.Channels.{SendingEnd, ReceivingEnd, LinesAreRecords}
-use Rattle.job_laws.specs.Ends.{CarriesAt, EdgeCarries}
-use Rattle.job_ends.specs.Settling.{AreTaskAt, SettledAt}
-use Rattle.job_ends.specs.Edges.{IsSettled, EdgesCarry}
+use Rattle.job_cells.specs.Places.{ChannelsHavePlaces}
+use Rattle.job_laws.specs.Channels.{LinesAreRecords}
+use Rattle.job_ends.specs.Edges.{EdgesCarry}
 use Rattle.job_ends.proofs.Loops.{place_low}
 
 at_place : {A : Type 0} (xs : List A) (k : ℕ) → k < length xs → (x : A) × (slice_get xs k ≡ Some x) × (x ≡ get_or xs k x)

@@ -1,3 +1,7 @@
 pub mod Histories
 pub mod Loops
 pub mod Carrying
+pub mod Rows
+pub mod Leavings
+pub mod Endings
+pub mod FourEnds

@@ -1,5 +1,5 @@
 -- The passes of a loop, where that at a place was settled with a task's.
-use Rattle.std.proofs.Common.{◌≡◌, ℕ, zero, suc, true, false, true≢false, ◌+◌, ◌*◌, ◌<◌, ◌≤◌, inl, inr, length-append, append_assoc, Option, List, [], ◌∷◌, ◌++◌, length, get_or, set, refl, sym, ap, subst, ◌∙◌, arith, append-nil}
+use Rattle.std.proofs.Common.{◌≡◌, ℕ, zero, suc, true, false, true≢false, ◌<◌, ◌≤◌, inl, inr, length-append, append_assoc, Option, List, [], ◌∷◌, ◌++◌, length, get_or, set, refl, sym, ap, subst, ◌∙◌, arith, append-nil}
 use Rattle.std.specs.Prelude.{slice_get, Some, ◌↔◌}
 use Rattle.std.specs.List.{refill}
 use Rattle.std.specs.Option.{option_map_or}

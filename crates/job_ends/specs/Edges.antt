@@ -1,11 +1,9 @@
 -- An edge whose channels were settled at both ends. This is this project's own choice.
-use Rattle.std.specs.Prelude.{◌≡◌, ℕ, suc, ◌*◌, ◌<◌, ◌≤◌, List, length, slice_get, Some}
+use Rattle.std.specs.Prelude.{◌≡◌, ℕ, suc, ◌*◌, ◌<◌, List, length, slice_get, Some}
 use Rattle.turn_cell.specs.History.{StartsWith, entries_of}
 use Rattle.flow_defs.specs.declared.job.Job.{Job}
 use Rattle.flow_defs.specs.declared.task.ChannelId.{ChannelId}
-use Rattle.flow_defs.specs.Jobs.{last_edge, tasks, IsJob}
-use Rattle.subpartition.specs.Queues.{Queue}
-use Rattle.subpartition.specs.declared.entry.SendEntry.{SendEntry}
+use Rattle.flow_defs.specs.Jobs.{tasks, IsJob}
 use Rattle.subpartition.specs.Sending.{taken}
 use Rattle.subpartition.specs.Standing as sending
 use Rattle.input_channel.specs.States as receiving

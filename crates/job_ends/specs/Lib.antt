@@ -1,2 +1,4 @@
 pub mod Settling
 pub mod Edges
+pub mod Ended
+pub mod Leaving

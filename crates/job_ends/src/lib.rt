@@ -2,10 +2,15 @@
 #![tactic(auto)]
 
 mod channels;
+mod edges;
 pub mod laws;
+mod left;
 mod settling;
+mod stages;
 #[cfg(test)]
 mod tests;
+mod wires;
 
 pub use channels::settle_channels;
+pub use edges::settle_edges;
 pub use settling::settle;

@@ -1,4 +1,4 @@
-use Rattle.std.proofs.Common.{◌≡◌, ◌<◌, ◌≤◌, ◌+◌, ◌*◌, ◌^◌, length, ℕ, List, [], ◌∷◌, ◌++◌, refl, sym, ap, subst, ◌∙◌, append-nil, length-append, arith}
+use Rattle.std.proofs.Common.{◌<◌, ◌+◌, ◌*◌, length, List, [], ◌∷◌, sym, ap, subst, ◌∙◌, append-nil, length-append, arith}
 use Rattle.turn_cell.specs.Passes.{seen, mine}
 use Rattle.conn_parts.specs.Shares.{mine_at, seen_at}
 use Rattle.record_writer.specs.Writers.{place_of}

@@ -1,6 +1,6 @@
 use Rattle.std.proofs.Common.{◌≡◌, ℕ, List, sym, ap, subst, ◌∙◌}
 use Rattle.turn_cell.specs.History.{StartsWith, by}
-use Rattle.turn_cell.specs.Passes.{number, seen, mine}
+use Rattle.turn_cell.specs.Passes.{number, seen}
 use Rattle.job_ends.proofs.Histories.{starts_again, by_between}
 use Rattle.job_ends.proofs.settling.settle.Goals as goal
 

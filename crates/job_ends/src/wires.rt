@@ -1,0 +1,20 @@
+// The wire of an edge, given back.
+ghost use Rattle.std.specs.Prelude.{◌≡◌, ◌<◌, ◌≤◌, suc};
+ghost use Rattle.outside.specs.Faults.{HasRisen};
+ghost use Rattle.outside.specs.Links.{HasMet, faults_of};
+
+use outside::{Links, Wire};
+
+/// Lets the ends of its data link compare what they have seen, and gives a wire back.
+pub fn give_back<N: Links>(net: &mut N, wire: Wire<N::Out, N::In>)
+    requires belong { N.belong (N.Out.line wire.data_out) (N.In.line wire.data_in) }
+    requires lent { 0 < N.lent net.old }
+    ensures met { HasMet (N.Out.sent wire.data_out) (N.Out.finished wire.data_out) (N.In.got wire.data_in) (N.In.ended wire.data_in) }
+    ensures lent { suc (N.lent net.new) ≡ N.lent net.old }
+    ensures never_falls { N.faults net.old ≤ N.faults net.new }
+    ensures fault { 0 < faults_of N.Out.faults N.In.faults wire → HasRisen (N.faults net.old) (N.faults net.new) }
+{
+    let mut wire = wire;
+    net.meet(&mut wire.data_out, &mut wire.data_in);
+    net.back(wire);
+}

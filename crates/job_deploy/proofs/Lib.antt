@@ -1,0 +1,7 @@
+pub mod Orders
+pub mod Edges
+pub mod Dealing
+pub mod Rows
+pub mod Workers
+pub mod Lent
+pub mod Popping

@@ -1,0 +1,22 @@
+use Rattle.std.proofs.Common.{refl, ◌∙◌}
+use Rattle.job_deploy.proofs.Rows.{fewer_more}
+use Rattle.job_deploy.proofs.loops.shares_of.Goals as goal
+
+pub returns-clause-stops : goal.returns-clause-stops
+returns-clause-stops g c =
+    fewer_more 3 1 4 c.args.stops.now c.share_to_receive-items.new.stops c.share_to_announce-announce.new.stops refl
+    (fewer_more 2 1 3 c.args.stops.now c.share_to_grant-control.new.stops c.share_to_receive-items.new.stops refl
+    (fewer_more 1 1 2 c.args.stops.now c.share_to_send-send.new.stops c.share_to_grant-control.new.stops refl c.share_to_send-send.ensures.stops c.share_to_grant-control.ensures.stops)
+    c.share_to_receive-items.ensures.stops)
+    c.share_to_announce-announce.ensures.stops
+
+pub returns-clause-shares : goal.returns-clause-shares
+returns-clause-shares g c = record {
+  channels = (c.share_to_send-send.ensures.channels, c.share_to_receive-items.ensures.channels);
+  cells = (c.share_to_send-send.ensures.cells, c.share_to_receive-items.ensures.cells);
+  unseen = c.share_to_send-send.ensures.unseen;
+  new = c.share_to_receive-items.ensures.new;
+  may_send = (c.share_to_send-send.ensures.may, c.share_to_grant-control.ensures.may);
+  may_receive = (c.share_to_receive-items.ensures.may, c.share_to_announce-announce.ensures.may);
+  has_room = record { empty = c.reserve.ensures.items ∙ c.new-row.ensures; room = c.in_ok-reserve.ensures.ok };
+}

@@ -1,0 +1,6 @@
+pub mod Deployed
+pub mod Lending
+pub mod Making
+pub mod Placing
+pub mod Sharing
+pub mod Stops

@@ -1,0 +1,234 @@
+-- A cause with which a worker ended has its grounds, and each input comes back.
+use Rattle.std.proofs.Common.{◌≡◌, ◌≢◌, ℕ, zero, suc, ◌<◌, ◌≤◌, List, Option, Some, slice_get, refl, sym, ap, subst, ◌∙◌, arith, inl, inr}
+use Rattle.std.specs.Prelude.{Bool}
+use Rattle.std.proofs.lemmas.Bool.{cases_lt}
+use Rattle.flow_defs.specs.Items.{Items}
+use Rattle.flow_defs.specs.declared.cause.Cause.{Cause}
+use Rattle.flow_defs.specs.declared.cause.Cause.TheVariants as causes
+use Rattle.flow_defs.specs.declared.job.Job.{Job}
+use Rattle.flow_defs.specs.Jobs.{last_edge, tasks}
+use Rattle.outside.specs.declared.wires.Wire.{Wire}
+use Rattle.outside.specs.Faults.{HasRisen}
+use Rattle.conn_parts.specs.declared.share.ConnShare.{ConnShare}
+use Rattle.conn_parts.specs.declared.share.SharePasses.{SharePasses}
+use Rattle.conn_send.specs.Sending.{IsSendCause as IsSendItemsCause}
+use Rattle.conn_grant.specs.Granting.{EndedBy as ControlEndedBy}
+use Rattle.conn_receive.specs.Receiving.{EndedBy as ItemsEndedBy}
+use Rattle.conn_announce.specs.Announcing.{IsSendCause as IsAnnounceCause}
+use Rattle.task_run.specs.Tasks.{IsSourceCause}
+use Rattle.job_cells.specs.declared.edge.Edge.{Edge}
+use Rattle.job_workers.specs.declared.connection.LoopLeft.TheVariants as did
+use Rattle.job_workers.specs.declared.place.Place.TheVariants.{Ended}
+use Rattle.job_workers.specs.Tasks.{IsTakerEnd}
+use Rattle.job_ends.specs.Ended.{TaskPlace, LoopPlace, HasLinkFault, faults_in}
+use Rattle.job_outcome.specs.Outcomes.{HasEnded, StandsAt, IsRunCause, cause_of_task, cause_of_loop}
+use Rattle.job_outcome.specs.Theorems.{HaveRun, IsNewWire, AreLeftIn, InputsComeBack, CausesHaveGrounds}
+use Rattle.job_outcome.proofs.Places.{same_some, some_same, at_place, place_low, all_at, one_of_four}
+use Rattle.job_outcome.proofs.Running.{EndAt, is_left, row_many, source_at, stage_at, aggregate_at, LoopsEnd, loops_at}
+
+-- A count that rose from nothing is above it.
+risen_above : (fell rose : ℕ) → fell ≡ 0 → HasRisen fell rose → 0 < rose
+risen_above fell rose none (inl more) = omega (arith, none, more)
+risen_above fell rose none (inr full) = omega (arith, full)
+
+-- ---- causes
+
+module _ {S : Type 0} (left : S → Option (List ℕ)) (faults : S → ℕ) (before after : List S) (link : Type 0) where
+  abbrev Ground : Cause → Type 0
+  Ground cause = cause ≢ causes.Done → cause ≢ causes.Stopped → IsRunCause left faults before after link cause
+
+  of_source : (a b : ℕ) (old new : S) (cause : Cause) → b ≡ a → slice_get before a ≡ Some old → slice_get after a ≡ Some new →
+      IsSourceCause b (left old) (faults old) (faults new) cause → Ground cause
+  of_source a b old new causes.Done same was is h d s = absurd (d refl)
+  of_source a b old new causes.Stopped same was is h d s = absurd (s refl)
+  of_source a b old new (causes.Input source) same was is h d s =
+      let here : a ≡ source = sym (h.0 ∙ same) in
+      record { old = old; new = new; was = subst (λ (k : ℕ). slice_get before k ≡ Some old) here was; is = subst (λ (k : ℕ). slice_get after k ≡ Some new) here is; holds = h.1 }
+  of_source a b old new causes.Link same was is h d s = absurd h
+  of_source a b old new (causes.LongLine source) same was is h d s =
+      let here : a ≡ source = sym (h.0 ∙ same) in
+      record { old = old; new = new; was = subst (λ (k : ℕ). slice_get before k ≡ Some old) here was; is = subst (λ (k : ℕ). slice_get after k ≡ Some new) here is; holds = h.1 }
+  of_source a b old new (causes.BigSource source) same was is h d s =
+      let here : a ≡ source = sym (h.0 ∙ same) in
+      record { old = old; new = new; was = subst (λ (k : ℕ). slice_get before k ≡ Some old) here was; is = subst (λ (k : ℕ). slice_get after k ≡ Some new) here is; holds = h.1 }
+  of_source a b old new (causes.OverCredit channel received announced) same was is h d s = absurd h
+  of_source a b old new (causes.Peer fault) same was is h d s = absurd h
+  of_source a b old new causes.Memory same was is h d s = tt
+
+  of_taker : (cause : Cause) → IsTakerEnd cause → Ground cause
+  of_taker causes.Done h d s = absurd (d refl)
+  of_taker causes.Stopped h d s = absurd (s refl)
+  of_taker (causes.Input source) h d s = absurd h
+  of_taker causes.Link h d s = absurd h
+  of_taker (causes.LongLine source) h d s = absurd h
+  of_taker (causes.BigSource source) h d s = absurd h
+  of_taker (causes.OverCredit channel received announced) h d s = tt
+  of_taker (causes.Peer fault) h d s = tt
+  of_taker causes.Memory h d s = tt
+
+  of_sender : (cause : Cause) → IsSendItemsCause cause → (cause ≡ causes.Link → link) → Ground cause
+  of_sender causes.Done h l d s = absurd (d refl)
+  of_sender causes.Stopped h l d s = absurd (s refl)
+  of_sender (causes.Input source) h l d s = absurd h
+  of_sender causes.Link h l d s = l refl
+  of_sender (causes.LongLine source) h l d s = absurd h
+  of_sender (causes.BigSource source) h l d s = absurd h
+  of_sender (causes.OverCredit channel received announced) h l d s = tt
+  of_sender (causes.Peer fault) h l d s = tt
+  of_sender causes.Memory h l d s = tt
+
+  of_announcer : (cause : Cause) → IsAnnounceCause cause → (cause ≡ causes.Link → link) → Ground cause
+  of_announcer causes.Done h l d s = absurd (d refl)
+  of_announcer causes.Stopped h l d s = absurd (s refl)
+  of_announcer (causes.Input source) h l d s = absurd h
+  of_announcer causes.Link h l d s = l refl
+  of_announcer (causes.LongLine source) h l d s = absurd h
+  of_announcer (causes.BigSource source) h l d s = absurd h
+  of_announcer (causes.OverCredit channel received announced) h l d s = tt
+  of_announcer (causes.Peer fault) h l d s = tt
+  of_announcer causes.Memory h l d s = tt
+
+  of_control : (share : ConnShare) (passes : SharePasses) (was_ended ended : Option Bool) (rest : List ℕ) (fell rose : ℕ) (cause : Cause) →
+      ControlEndedBy share passes was_ended ended rest fell rose cause → (HasRisen fell rose → link) → Ground cause
+  of_control share passes was_ended ended rest fell rose causes.Done h l d s = absurd (d refl)
+  of_control share passes was_ended ended rest fell rose causes.Stopped h l d s = absurd (s refl)
+  of_control share passes was_ended ended rest fell rose (causes.Input source) h l d s = absurd h
+  of_control share passes was_ended ended rest fell rose causes.Link h l d s = l h
+  of_control share passes was_ended ended rest fell rose (causes.LongLine source) h l d s = absurd h
+  of_control share passes was_ended ended rest fell rose (causes.BigSource source) h l d s = absurd h
+  of_control share passes was_ended ended rest fell rose (causes.OverCredit channel received announced) h l d s = tt
+  of_control share passes was_ended ended rest fell rose (causes.Peer fault) h l d s = tt
+  of_control share passes was_ended ended rest fell rose causes.Memory h l d s = tt
+
+  of_items : (share : ConnShare) (passes : SharePasses) (was_ended ended : Option Bool) (rest : List ℕ) (fell rose : ℕ) (cause : Cause) →
+      ItemsEndedBy share passes was_ended ended rest fell rose cause → (HasRisen fell rose → link) → Ground cause
+  of_items share passes was_ended ended rest fell rose causes.Done h l d s = absurd (d refl)
+  of_items share passes was_ended ended rest fell rose causes.Stopped h l d s = absurd (s refl)
+  of_items share passes was_ended ended rest fell rose (causes.Input source) h l d s = absurd h
+  of_items share passes was_ended ended rest fell rose causes.Link h l d s = l h
+  of_items share passes was_ended ended rest fell rose (causes.LongLine source) h l d s = absurd h
+  of_items share passes was_ended ended rest fell rose (causes.BigSource source) h l d s = absurd h
+  of_items share passes was_ended ended rest fell rose (causes.OverCredit channel received announced) h l d s = tt
+  of_items share passes was_ended ended rest fell rose (causes.Peer fault) h l d s = tt
+  of_items share passes was_ended ended rest fell rose causes.Memory h l d s = tt
+
+-- ---- what ran
+
+module _ {S O I L N : Type 0} (left : S → Option (List ℕ)) (faults : S → ℕ)
+    (line : O → L) (sent : O → Option (List ℕ)) (finished : O → Option Bool) (of_out : O → ℕ)
+    (end_line : I → N) (got : I → Option (List ℕ)) (ended : I → Option Bool) (of_in : I → ℕ) (belong : L → N → Type 0) where
+  pub inputs_come_back : InputsComeBack left faults line sent finished of_out end_line got ended of_in belong
+  inputs_come_back job size edges inputs wires rows loops run a input at =
+      let low = place_low inputs a input at in
+      let s = source_at left faults line sent finished of_out end_line got ended of_in belong job size edges inputs wires rows loops run a (omega (arith, low, run.inputs_many)) in
+      let same : s.task.input ≡ input = same_some (slice_get inputs a) s.task.input input s.was.input at in
+      (s.end.left, (s.by.input, is_left rows 0 a s.end, s.by.is_there, subst (λ (x : S). faults x ≤ faults s.by.input) same s.by.never_falls))
+
+  module _ (job : Job) (size : ℕ) (edges : List Edge) (inputs after : List S) (wires : List (Wire O I)) (rows : List (Items (TaskPlace S))) (loops : List (Items (LoopPlace O I)))
+      (run : HaveRun left faults line sent finished of_out end_line got ended of_in belong job size edges inputs wires rows loops)
+      (come : AreLeftIn rows after) where
+    abbrev Has : Cause → Type 0
+    Has = Ground left faults inputs after (HasLinkFault of_out of_in loops)
+
+    -- Where a place is one at which something was left, its cause is that.
+    cause_at : (s i : ℕ) (place : TaskPlace S) (cause : Cause) → StandsAt rows s i place → cause_of_task place ≡ Some cause → (end : EndAt rows s i) → end.left.cause ≡ cause
+    cause_at s i place cause stands is end =
+        let same_row : end.row ≡ stands.row = same_some (slice_get rows s) end.row stands.row end.row_is stands.row_is in
+        let here : slice_get stands.row.items i ≡ Some (Ended end.left) = subst (λ (r : Items (TaskPlace S)). slice_get r.items i ≡ Some (Ended end.left)) same_row end.left_is in
+        let same : Ended end.left ≡ place = same_some (slice_get stands.row.items i) (Ended end.left) place here stands.place_is in
+        some_same end.left.cause cause (ap (λ (p : TaskPlace S). cause_of_task p) same ∙ is)
+
+    low_at : (s i : ℕ) (place : TaskPlace S) → StandsAt rows s i place → i < tasks job s
+    low_at s i place stands =
+        let low = place_low stands.row.items i place stands.place_is in
+        let many = row_many left faults line sent finished of_out end_line got ended of_in belong job size edges inputs wires rows loops run s stands.row stands.row_is in
+        omega (arith, low, many)
+
+    by_last : (i : ℕ) (place : TaskPlace S) (cause : Cause) → StandsAt rows (suc (last_edge job)) i place → cause_of_task place ≡ Some cause → Has cause
+    by_last i place cause stands is =
+        let s = aggregate_at left faults line sent finished of_out end_line got ended of_in belong job size edges inputs wires rows loops run i (low_at (suc (last_edge job)) i place stands) in
+        of_taker left faults inputs after (HasLinkFault of_out of_in loops) cause (subst IsTakerEnd (cause_at (suc (last_edge job)) i place cause stands is s.end) s.by.cause_is)
+
+    by_task : (s i : ℕ) (place : TaskPlace S) (cause : Cause) → StandsAt rows s i place → cause_of_task place ≡ Some cause → Has cause
+    by_task zero i place cause stands is =
+        let s = source_at left faults line sent finished of_out end_line got ended of_in belong job size edges inputs wires rows loops run i (low_at 0 i place stands) in
+        of_source left faults inputs after (HasLinkFault of_out of_in loops) i s.task.index s.task.input s.by.input cause s.was.index s.was.input
+        (come i s.end.left s.by.input (is_left rows 0 i s.end) s.by.is_there)
+        (subst (λ (c : Cause). IsSourceCause s.task.index (left s.task.input) (faults s.task.input) (faults s.by.input) c) (cause_at 0 i place cause stands is s.end) s.by.cause_is)
+    by_task (suc e) i place cause stands is = elim (cases_lt e (last_edge job)) [
+      | inl before ↦
+          let s = stage_at left faults line sent finished of_out end_line got ended of_in belong job size edges inputs wires rows loops run e i before (low_at (suc e) i place stands) in
+          of_taker left faults inputs after (HasLinkFault of_out of_in loops) cause (subst IsTakerEnd (cause_at (suc e) i place cause stands is s.end) s.by.cause_is)
+      | inr behind ↦
+          let low = place_low rows (suc e) stands.row stands.row_is in
+          let is_last : e ≡ last_edge job = omega (arith, low, behind, run.rows_many, run.deployed.rows_many) in
+          by_last i place cause (subst (λ (k : ℕ). StandsAt rows (suc k) i place) is_last stands) is
+    ]
+
+    -- A loop of a row counted a fault.
+    link_at : (e i : ℕ) (row : Items (LoopPlace O I)) (place : LoopPlace O I) → slice_get loops e ≡ Some row → slice_get row.items i ≡ Some place →
+        0 < faults_in of_out of_in place → HasLinkFault of_out of_in loops
+    link_at e i row place at_row at_place more = (e, i, (row, (place, at_row, at_place, more)))
+
+    -- The four loops of an edge.
+    module _ (e i : ℕ) (edge : Edge) (row : Items (LoopPlace O I)) (at_row : slice_get loops e ≡ Some row)
+        (l : LoopsEnd left faults line sent finished of_out end_line got ended of_in belong job size edges inputs wires rows loops run e edge row)
+        (new : IsNewWire left faults line sent finished of_out end_line got ended of_in belong l.wire) (cause : Cause) where
+      -- What stands at the place has its grounds.
+      abbrev Grounded : LoopPlace O I → Type 0
+      Grounded place = slice_get row.items i ≡ Some place → cause_of_loop place ≡ Some cause → Has cause
+
+      of_send : Grounded (Ended (did.SentItems l.ends.send))
+      of_send at is =
+          let same = some_same l.ends.send.cause cause is in
+          of_sender left faults inputs after (HasLinkFault of_out of_in loops) cause (subst IsSendItemsCause same l.ends.by_send.account.cause_is)
+          (λ link. link_at e i row (Ended (did.SentItems l.ends.send)) at_row at
+          (risen_above (of_out l.ends.was.send.half) (of_out l.ends.send.half) (ap of_out l.ends.was.sending.0 ∙ new.data_out.no_fault) (l.ends.by_send.account.wrote.link (same ∙ link))))
+
+      of_read_control : Grounded (Ended (did.ReadControl l.ends.control))
+      of_read_control at is =
+          let was = l.ends.was.control in
+          let end = l.ends.control in
+          let account = l.ends.by_control.account in
+          of_control left faults inputs after (HasLinkFault of_out of_in loops) was.share end.passes (ended was.half) (ended end.half) account.left (of_in was.half) (of_in end.half) cause
+          (subst (λ (x : Cause). ControlEndedBy was.share end.passes (ended was.half) (ended end.half) account.left (of_in was.half) (of_in end.half) x) (some_same end.cause cause is) account.cause_is)
+          (λ risen. link_at e i row (Ended (did.ReadControl end)) at_row at
+          (risen_above (of_in was.half) (of_in end.half) (ap of_in l.ends.was.sending.1 ∙ new.control_in.no_fault) risen))
+
+      of_read_items : Grounded (Ended (did.ReadItems l.ends.items))
+      of_read_items at is =
+          let was = l.ends.was.items in
+          let end = l.ends.items in
+          let account = l.ends.by_items.account in
+          of_items left faults inputs after (HasLinkFault of_out of_in loops) was.share end.passes (ended was.half) (ended end.half) account.left (of_in was.half) (of_in end.half) cause
+          (subst (λ (x : Cause). ItemsEndedBy was.share end.passes (ended was.half) (ended end.half) account.left (of_in was.half) (of_in end.half) x) (some_same end.cause cause is) account.cause_is)
+          (λ risen. link_at e i row (Ended (did.ReadItems end)) at_row at
+          (risen_above (of_in was.half) (of_in end.half) (ap of_in l.ends.was.receiving.0 ∙ new.data_in.no_fault) risen))
+
+      of_announce : Grounded (Ended (did.SentControl l.ends.announce))
+      of_announce at is =
+          let same = some_same l.ends.announce.cause cause is in
+          of_announcer left faults inputs after (HasLinkFault of_out of_in loops) cause (subst IsAnnounceCause same l.ends.by_announce.account.cause_is)
+          (λ link. link_at e i row (Ended (did.SentControl l.ends.announce)) at_row at
+          (risen_above (of_out l.ends.was.announce.half) (of_out l.ends.announce.half) (ap of_out l.ends.was.receiving.1 ∙ new.control_out.no_fault) (l.ends.by_announce.account.wrote.link (same ∙ link))))
+
+      of_place : (place : LoopPlace O I) → Grounded place
+      of_place place at is =
+          one_of_four Grounded (Ended (did.SentItems l.ends.send)) (Ended (did.ReadControl l.ends.control)) (Ended (did.ReadItems l.ends.items)) (Ended (did.SentControl l.ends.announce)) place i
+          of_send of_read_control of_read_items of_announce (subst (λ (xs : List (LoopPlace O I)). slice_get xs i ≡ Some place) l.ends.row_is at) at is
+
+    by_loop : (e i : ℕ) (place : LoopPlace O I) (cause : Cause) → StandsAt loops e i place → cause_of_loop place ≡ Some cause → Has cause
+    by_loop e i place cause stands is =
+        let low = place_low loops e stands.row stands.row_is in
+        let edge = at_place edges e (omega (arith, low, run.loops_many, run.deployed.loops_many, run.edges_are.many)) in
+        let l = loops_at left faults line sent finished of_out end_line got ended of_in belong job size edges inputs wires rows loops run e edge.0 stands.row edge.1 stands.row_is in
+        let new = all_at (IsNewWire left faults line sent finished of_out end_line got ended of_in belong) wires e l.wire run.new_wires l.wire_is in
+        of_place e i edge.0 stands.row stands.row_is l new cause place stands.place_is is
+
+    by_any : (cause : Cause) → HasEnded rows loops cause → Has cause
+    by_any cause (inl t) = by_task t.0 t.1 t.2.0 cause t.2.1 t.2.2
+    by_any cause (inr l) = by_loop l.0 l.1 l.2.0 cause l.2.1 l.2.2
+
+  pub causes_have_grounds : CausesHaveGrounds left faults line sent finished of_out end_line got ended of_in belong
+  causes_have_grounds job size edges inputs after wires rows loops cause run come many ended_by not_done not_stopped =
+      by_any job size edges inputs after wires rows loops run come cause ended_by not_done not_stopped

@@ -1,0 +1,5 @@
+mod Places
+mod Running
+mod Ending
+mod Tallying
+mod Grounds

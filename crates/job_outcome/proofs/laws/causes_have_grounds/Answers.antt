@@ -1,0 +1,5 @@
+use Rattle.job_outcome.proofs.Grounds as lemmas
+use Rattle.job_outcome.proofs.laws.causes_have_grounds.Goals as goal
+
+pub returns : goal.returns
+returns g c = lemmas.causes_have_grounds _ _ _ _ _ _ _ _ _ _ _

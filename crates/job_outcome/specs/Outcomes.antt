@@ -1,0 +1,85 @@
+-- Why workers ended, and what a run comes to. As in Flink the first failure of a task fails the job; that its status is that of the first
+-- entry of the stop cell is this project's own.
+use Rattle.std.specs.Prelude.{◌≡◌, ◌⊎◌, ℕ, ◌<◌, ◌≤◌, ⊤, List, length, slice_get, Option, Some, None, IfSome}
+use Rattle.flow_defs.specs.Items.{Items}
+use Rattle.flow_defs.specs.declared.cause.Cause.{Cause}
+use Rattle.flow_defs.specs.declared.cause.Cause.TheVariants as causes
+use Rattle.flow_defs.specs.declared.job.Job.{Job}
+use Rattle.flow_defs.specs.Jobs.{tasks}
+use Rattle.flow_defs.specs.Lines.{lines}
+use Rattle.outside.specs.Faults.{HasRisen}
+use Rattle.job_plan.specs.Limits.{HasLongLine, IsOverLimit}
+use Rattle.job_plan.specs.declared.limits.TheConstants.{SOURCE_MAX}
+use Rattle.job_workers.specs.declared.connection.LoopLeft.TheVariants.{SentItems, ReadControl, ReadItems, SentControl}
+use Rattle.job_workers.specs.declared.place.Place.TheVariants.{Todo, Ended, Vacant}
+use Rattle.job_ends.specs.Ended.{TaskPlace, LoopPlace}
+
+-- Why the worker of a place ended, if it has ended.
+abbrev pub cause_of_task : {S : Type 0} → TaskPlace S → Option Cause
+cause_of_task (Todo worker) = None
+cause_of_task (Ended left) = Some left.cause
+cause_of_task Vacant = None
+
+abbrev pub cause_of_loop : {O I : Type 0} → LoopPlace O I → Option Cause
+cause_of_loop (Todo worker) = None
+cause_of_loop (Ended (SentItems end)) = Some end.cause
+cause_of_loop (Ended (ReadControl end)) = Some end.cause
+cause_of_loop (Ended (ReadItems end)) = Some end.cause
+cause_of_loop (Ended (SentControl end)) = Some end.cause
+cause_of_loop Vacant = None
+
+-- Something stands at place i of row s.
+pub record StandsAt {A : Type 0} (rows : List (Items A)) (s i : ℕ) (place : A) : Type 0 where
+  pub row : Items A
+  pub row_is : slice_get rows s ≡ Some row
+  pub place_is : slice_get row.items i ≡ Some place
+
+module _ {S O I : Type 0} (rows : List (Items (TaskPlace S))) (loops : List (Items (LoopPlace O I))) where
+  -- All workers are done.
+  pub record AllDone : Type 0 where
+    pub by_tasks : (s i : ℕ) (place : TaskPlace S) → StandsAt rows s i place → cause_of_task place ≡ Some causes.Done
+    pub by_loops : (e i : ℕ) (place : LoopPlace O I) → StandsAt loops e i place → cause_of_loop place ≡ Some causes.Done
+
+  -- One of them ended with this cause.
+  abbrev pub HasEnded : Cause → Type 0
+  HasEnded cause =
+      ((s i : ℕ) × ((place : TaskPlace S) × StandsAt rows s i place × (cause_of_task place ≡ Some cause)))
+      ⊎ ((e i : ℕ) × ((place : LoopPlace O I) × StandsAt loops e i place × (cause_of_loop place ≡ Some cause)))
+
+-- ---- inputs
+
+-- These are told to be the bytes of the sources' inputs.
+abbrev pub AreTold : {S : Type 0} → (S → Option (List ℕ)) → List S → (ℕ → List ℕ) → Type 0
+AreTold {S} left inputs bytes = (a : ℕ) (input : S) → slice_get inputs a ≡ Some input → left input ≡ Some (bytes a)
+
+-- No source of the job is over a limit.
+abbrev pub AreWithin : Job → (ℕ → List ℕ) → Type 0
+AreWithin job bytes = (a : ℕ) → a < tasks job 0 → IsOverLimit (bytes a) → ⊥
+
+-- The inputs come back in order, and none has fewer faults.
+pub record ComeBack {S : Type 0} (faults : S → ℕ) (before after : List S) : Type 0 where
+  pub many : length after ≡ length before
+  pub each : (a : ℕ) (old new : S) → slice_get before a ≡ Some old → slice_get after a ≡ Some new → faults old ≤ faults new
+
+-- ---- why a run ends without a table
+
+module _ {S : Type 0} (left : S → Option (List ℕ)) (faults : S → ℕ) (before after : List S) where
+  -- The input of source a, and what was told of it.
+  pub record IsOfInput (a : ℕ) (P : Option (List ℕ) → ℕ → ℕ → Type 0) : Type 0 where
+    pub old : S
+    pub new : S
+    pub was : slice_get before a ≡ Some old
+    pub is : slice_get after a ≡ Some new
+    pub holds : P (left old) (faults old) (faults new)
+
+  -- A cause has its grounds: a fault of the source or of a link, or a source over a limit. Nothing is said here of a peer's faults.
+  abbrev pub IsRunCause : Type 0 → Cause → Type 0
+  IsRunCause link causes.Done = ⊥
+  IsRunCause link causes.Stopped = ⊥
+  IsRunCause link (causes.Input a) = IsOfInput a (λ told fell rose. HasRisen fell rose)
+  IsRunCause link causes.Link = link
+  IsRunCause link (causes.LongLine a) = IsOfInput a (λ told fell rose. IfSome told (λ bytes. HasLongLine (lines bytes)))
+  IsRunCause link (causes.BigSource a) = IsOfInput a (λ told fell rose. IfSome told (λ bytes. SOURCE_MAX < length bytes))
+  IsRunCause link (causes.OverCredit channel received announced) = ⊤
+  IsRunCause link (causes.Peer fault) = ⊤
+  IsRunCause link causes.Memory = ⊤

@@ -1,0 +1,102 @@
+-- What follows once all workers of a job have ended, whatever the order of their turns. This is this project's own choice.
+use Rattle.std.specs.Prelude.{◌≡◌, ◌≢◌, ℕ, suc, ◌≤◌, Bool, List, All, length, map, slice_get, Option, Some}
+use Rattle.std.specs.Option.{option_map_or}
+use Rattle.std.specs.FinMap.{empty}
+use Rattle.flow_defs.specs.Items.{Items}
+use Rattle.flow_defs.specs.declared.cause.Cause.{Cause}
+use Rattle.flow_defs.specs.declared.cause.Cause.TheVariants.{Done, Stopped}
+use Rattle.flow_defs.specs.declared.job.Job.{Job}
+use Rattle.flow_defs.specs.Jobs.{IsJob, last_edge, tasks}
+use Rattle.flow_defs.specs.Lines.{lines}
+use Rattle.flow_defs.specs.Tables.{Values, join}
+use Rattle.plain_machine.specs.Worth.{tally}
+use Rattle.outside.specs.declared.wires.Wire.{Wire}
+use Rattle.outside.specs.Links.{IsNewOut, IsNewIn}
+use Rattle.job_cells.specs.declared.edge.Edge.{Edge}
+use Rattle.job_cells.specs.Edges.{AreEdgesOf}
+use Rattle.job_laws.specs.Ends.{EdgeCarries}
+use Rattle.job_workers.specs.declared.task.TaskLeft.{TaskLeft}
+use Rattle.job_workers.specs.Loops.{LeftByLoop}
+use Rattle.job_workers.specs.Places.{Pairs, RowLeaves}
+use Rattle.job_workers.specs.Tasks.{LeftByTask}
+use Rattle.job_deploy.specs.Deployed.{AreDeployed}
+use Rattle.job_ends.specs.Ended.{TaskPlace, LoopPlace, left_in, left_at, own_at, gate_at, AreEnded, HasLinkFault}
+use Rattle.job_outcome.specs.Outcomes.{AllDone, HasEnded, AreTold, AreWithin, IsRunCause}
+
+-- The table that a place has, and those of the aggregate's tasks.
+abbrev pub table_in : {S : Type 0} → TaskPlace S → Values
+table_in {S} place = option_map_or (λ (end : TaskLeft S). end.table) (left_in place) empty
+
+abbrev pub tables_in : {S : Type 0} → List (TaskPlace S) → List Values
+tables_in {S} row = map (λ (place : TaskPlace S). table_in place) row
+
+-- Each input was left by its task, with no fewer faults.
+abbrev pub AreInputsLeft : {S : Type 0} → (S → ℕ) → List S → List (Items (TaskPlace S)) → Type 0
+AreInputsLeft {S} faults inputs rows = (a : ℕ) (input : S) → slice_get inputs a ≡ Some input →
+    (end : TaskLeft S) × ((after : S) × (left_at rows 0 a ≡ Some end) × (end.input ≡ Some after) × (faults input ≤ faults after))
+
+-- These are the inputs that the tasks left, in order.
+abbrev pub AreLeftIn : {S : Type 0} → List (Items (TaskPlace S)) → List S → Type 0
+AreLeftIn {S} rows after = (a : ℕ) (end : TaskLeft S) (input : S) → left_at rows 0 a ≡ Some end → end.input ≡ Some input → slice_get after a ≡ Some input
+
+module _ {S O I L N : Type 0} (left : S → Option (List ℕ)) (faults : S → ℕ)
+    (line : O → L) (sent : O → Option (List ℕ)) (finished : O → Option Bool) (of_out : O → ℕ)
+    (end_line : I → N) (got : I → Option (List ℕ)) (ended : I → Option Bool) (of_in : I → ℕ) (belong : L → N → Type 0) where
+  -- ---- what ran
+
+  -- A wire was new, and the ends of each of its links belonged together.
+  pub record IsNewWire (wire : Wire O I) : Type 0 where
+    pub belonged : belong (line wire.data_out) (end_line wire.data_in)
+    pub data_out : IsNewOut (sent wire.data_out) (finished wire.data_out) (of_out wire.data_out)
+    pub data_in : IsNewIn (got wire.data_in) (ended wire.data_in) (of_in wire.data_in)
+    pub control_out : IsNewOut (sent wire.control_out) (finished wire.control_out) (of_out wire.control_out)
+    pub control_in : IsNewIn (got wire.control_in) (ended wire.control_in) (of_in wire.control_in)
+
+  -- The workers of a job were deployed over new wires, and what each left stands in its place.
+  pub record HaveRun (job : Job) (size : ℕ) (edges : List Edge) (inputs : List S) (wires : List (Wire O I))
+      (rows : List (Items (TaskPlace S))) (loops : List (Items (LoopPlace O I))) : Type 0 where
+    pub is_job : IsJob job
+    pub edges_are : AreEdgesOf job size edges
+    pub inputs_many : length inputs ≡ tasks job 0
+    pub wires_many : length wires ≡ suc (last_edge job)
+    pub new_wires : All IsNewWire wires
+    pub rows_before : List (Items (TaskPlace S))
+    pub loops_before : List (Items (LoopPlace O I))
+    pub deployed : AreDeployed job edges inputs wires rows_before loops_before
+    pub rows_many : length rows ≡ length rows_before
+    pub rows_left : Pairs (λ (old new : Items (TaskPlace S)). RowLeaves (LeftByTask left faults job) old.items new.items) rows_before rows
+    pub loops_many : length loops ≡ length loops_before
+    pub loops_left : Pairs (λ (old new : Items (LoopPlace O I)). RowLeaves (LeftByLoop line sent of_out end_line got ended of_in) old.items new.items) loops_before loops
+
+  -- ---- the theorems
+
+  -- Workers that ran have ended, each with the passes of its place.
+  abbrev pub WorkersEnd : Type 0
+  WorkersEnd =
+      (job : Job) (size : ℕ) (edges : List Edge) (inputs : List S) (wires : List (Wire O I)) (rows : List (Items (TaskPlace S))) (loops : List (Items (LoopPlace O I))) →
+      HaveRun job size edges inputs wires rows loops →
+      AreEnded (λ out input. belong (line out) (end_line input)) sent got job size edges rows loops
+
+  -- Where all are done and each edge carries, the tables of the last row are the tally of what the inputs told, which is within its limits.
+  abbrev pub DoneWorkersTally : Type 0
+  DoneWorkersTally =
+      (job : Job) (size : ℕ) (edges : List Edge) (inputs : List S) (wires : List (Wire O I)) (rows : List (Items (TaskPlace S))) (loops : List (Items (LoopPlace O I)))
+      (bytes : ℕ → List ℕ) (row : Items (TaskPlace S)) →
+      HaveRun job size edges inputs wires rows loops → AllDone rows loops → AreTold left inputs bytes →
+      ((e : ℕ) → e ≤ last_edge job → EdgeCarries job e (own_at rows e) (gate_at rows e)) →
+      slice_get rows (suc (last_edge job)) ≡ Some row →
+      (join job.agg (tables_in row.items) ≡ tally job (λ a. lines (bytes a))) × AreWithin job bytes
+
+  -- The tasks of the sources leave the inputs that they were given.
+  abbrev pub InputsComeBack : Type 0
+  InputsComeBack =
+      (job : Job) (size : ℕ) (edges : List Edge) (inputs : List S) (wires : List (Wire O I)) (rows : List (Items (TaskPlace S))) (loops : List (Items (LoopPlace O I))) →
+      HaveRun job size edges inputs wires rows loops → AreInputsLeft faults inputs rows
+
+  -- A cause with which one of them ended has its grounds.
+  abbrev pub CausesHaveGrounds : Type 0
+  CausesHaveGrounds =
+      (job : Job) (size : ℕ) (edges : List Edge) (inputs after : List S) (wires : List (Wire O I)) (rows : List (Items (TaskPlace S))) (loops : List (Items (LoopPlace O I))) (cause : Cause) →
+      HaveRun job size edges inputs wires rows loops → AreLeftIn rows after → length after ≡ length inputs →
+      HasEnded rows loops cause → cause ≢ Done → cause ≢ Stopped →
+      IsRunCause left faults inputs after (HasLinkFault of_out of_in loops) cause

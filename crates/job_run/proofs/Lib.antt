@@ -1,0 +1,7 @@
+pub mod DeployLaws
+pub mod InputLaws
+pub mod Joining
+pub mod ListLaws
+pub mod RunLaws
+pub mod StopLaws
+pub mod WireLaws

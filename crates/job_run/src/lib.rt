@@ -1,0 +1,16 @@
+//! A run of a job: its pool, its cells and its wires are made, its workers run at once, and what they left is
+//! settled and counted.
+//!
+//! It stands on job_cells, job_deploy, job_workers, job_ends and job_outcome, each of which does one of these;
+//! `job_cli` stands on it.
+#![tactic(auto)]
+
+mod ending;
+mod inputs;
+mod run;
+mod stops;
+mod tables;
+mod wires;
+mod workers;
+
+pub use run::run_job;

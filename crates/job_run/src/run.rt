@@ -19,7 +19,7 @@ use crate::ending::wind_up;
 use crate::stops::{StopPasses, open_stops};
 use crate::wires::{give_back, open_wires};
 use crate::workers::run_workers;
-use flow_defs::{Cause, Job, ListOf, Table};
+use flow_defs::{Cause, Job, ListOf, Table, needed};
 use job_cells::{Edge, EdgePasses, Grants, open_edges, open_pool};
 use job_outcome::laws::{causes_have_grounds, done_workers_tally, inputs_come_back, workers_end};
 use outside::{Links, Source, Wire};
@@ -116,11 +116,26 @@ where
     }
 }
 
+// How many segments are opened for each that is needed: more are never lent.
+const OPENED: u32 = 6;
+
+// How many segments of a pool of so many a run of the job opens.
+fn opened(job: &Job, segments: u32) -> u32
+    requires is_job { IsJob job.now }
+    requires range { IsTotal segments × (segments_needed job.now ≤ segments) }
+    ensures range { IsTotal result × (segments_needed job.now ≤ result) }
+    ensures within { result ≤ segments }
+{
+    let most = OPENED * needed(job);
+    segments.min(most.max(1))
+}
+
 /// Runs a job: each task, and each of the four loops of each edge's connection, is a worker of its own, in a
 /// thread of its own where threads can be made. Answers the table that the aggregate's tasks counted, or the
 /// cause of the first fault that a worker met.
 ///
-/// `segments` and `size` are those of the pool of network memory, in segments and in bytes a segment. There is
+/// `segments` and `size` are those of the pool of network memory, in segments and in bytes a segment. Of the
+/// segments at most six for each that the job needs are opened; more are never lent. There is
 /// an input for each source, in order; they come back in the same order. Memory: the pool, the tables, 131,072
 /// bytes for each link and the stacks of the threads, whatever the size of the inputs.
 pub fn run_job<S, N, R>(
@@ -151,7 +166,8 @@ where
     ensures lent { N.lent net.new ≡ N.lent net.old }
     ensures never_falls { N.faults net.old ≤ N.faults net.new }
 {
-    let Ok((pool, grants)) = open_pool(alloc, job, segments, size) else {
+    let total = opened(job, segments);
+    let Ok((pool, grants)) = open_pool(alloc, job, total, size) else {
         return Err(Cause::Memory);
     };
     run_in_pool(rt, alloc, job, functions, &pool, grants, size, inputs, net)

@@ -1,13 +1,15 @@
 -- First faults, computed: each of the faults, and texts at the limits.
-use Rattle.std.proofs.Common.{◌≡◌, ℕ, List, [], ◌∷◌, ◌++◌, refl, replicate, Option, Some, None}
+use Rattle.std.proofs.Common.{◌≡◌, ℕ, List, [], ◌∷◌, ◌++◌, refl, replicate, Option, Some, None, Result, Ok}
 use Rattle.std.specs.Prelude.{codes}
 use Rattle.flow_defs.specs.declared.job.StageKind.TheVariants.{Words, Keep, Field}
 use Rattle.flow_defs.specs.declared.job.AggKind.TheVariants.{Count}
 use Rattle.stage_fns.specs.Functions.{Functions}
-use Rattle.job_text.specs.declared.words.UsageKind.TheVariants.{NoCommand, UnknownCommand, MissingOperand, UnknownOption, ExtraWord}
+use Rattle.job_text.specs.declared.words.UsageKind.TheVariants.{NoCommand, UnknownCommand, MissingOperand, BadValue, UnknownOption, ExtraWord, OptionTwice, MissingValue}
 use Rattle.job_text.specs.declared.fault.JobFault.{JobFault}
 use Rattle.job_text.specs.declared.fault.JobFault.TheVariants.{Missing, Extra, BadLine, TooMany, UnknownKind, NoFunction, BadNumber, BadExchange, BadWidth}
-use Rattle.job_text.specs.Words.{usage_fault}
+use Rattle.job_text.specs.declared.words.RunOptions.{RunOptions}
+use Rattle.job_text.specs.declared.words.UsageKind.{UsageKind}
+use Rattle.job_text.specs.Words.{run_options, usage_fault}
 use Rattle.job_text.specs.JobFaults.{first_fault}
 
 -- ---- the words of a command line
@@ -38,6 +40,59 @@ empty_word_behind = refl
 
 run_of_a_job : usage_fault (codes "run" ∷ codes "j" ∷ []) ≡ None
 run_of_a_job = refl
+
+no_option_of_a_script : usage_fault (codes "script" ∷ codes "s" ∷ codes "--pool" ∷ codes "3" ∷ []) ≡ Some UnknownOption
+no_option_of_a_script = refl
+
+abbrev options : ℕ → ℕ → Result RunOptions UsageKind
+options segment pool = Ok (record { segment = segment; pool = pool })
+
+-- the first fault of these words behind the operand of `run`
+abbrev behind : List (List ℕ) → Option UsageKind
+behind words = usage_fault (codes "run" ∷ codes "j" ∷ words)
+
+defaults : run_options [] ≡ options 32768 2048
+defaults = refl
+
+some_given : run_options (codes "--pool" ∷ codes "41" ∷ []) ≡ options 32768 41
+some_given = refl
+
+all_given : run_options (codes "--links" ∷ codes "memory" ∷ codes "--segment" ∷ codes "64" ∷ codes "--pool" ∷ codes "4" ∷ []) ≡ options 64 4
+all_given = refl
+
+all_given_at_most : run_options (codes "--pool" ∷ codes "16384" ∷ codes "--segment" ∷ codes "65536" ∷ []) ≡ options 65536 16384
+all_given_at_most = refl
+
+short_segment : behind (codes "--segment" ∷ codes "63" ∷ []) ≡ Some BadValue
+short_segment = refl
+
+long_segment : behind (codes "--segment" ∷ codes "65537" ∷ []) ≡ Some BadValue
+long_segment = refl
+
+no_segments : behind (codes "--pool" ∷ codes "0" ∷ []) ≡ Some BadValue
+no_segments = refl
+
+zero_in_front : behind (codes "--pool" ∷ codes "041" ∷ []) ≡ Some BadValue
+zero_in_front = refl
+
+empty_value : behind (codes "--pool" ∷ [] ∷ []) ≡ Some BadValue
+empty_value = refl
+
+other_links : behind (codes "--links" ∷ codes "loopback" ∷ []) ≡ Some BadValue
+other_links = refl
+
+value_with_its_option : behind (codes "--pool=3" ∷ []) ≡ Some UnknownOption
+value_with_its_option = refl
+
+no_value : behind (codes "--pool" ∷ []) ≡ Some MissingValue
+no_value = refl
+
+-- it is told before its value is looked at
+given_twice : behind (codes "--pool" ∷ codes "3" ∷ codes "--pool" ∷ []) ≡ Some OptionTwice
+given_twice = refl
+
+word_behind_an_option : behind (codes "--pool" ∷ codes "3" ∷ codes "4" ∷ []) ≡ Some ExtraWord
+word_behind_an_option = refl
 
 -- ---- the texts of jobs
 

@@ -1,10 +1,13 @@
--- What holds of every text of a job.
+-- What holds of every text of a job, and of the words of every command.
 use Rattle.std.specs.Prelude.{◌≡◌, ℕ, List, map, None}
 use Rattle.flow_defs.specs.Items.{Items}
 use Rattle.flow_defs.specs.declared.job.Job.{Job}
 use Rattle.stage_fns.specs.Functions.{Functions}
 use Rattle.job_text.specs.JobText.{IsJobText}
 use Rattle.job_text.specs.JobFaults.{first_fault}
+use Rattle.job_text.specs.declared.words.Command.{Command}
+use Rattle.job_text.specs.declared.words.RunOptions.{RunOptions}
+use Rattle.job_text.specs.Words.{IsCommand, IsRun, HasRange, usage_fault}
 
 -- A text of a job has no fault.
 abbrev pub JobTextHasNoFault : Type 0
@@ -19,3 +22,15 @@ abbrev pub JobTextNamesItsFiles : Type 0
 JobTextNamesItsFiles =
     (functions : Functions) (text : List ℕ) (job other : Job) → IsJobText functions text job → IsJobText functions text other →
     source_files job ≡ source_files other
+
+-- The words of a command have no fault.
+abbrev pub CommandHasNoFault : Type 0
+CommandHasNoFault = (words : List (List ℕ)) (command : Command) → IsCommand words command → usage_fault words ≡ None
+
+-- Words are of one command at most: they say its operand and its options.
+abbrev pub WordsAreOneCommand : Type 0
+WordsAreOneCommand = (words : List (List ℕ)) (command other : Command) → IsCommand words command → IsCommand words other → command ≡ other
+
+-- The options of a run are in their ranges.
+abbrev pub RunHasRange : Type 0
+RunHasRange = (words : List (List ℕ)) (job : List ℕ) (options : RunOptions) → IsRun words job options → HasRange options

@@ -9,6 +9,7 @@ mod fault;
 mod job;
 pub mod laws;
 mod lines;
+mod options;
 mod spelling;
 #[cfg(test)]
 mod tests;
@@ -16,4 +17,4 @@ mod words;
 
 pub use fault::{JobFault, JobReadFault};
 pub use job::read_job;
-pub use words::{Command, UsageKind, WordFault, read_words};
+pub use words::{Command, RunOptions, UsageKind, WordFault, read_words};

@@ -1,57 +1,207 @@
 // Words and texts that are read, beside those that are refused, each with its first fault.
 ghost use Rattle.flow_defs.specs.Stages.{IsArgument};
 
-use crate::{Command, UsageKind, WordFault, read_job, read_words};
+use crate::{Command, RunOptions, read_job, read_words};
 use flow_defs::{AggKind, Bytes, Exchange, ListOf, StageKind, Word};
 use stage_fns::{AggFn, FnTable, StageFn, count, field, keep, words};
 use std::alloc::{AllocError, Global};
 use std::test::Fail;
 
-// The words that say a command.
-fn words_of(command: &Command) -> [&str; 2] {
-    match command {
-        Command::Run { job } => ["run", job.text()],
-        Command::Script { file } => ["script", file.text()],
+// The words, each on its own.
+fn words_of(alloc: Global, line: &[&str]) -> Result<ListOf<Word>, AllocError> {
+    let mut words = ListOf::new(alloc);
+    for word in line {
+        words.push(Word::of(alloc, word)?)?;
     }
+    Ok(words)
 }
+
+// Words that are no command, and their first faults.
+const FAULTY: &[(&[&str], &str)] = &[
+    (&[], "usage: no command"),
+    (&["go"], "usage: unknown command"),
+    (&["", "j"], "usage: unknown command"),
+    (&["--fast", "run"], "usage: unknown command"),
+    (&["scripts", "s"], "usage: unknown command"),
+    (&["run"], "usage: missing operand"),
+    (&["run", ""], "usage: missing operand"),
+    (&["run", "-j"], "usage: missing operand"),
+    (&["run", "-", "--fast"], "usage: missing operand"),
+    (&["run", "--pool", "3"], "usage: missing operand"),
+    (&["run", "j", "--fast"], "usage: unknown option"),
+    (&["run", "j", "-", "k"], "usage: unknown option"),
+    (&["run", "j", "--every", "2"], "usage: unknown option"),
+    (&["run", "j", "--pool=3"], "usage: unknown option"),
+    (&["run", "j", "--Pool", "3"], "usage: unknown option"),
+    (
+        &["run", "j", "--pool", "3", "--fast", "--pool"],
+        "usage: unknown option",
+    ),
+    (&["run", "j", "k"], "usage: extra word"),
+    (&["run", "j", "", "--fast"], "usage: extra word"),
+    (&["run", "j", "--pool", "3", "4"], "usage: extra word"),
+    (&["run", "j", "--pool"], "usage: missing value"),
+    (&["run", "j", "--links"], "usage: missing value"),
+    (
+        &["run", "j", "--pool", "3", "--segment"],
+        "usage: missing value",
+    ),
+    (
+        &["run", "j", "--pool", "3", "--pool", "3"],
+        "usage: option twice",
+    ),
+    (
+        &["run", "j", "--pool", "3", "--pool"],
+        "usage: option twice",
+    ),
+    (
+        &["run", "j", "--pool", "3", "--pool", "x"],
+        "usage: option twice",
+    ),
+    (
+        &[
+            "run",
+            "j",
+            "--segment",
+            "64",
+            "--links",
+            "memory",
+            "--segment",
+            "64",
+        ],
+        "usage: option twice",
+    ),
+    (
+        &["run", "j", "--links", "memory", "--links", "memory"],
+        "usage: option twice",
+    ),
+    (&["run", "j", "--segment", "63"], "usage: bad value"),
+    (&["run", "j", "--segment", "65537"], "usage: bad value"),
+    (&["run", "j", "--segment", "4294967360"], "usage: bad value"),
+    (&["run", "j", "--segment", "0064"], "usage: bad value"),
+    (&["run", "j", "--segment", "64 "], "usage: bad value"),
+    (&["run", "j", "--pool", "0"], "usage: bad value"),
+    (&["run", "j", "--pool", "16385"], "usage: bad value"),
+    (&["run", "j", "--pool", "041"], "usage: bad value"),
+    (&["run", "j", "--pool", "-1"], "usage: bad value"),
+    (&["run", "j", "--pool", "+4"], "usage: bad value"),
+    (&["run", "j", "--pool", ""], "usage: bad value"),
+    (&["run", "j", "--pool", "--pool"], "usage: bad value"),
+    (&["run", "j", "--pool", "0", "--pool"], "usage: bad value"),
+    (&["run", "j", "--links", "loopback"], "usage: bad value"),
+    (&["run", "j", "--links", "Memory"], "usage: bad value"),
+    (&["run", "j", "--links", ""], "usage: bad value"),
+    (&["script"], "usage: missing operand"),
+    (&["script", "--fast"], "usage: missing operand"),
+    (&["script", "s", "--fast"], "usage: unknown option"),
+    (&["script", "s", "--pool", "3"], "usage: unknown option"),
+    (&["script", "s", "run"], "usage: extra word"),
+];
 
 #[test]
 fn the_first_fault_of_words_is_told(rt: HostRuntime) -> Result<(), Fail> {
     let alloc = rt.alloc();
-    for (line, fault) in [
-        (["run", "j"].as_slice(), None),
-        (&["script", "s"], None),
-        (&["run", "./j j"], None),
-        (&[], Some(UsageKind::NoCommand)),
-        (&["go"], Some(UsageKind::UnknownCommand)),
-        (&["", "j"], Some(UsageKind::UnknownCommand)),
-        (&["--fast", "run"], Some(UsageKind::UnknownCommand)),
-        (&["scripts", "s"], Some(UsageKind::UnknownCommand)),
-        (&["run"], Some(UsageKind::MissingOperand)),
-        (&["run", ""], Some(UsageKind::MissingOperand)),
-        (&["run", "-j"], Some(UsageKind::MissingOperand)),
-        (&["run", "-", "--fast"], Some(UsageKind::MissingOperand)),
-        (&["run", "j", "--fast"], Some(UsageKind::UnknownOption)),
-        (&["run", "j", "-", "k"], Some(UsageKind::UnknownOption)),
-        (&["run", "j", "k"], Some(UsageKind::ExtraWord)),
-        (&["run", "j", "", "--fast"], Some(UsageKind::ExtraWord)),
-        (&["script"], Some(UsageKind::MissingOperand)),
-        (&["script", "--fast"], Some(UsageKind::MissingOperand)),
-        (&["script", "s", "--fast"], Some(UsageKind::UnknownOption)),
-        (&["script", "s", "run"], Some(UsageKind::ExtraWord)),
-    ] {
-        let mut words = ListOf::new(alloc);
-        for word in line {
-            words.push(Word::of(alloc, word)?)?;
-        }
-        match read_words(alloc, &words) {
-            Ok(command) => {
-                assert_eq!(rt; fault, None);
-                assert_eq!(rt; line, words_of(&command).as_slice());
-            }
-            Err(told) => assert_eq!(rt; Some(told), fault.map(|kind| WordFault::Usage { kind })),
+    for (line, fault) in FAULTY {
+        match read_words(alloc, &words_of(alloc, line)?) {
+            Ok(_) => return Err(Fail::from("words are taken that have a fault")),
+            Err(told) => assert_eq!(rt; format!(in alloc; "{told}")?.as_str(), *fault),
         }
     }
+    Ok(())
+}
+
+// Words of runs, with the length and the number of segments that they give.
+const RUNS: &[(&[&str], u32, u32)] = &[
+    (&["run", "j"], 32_768, 2_048),
+    (&["run", "j", "--pool", "41"], 32_768, 41),
+    (&["run", "j", "--segment", "4096"], 4_096, 2_048),
+    (&["run", "j", "--links", "memory"], 32_768, 2_048),
+    (
+        &[
+            "run",
+            "j",
+            "--segment",
+            "64",
+            "--pool",
+            "4",
+            "--links",
+            "memory",
+        ],
+        64,
+        4,
+    ),
+    (
+        &[
+            "run",
+            "j",
+            "--pool",
+            "4",
+            "--links",
+            "memory",
+            "--segment",
+            "64",
+        ],
+        64,
+        4,
+    ),
+    (
+        &[
+            "run",
+            "j",
+            "--links",
+            "memory",
+            "--segment",
+            "64",
+            "--pool",
+            "4",
+        ],
+        64,
+        4,
+    ),
+    (
+        &["run", "j", "--pool", "1", "--segment", "65536"],
+        65_536,
+        1,
+    ),
+    (
+        &["run", "j", "--segment", "65535", "--pool", "16384"],
+        65_535,
+        16_384,
+    ),
+];
+
+#[test]
+fn a_run_is_read_with_its_options(rt: HostRuntime) -> Result<(), Fail> {
+    let alloc = rt.alloc();
+    for (line, segment, pool) in RUNS {
+        let Command::Run { job, options } = read_words(alloc, &words_of(alloc, line)?)? else {
+            return Err(Fail::from("the words of a run are another command"));
+        };
+        assert_eq!(rt; job.text(), "j");
+        assert_eq!(rt;
+            options,
+            RunOptions {
+                segment: *segment,
+                pool: *pool
+            }
+        );
+    }
+    Ok(())
+}
+
+#[test]
+fn an_operand_may_be_any_text_without_a_dash(rt: HostRuntime) -> Result<(), Fail> {
+    let alloc = rt.alloc();
+    let words = words_of(alloc, &["run", "./j j"])?;
+    let Command::Run { job, .. } = read_words(alloc, &words)? else {
+        return Err(Fail::from("the words of a run are another command"));
+    };
+    assert_eq!(rt; job.text(), "./j j");
+    let words = words_of(alloc, &["script", "run"])?;
+    let Command::Script { file } = read_words(alloc, &words)? else {
+        return Err(Fail::from("the words of a script are another command"));
+    };
+    assert_eq!(rt; file.text(), "run");
     Ok(())
 }
 

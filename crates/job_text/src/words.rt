@@ -1,8 +1,10 @@
 // Reads the words of a command line.
-ghost use Rattle.std.specs.Prelude.{◌≡◌, ◌↔◌, ◌⊎◌, ℕ, List, [], ◌∷◌, Some, None, Err, IsTrue, IfOk, MatchResult};
+ghost use Rattle.std.specs.Prelude.{◌≡◌, ◌↔◌, ◌⊎◌, ℕ, List, ◌∷◌, Option, Some, None, Err, IsTrue, IfOk, IfErr, MatchResult, codes};
+ghost use Rattle.std.specs.Result.{result_err};
 ghost use Rattle.job_text.specs.declared.words.WordFault.TheVariants.{Memory, Usage};
-ghost use Rattle.job_text.specs.Words.{IsRun, IsScript, IsCommand, has_dash, is_operand, operand_fault, usage_fault};
+ghost use Rattle.job_text.specs.Words.{IsRun, IsScript, IsCommand, HasRanges, IsUsage, has_dash, is_operand, operand_fault, run_fault, script_fault, usage_fault};
 
+use crate::options::{run_options, stray_fault};
 use flow_defs::{ListOf, Word};
 use std::alloc::{AllocError, Global};
 use thiserror::Error;
@@ -11,9 +13,18 @@ use thiserror::Error;
 #[derive(Debug, Drop)]
 pub enum Command {
     /// Run the job whose text is in this file.
-    Run { job: Word },
+    Run { job: Word, options: RunOptions },
     /// Run the script whose text is in this file.
     Script { file: Word },
+}
+
+/// How a job is run.
+#[derive(Clone, Copy, Debug, PartialEq, Eq)]
+pub struct RunOptions {
+    /// The length of a segment of network memory in bytes, from 64 to 65,536.
+    pub segment: u32,
+    /// How many segments the pool of network memory has, from 1 to 16,384.
+    pub pool: u32,
 }
 
 /// What is wrong with the words of a command line.
@@ -26,11 +37,21 @@ pub enum UsageKind {
     /// An operand is wanted where there is no word, an empty one, or one that begins with `-`.
     #[error("missing operand")]
     MissingOperand,
+    /// An option has no such value, or its number is out of its range.
+    #[error("bad value")]
+    BadValue,
+    /// A word behind the operand begins with `-`, and is no option of the command.
     #[error("unknown option")]
     UnknownOption,
-    /// A word that is no option stands behind the operands.
+    /// A word behind the operand does not begin with `-`, and is no option's value.
     #[error("extra word")]
     ExtraWord,
+    /// An option that was given before. Its value is not looked at.
+    #[error("option twice")]
+    OptionTwice,
+    /// An option is the last word.
+    #[error("missing value")]
+    MissingValue,
 }
 
 /// Why the words are no command.
@@ -62,45 +83,68 @@ impl From<UsageKind> for WordFault {
 /// Reads the command that the words after the program's name are.
 pub fn read_words(alloc: Global, words: &ListOf<Word>) -> Result<Command, WordFault>
     ensures command { IfOk result (IsCommand words.now.items) }
+    ensures ranges { IfOk result HasRanges }
     ensures usage { (kind : UsageKind) →
         (result ≡ Err (WordFault.Usage kind)) ↔ (usage_fault words.now.items ≡ Some kind) }
 
     // The words without a fault are those of a command.
     ensures accepted { (usage_fault words.now.items ≡ None)
-        ↔ (((job : List ℕ) × IsRun words.now.items job)
+        ↔ (((job : List ℕ) × (options : RunOptions) × IsRun words.now.items job options)
         ⊎ ((file : List ℕ) × IsScript words.now.items file)) }
 {
     let [command, words @ ..] = words.as_slice() else {
         return Err(UsageKind::NoCommand.into());
     };
     if command.text() == "run" {
-        let job = only_operand(words)?;
-        Ok(Command::Run {
-            job: Word::of(alloc, job.text())?,
-        })
+        read_run(alloc, words)
     } else if command.text() == "script" {
-        let file = only_operand(words)?;
-        Ok(Command::Script {
-            file: Word::of(alloc, file.text())?,
-        })
+        read_script(alloc, words)
     } else {
         Err(UsageKind::UnknownCommand.into())
     }
 }
 
-// The word, where it is the only one and an operand.
-fn only_operand(words: &[Word]) -> Result<&Word, UsageKind>
+// Reads the words behind `run`.
+fn read_run(alloc: Global, words: &[Word]) -> Result<Command, WordFault>
+    ensures command { IfOk result (IsCommand (codes "run" ∷ words.now)) }
+    ensures fault { IfErr result (λ told. IsUsage told (operand_fault run_fault words.now)) }
+{
+    let (job, behind) = operand(words)?;
+    let options = run_options(behind)?;
+    let job = Word::of(alloc, job.text())?;
+    Ok(Command::Run { job, options })
+}
+
+// Reads the words behind `script`.
+fn read_script(alloc: Global, words: &[Word]) -> Result<Command, WordFault>
+    ensures command { IfOk result (IsCommand (codes "script" ∷ words.now)) }
+    ensures fault { IfErr result (λ told. IsUsage told (operand_fault script_fault words.now)) }
+{
+    let (file, behind) = operand(words)?;
+    no_options(behind)?;
+    let file = Word::of(alloc, file.text())?;
+    Ok(Command::Script { file })
+}
+
+// The operand that stands first, and the words behind it.
+fn operand(words: &[Word]) -> Result<(&Word, &[Word]), UsageKind>
     ensures { MatchResult result
-        (λ word. (words.now ≡ word.now ∷ []) × IsTrue (is_operand word.now))
-        (λ kind. operand_fault words.now ≡ Some kind) }
+        (λ found. (words.now ≡ found.0.now ∷ found.1.now) × IsTrue (is_operand found.0.now))
+        (λ kind. (fault : List (List ℕ) → Option UsageKind) → operand_fault fault words.now ≡ Some kind) }
 {
     match words {
-        [word, behind @ ..] if is_operand(word.text()) => match behind {
-            [] => Ok(word),
-            [word, ..] if has_dash(word.text()) => Err(UsageKind::UnknownOption),
-            _ => Err(UsageKind::ExtraWord),
-        },
+        [word, behind @ ..] if is_operand(word.text()) => Ok((word, behind)),
         _ => Err(UsageKind::MissingOperand),
+    }
+}
+
+// Nothing may stand behind the operand of a command that has no options.
+fn no_options(words: &[Word]) -> Result<(), UsageKind>
+    ensures { result_err result ≡ script_fault words.now }
+{
+    match words {
+        [] => Ok(()),
+        [word, ..] => Err(stray_fault(word.text())),
     }
 }
 
@@ -115,7 +159,7 @@ fn is_operand(word: &str) -> bool
 }
 
 // Whether the word begins as an option does.
-fn has_dash(word: &str) -> bool
+pub(crate) fn has_dash(word: &str) -> bool
     ensures { result ≡ has_dash word.now }
 {
     word.as_bytes().first() == Some(&b'-')

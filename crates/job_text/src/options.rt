@@ -1,0 +1,138 @@
+// The options of `run`, read from the left.
+ghost use Rattle.std.specs.Prelude.{◌≡◌, ok_or};
+ghost use Rattle.job_text.specs.declared.words.UsageKind.TheVariants.{BadValue};
+ghost use Rattle.job_text.specs.Words.{stray_fault, option_of, number_within, nothing, was_given, with_value, option_behind, with_defaults, run_options};
+
+use crate::spelling::number_of;
+use crate::words::has_dash;
+use crate::{RunOptions, UsageKind};
+use flow_defs::Word;
+
+// An option of `run`.
+#[derive(Clone, Copy)]
+pub(crate) enum RunOption {
+    Segment,
+    Pool,
+    Links,
+}
+
+// What the options gave so far. The links have one value, so of them it is only known whether they
+// were given.
+#[derive(Clone, Copy)]
+pub(crate) struct Given {
+    segment: Option<u32>,
+    pool: Option<u32>,
+    links: bool,
+}
+
+impl Given {
+    fn nothing() -> Self
+        ensures { result ≡ nothing }
+    {
+        Given {
+            segment: None,
+            pool: None,
+            links: false,
+        }
+    }
+
+    // The option that the word names behind those that were given.
+    fn option_behind(&self, word: &str) -> Result<RunOption, UsageKind>
+        ensures { result ≡ option_behind self.now word.now }
+    {
+        let option = option_of(word).ok_or(stray_fault(word))?;
+        if self.has(option) {
+            return Err(UsageKind::OptionTwice);
+        }
+        Ok(option)
+    }
+
+    // Whether the option was given.
+    fn has(&self, option: RunOption) -> bool
+        ensures { result ≡ was_given self.now option }
+    {
+        match option {
+            RunOption::Segment => self.segment.is_some(),
+            RunOption::Pool => self.pool.is_some(),
+            RunOption::Links => self.links,
+        }
+    }
+
+    // What was given with this value of the option besides.
+    fn with(self, option: RunOption, value: &str) -> Result<Self, UsageKind>
+        ensures { result ≡ ok_or (with_value self option value.now) BadValue }
+    {
+        let mut given = self;
+        match option {
+            RunOption::Segment => given.segment = Some(number_within(value, 64, 65_536)?),
+            RunOption::Pool => given.pool = Some(number_within(value, 1, 16_384)?),
+            RunOption::Links if value == "memory" => given.links = true,
+            RunOption::Links => return Err(UsageKind::BadValue),
+        }
+        Ok(given)
+    }
+
+    // The options of a run to which this was given.
+    fn with_defaults(&self) -> RunOptions
+        ensures { result ≡ with_defaults self.now }
+    {
+        RunOptions {
+            segment: self.segment.unwrap_or(32_768),
+            pool: self.pool.unwrap_or(2_048),
+        }
+    }
+}
+
+// The options of a run that these words behind its operand give.
+pub(crate) fn run_options(words: &[Word]) -> Result<RunOptions, UsageKind>
+    ensures { result ≡ run_options words.now }
+{
+    let mut given = Given::nothing();
+    let mut rest = words;
+    'options: while let [word, behind @ ..] = rest {
+        let option = given.option_behind(word.text())?;
+        let [value, behind @ ..] = behind else {
+            return Err(UsageKind::MissingValue);
+        };
+        given = given.with(option, value.text())?;
+        rest = behind;
+    }
+    Ok(given.with_defaults())
+}
+
+// The option that the word names.
+fn option_of(word: &str) -> Option<RunOption>
+    ensures { result ≡ option_of word.now }
+{
+    if word == "--segment" {
+        Some(RunOption::Segment)
+    } else if word == "--pool" {
+        Some(RunOption::Pool)
+    } else if word == "--links" {
+        Some(RunOption::Links)
+    } else {
+        None
+    }
+}
+
+// The number from the least, which is not 0, to the most that the word spells in decimal.
+fn number_within(word: &str, least: u32, most: u32) -> Result<u32, UsageKind>
+    ensures { result ≡ ok_or (number_within least most word.now) BadValue }
+{
+    let number = number_of(word.as_bytes(), most).ok_or(UsageKind::BadValue)?;
+    if number < least {
+        return Err(UsageKind::BadValue);
+    }
+    Ok(number)
+}
+
+// The fault of a word behind the operand that is no option of the command.
+pub(crate) fn stray_fault(word: &str) -> UsageKind
+    ensures { result ≡ stray_fault word.now }
+{
+    if has_dash(word) {
+        UsageKind::UnknownOption
+    } else {
+        UsageKind::ExtraWord
+    }
+}

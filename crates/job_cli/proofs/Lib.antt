@@ -1,7 +1,9 @@
 pub mod CountingLemmas
+pub mod ExchangeLemmas
 pub mod PlanLemmas
 pub mod RunLemmas
 pub mod ScriptLemmas
+pub mod SegmentLemmas
 pub mod SourceLemmas
 pub mod TopLemmas
 pub mod Told

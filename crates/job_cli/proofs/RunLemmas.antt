@@ -9,20 +9,18 @@ use Rattle.flow_defs.specs.Lines.{lines}
 use Rattle.flow_defs.specs.Tables.{table_text}
 use Rattle.plain_machine.specs.Worth.{tally}
 use Rattle.stage_fns.specs.Functions.{Functions, HasStage}
+use Rattle.job_text.specs.declared.words.RunOptions.{RunOptions}
 use Rattle.job_text.specs.Words.{IsRun, IsScript, usage_fault}
 use Rattle.job_text.specs.JobText.{IsJobText}
 use Rattle.job_text.specs.JobFaults.{first_fault}
 use Rattle.job_cli.specs.declared.run.TheConstants.{JOB_MAX}
 use Rattle.job_cli.specs.declared.fault.Fault.{Fault}
-use Rattle.job_cli.specs.declared.fault.Fault.TheVariants.{Usage, JobLine, ScriptLine, JobInput, ScriptInput, SourceInput, Output, LongJob, LongScript, LongLine, BigSource, TooFewSegments, Memory}
+use Rattle.job_cli.specs.declared.fault.Fault.TheVariants.{Usage, JobLine, ScriptLine, JobInput, ScriptInput, SourceInput, Output, LongJob, LongScript, LongLine, BigSource, TooFewSegments, Link, OverCredit, Peer, Memory}
 use Rattle.job_plan.specs.Plans.{IsReady, CanRun}
-use Rattle.job_cli.specs.Sources.{IsSourceFault}
-use Rattle.job_cli.specs.Scripts.{NamesScript, IsScriptWith, HasEnough, IsScriptFault, ScriptRunsTo, printed_replies}
-use Rattle.script_text.specs.declared.event.Script.{Script}
-use Rattle.script_text.specs.Scripts.{IsScriptText}
-use Rattle.job_cli.specs.declared.script.TheConstants.{SCRIPT_MAX}
-use Rattle.job_cli.specs.TextFaults.{IsWordFault, IsJobFileFault, IsTextFault}
-use Rattle.job_cli.specs.Run.{NamesCommand, NamesJob, NamesGoodJob, RunsTo, Prints, IsFaultOf, TellsSources, AreWithinLimits}
+use Rattle.job_cli.specs.Sources.{IsRunFault}
+use Rattle.job_cli.specs.Scripts.{IsScriptWith, HasEnough, IsScriptFault, ScriptRunsTo, printed_replies}
+use Rattle.job_cli.specs.TextFaults.{IsWordFault, IsJobFileFault, IsTextFault, IsExchangeFault}
+use Rattle.job_cli.specs.Run.{NamesCommand, NamesRun, NamesGoodJob, RunsTo, Prints, IsFaultOf, HasPool, HasSmallPool, IsGoodText, TellsSources, AreWithinLimits}
 
 -- stages with arguments and functions are ready
 all_ready : (functions : Functions) (stages : List Stage) → AllByRecursion (λ (s : Stage). IsArgument s.kind s.arg.items) stages → AllByRecursion (λ (s : Stage). HasStage functions s.kind) stages → AllByRecursion (IsReady functions) stages
@@ -53,28 +51,31 @@ of_words words functions contents (ScriptLine line) law is = absurd is
 of_words words functions contents ScriptInput law is = absurd is
 of_words words functions contents LongScript law is = absurd is
 of_words words functions contents (TooFewSegments have need) law is = absurd is
+of_words words functions contents Link law is = absurd is
+of_words words functions contents (OverCredit channel received announced) law is = absurd is
+of_words words functions contents (Peer fault) law is = absurd is
 
-module _ (words : List (List ℕ)) (functions : Functions) (contents : List ℕ → Option (List ℕ)) (name : List ℕ) (is_run : IsRun words name) where
+module _ (words : List (List ℕ)) (functions : Functions) (contents : List ℕ → Option (List ℕ)) (name : List ℕ) (options : RunOptions) (is_run : IsRun words name options) where
   named : (o : Option (List ℕ)) (text : List ℕ) (P : List ℕ → Type 0) → IfSome o (λ held. text ≡ held) → P text → IfSome o P
   named None text P told p = tt
   named (Some held) text P told p = subst P told p
 
   -- what holds of the text that was read holds of the job that the words name
-  pub of_text_read : (text : List ℕ) (P : List ℕ → Type 0) → IfSome (contents name) (λ held. text ≡ held) → P text → NamesJob words contents P
-  of_text_read text P told p = (name, is_run, named (contents name) text P told p)
+  pub of_text_read : (text : List ℕ) (P : RunOptions → List ℕ → Type 0) → IfSome (contents name) (λ held. text ≡ held) → P options text → NamesRun words contents P
+  of_text_read text P told p = record { job = name; options = options; is_run = is_run; holds = named (contents name) text (P options) told p }
 
-  pub of_job_read : (text : List ℕ) (job : Job) (P : Job → Type 0) → IfSome (contents name) (λ held. text ≡ held) → length text ≤ JOB_MAX → first_fault functions text ≡ None → IsJobText functions text job → P job → NamesGoodJob words functions contents P
-  of_job_read text job P told fits none is p = of_text_read text (λ t. (length t ≤ JOB_MAX) × (first_fault functions t ≡ None) × ((j : Job) × IsJobText functions t j × P j)) told (fits, none, (job, is, p))
+  pub of_job_read : (text : List ℕ) (job : Job) (P : RunOptions → Job → Type 0) → IfSome (contents name) (λ held. text ≡ held) → length text ≤ JOB_MAX → first_fault functions text ≡ None → IsJobText functions text job → P options job → NamesGoodJob words functions contents P
+  of_job_read text job P told fits none is p = of_text_read text (λ o t. IsGoodText functions (P o) t) told (fits, none, (job, is, p))
 
   -- a fault of the file with the job's text
   pub of_job_file : (fault : Fault) → IsJobFileFault (contents name) fault → IsFaultOf words functions contents fault
-  of_job_file LongJob is = (name, is_run, is)
-  of_job_file JobInput is = (name, is_run, whatever (contents name))
+  of_job_file LongJob is = record { job = name; options = options; is_run = is_run; holds = is }
+  of_job_file JobInput is = record { job = name; options = options; is_run = is_run; holds = whatever (contents name) }
     where
       whatever : (o : Option (List ℕ)) → IfSome o (λ text. ⊤)
       whatever None = tt
       whatever (Some text) = tt
-  of_job_file Memory is = inl (name, is_run)
+  of_job_file Memory is = inl (name, options, is_run)
   of_job_file (Usage kind) is = absurd is
   of_job_file (JobLine line kind) is = absurd is
   of_job_file (SourceInput a) is = absurd is
@@ -85,11 +86,14 @@ module _ (words : List (List ℕ)) (functions : Functions) (contents : List ℕ 
   of_job_file ScriptInput is = absurd is
   of_job_file LongScript is = absurd is
   of_job_file (TooFewSegments have need) is = absurd is
+  of_job_file Link is = absurd is
+  of_job_file (OverCredit channel received announced) is = absurd is
+  of_job_file (Peer fault) is = absurd is
 
   -- a fault of the text
   pub of_text : (text : List ℕ) (fault : Fault) → IfSome (contents name) (λ held. text ≡ held) → length text ≤ JOB_MAX → IsTextFault functions text fault → IsFaultOf words functions contents fault
-  of_text text (JobLine line kind) told fits is = of_text_read text (λ t. (length t ≤ JOB_MAX) × (first_fault functions t ≡ Some (line, kind))) told (fits, is)
-  of_text text Memory told fits is = inl (name, is_run)
+  of_text text (JobLine line kind) told fits is = of_text_read text (λ o t. (length t ≤ JOB_MAX) × (first_fault functions t ≡ Some (line, kind))) told (fits, is)
+  of_text text Memory told fits is = inl (name, options, is_run)
   of_text text (Usage kind) told fits is = absurd is
   of_text text JobInput told fits is = absurd is
   of_text text (SourceInput a) told fits is = absurd is
@@ -101,31 +105,38 @@ module _ (words : List (List ℕ)) (functions : Functions) (contents : List ℕ 
   of_text text ScriptInput told fits is = absurd is
   of_text text LongScript told fits is = absurd is
   of_text text (TooFewSegments have need) told fits is = absurd is
+  of_text text Link told fits is = absurd is
+  of_text text (OverCredit channel received announced) told fits is = absurd is
+  of_text text (Peer fault) told fits is = absurd is
 
-  -- a fault of a source
-  pub of_a_source : (text : List ℕ) (job : Job) (fault : Fault) → IfSome (contents name) (λ held. text ≡ held) → length text ≤ JOB_MAX → first_fault functions text ≡ None → IsJobText functions text job → IsSourceFault job contents fault → IsFaultOf words functions contents fault
-  of_a_source text job (SourceInput a) told fits none is fault = of_job_read text job (λ j. IsSourceFault j contents (SourceInput a)) told fits none is fault
-  of_a_source text job (LongLine a) told fits none is fault = of_job_read text job (λ j. IsSourceFault j contents (LongLine a)) told fits none is fault
-  of_a_source text job (BigSource a) told fits none is fault = of_job_read text job (λ j. IsSourceFault j contents (BigSource a)) told fits none is fault
-  of_a_source text job Memory told fits none is fault = inl (name, is_run)
-  of_a_source text job (Usage kind) told fits none is fault = absurd fault
-  of_a_source text job (JobLine line kind) told fits none is fault = absurd fault
-  of_a_source text job JobInput told fits none is fault = absurd fault
-  of_a_source text job Output told fits none is fault = absurd fault
-  of_a_source text job LongJob told fits none is fault = absurd fault
-  of_a_source text job (ScriptLine line) told fits none is fault = absurd fault
-  of_a_source text job ScriptInput told fits none is fault = absurd fault
-  of_a_source text job LongScript told fits none is fault = absurd fault
-  of_a_source text job (TooFewSegments have need) told fits none is fault = absurd fault
+  -- a fault of the pool, of a source or of the exchange
+  pub of_exchange : (text : List ℕ) (job : Job) (fault : Fault) → IfSome (contents name) (λ held. text ≡ held) → length text ≤ JOB_MAX → first_fault functions text ≡ None → IsJobText functions text job → IsExchangeFault options job contents fault → IsFaultOf words functions contents fault
+  of_exchange text job (TooFewSegments have need) told fits none is fault = inl (of_job_read text job (λ o j. HasSmallPool o j have need) told fits none is fault)
+  of_exchange text job (SourceInput a) told fits none is fault = of_job_read text job (λ o j. HasPool o j × IsRunFault j contents (SourceInput a)) told fits none is fault
+  of_exchange text job (LongLine a) told fits none is fault = of_job_read text job (λ o j. HasPool o j × IsRunFault j contents (LongLine a)) told fits none is fault
+  of_exchange text job (BigSource a) told fits none is fault = of_job_read text job (λ o j. HasPool o j × IsRunFault j contents (BigSource a)) told fits none is fault
+  of_exchange text job Link told fits none is fault = of_job_read text job (λ o j. HasPool o j × ⊤) told fits none is fault
+  of_exchange text job (OverCredit channel received announced) told fits none is fault = of_job_read text job (λ o j. HasPool o j × ⊤) told fits none is fault
+  of_exchange text job (Peer peer) told fits none is fault = of_job_read text job (λ o j. HasPool o j × ⊤) told fits none is fault
+  of_exchange text job Memory told fits none is fault = inl (name, options, is_run)
+  of_exchange text job (Usage kind) told fits none is fault = absurd fault.1
+  of_exchange text job (JobLine line kind) told fits none is fault = absurd fault.1
+  of_exchange text job JobInput told fits none is fault = absurd fault.1
+  of_exchange text job Output told fits none is fault = absurd fault.1
+  of_exchange text job LongJob told fits none is fault = absurd fault.1
+  of_exchange text job (ScriptLine line) told fits none is fault = absurd fault.1
+  of_exchange text job ScriptInput told fits none is fault = absurd fault.1
+  of_exchange text job LongScript told fits none is fault = absurd fault.1
 
 -- what a run to a text leads to
 pub runs_on : (words : List (List ℕ)) (functions : Functions) (contents : List ℕ → Option (List ℕ)) (P Q : List ℕ → Type 0) → ((text : List ℕ) → P text → Q text) → RunsTo words functions contents P → RunsTo words functions contents Q
-runs_on words functions contents P Q leads run = (run.0, run.1, on (contents run.0) run.2)
+runs_on words functions contents P Q leads run = record { job = run.job; options = run.options; is_run = run.is_run; holds = on run.options (contents run.job) run.holds }
   where
-    on : (o : Option (List ℕ)) → IfSome o (λ text. (length text ≤ JOB_MAX) × (first_fault functions text ≡ None) × ((job : Job) × IsJobText functions text job × ((bytes : ℕ → List ℕ) → TellsSources job contents bytes → AreWithinLimits job bytes × P (table_text (tally job (λ a. lines (bytes a)))))))
-        → IfSome o (λ text. (length text ≤ JOB_MAX) × (first_fault functions text ≡ None) × ((job : Job) × IsJobText functions text job × ((bytes : ℕ → List ℕ) → TellsSources job contents bytes → AreWithinLimits job bytes × Q (table_text (tally job (λ a. lines (bytes a)))))))
-    on None it = tt
-    on (Some text) it = (it.0, it.1, (it.2.0, it.2.1, λ bytes told. let found = it.2.2 bytes told in (found.0, leads _ found.1)))
+    on : (options : RunOptions) (o : Option (List ℕ))
+        → IfSome o (λ text. IsGoodText functions (λ job. HasPool options job × ((bytes : ℕ → List ℕ) → TellsSources job contents bytes → AreWithinLimits job bytes × P (table_text (tally job (λ a. lines (bytes a)))))) text)
+        → IfSome o (λ text. IsGoodText functions (λ job. HasPool options job × ((bytes : ℕ → List ℕ) → TellsSources job contents bytes → AreWithinLimits job bytes × Q (table_text (tally job (λ a. lines (bytes a)))))) text)
+    on options None it = tt
+    on options (Some text) it = (it.0, it.1, (it.2.0, it.2.1, (it.2.2.0, λ bytes told. let found = it.2.2.1 bytes told in (found.0, leads _ found.1))))
 
 -- ---- scripts
 
@@ -138,7 +149,7 @@ of_script words functions contents name is_script ScriptInput is = (name, is_scr
     whatever (Some text) = tt
 of_script words functions contents name is_script LongScript is = (name, is_script, is)
 of_script words functions contents name is_script (ScriptLine line) is = (name, is_script, is)
-of_script words functions contents name is_script (TooFewSegments have need) is = (name, is_script, is)
+of_script words functions contents name is_script (TooFewSegments have need) is = inr (name, is_script, is)
 of_script words functions contents name is_script Memory is = inr (name, is_script)
 of_script words functions contents name is_script (Usage kind) is = absurd is
 of_script words functions contents name is_script (JobLine line kind) is = absurd is
@@ -148,6 +159,9 @@ of_script words functions contents name is_script Output is = absurd is
 of_script words functions contents name is_script LongJob is = absurd is
 of_script words functions contents name is_script (LongLine a) is = absurd is
 of_script words functions contents name is_script (BigSource a) is = absurd is
+of_script words functions contents name is_script Link is = absurd is
+of_script words functions contents name is_script (OverCredit channel received announced) is = absurd is
+of_script words functions contents name is_script (Peer fault) is = absurd is
 
 -- what a script's run to a text leads to
 pub script_runs_on : (words : List (List ℕ)) (contents : List ℕ → Option (List ℕ)) (P Q : List ℕ → Type 0) → ((text : List ℕ) → P text → Q text) → ScriptRunsTo words contents P → ScriptRunsTo words contents Q

@@ -1,5 +1,5 @@
 -- The events of a script, one after another.
-use Rattle.std.proofs.Common.{◌≡◌, ℕ, suc, ◌≤◌, ◌<◌, ◌*◌, List, [], ◌∷◌, ◌++◌, length, map, reverse, refl, ap, sym, subst, ◌∙◌, append_assoc, append-nil, arith, false, true}
+use Rattle.std.proofs.Common.{◌≡◌, ℕ, suc, ◌≤◌, ◌<◌, ◌*◌, List, [], ◌∷◌, ◌++◌, length, map, reverse, refl, ap, sym, subst, ◌∙◌, append_assoc, append-nil, arith}
 use Rattle.std.specs.Prelude.{codes, decimal}
 use Rattle.std.specs.List.{AllByRecursion}
 use Rattle.flow_defs.specs.Items.{Items}
@@ -9,11 +9,10 @@ use Rattle.script_text.specs.declared.event.Script.{Script}
 use Rattle.script_text.specs.declared.reply.Reply.{Reply}
 use Rattle.script_text.specs.declared.reply.Reply.TheVariants.{Refused, Full, Done, Nothing, Absent, Queued, Frame, Announced, Accepted, Backlog, Credit, Granted, Resumed, Empty, Held, Barrier, End, Data, Pool}
 use Rattle.script_text.specs.Scripts.{IsEvent, IsOpening, line_of}
-use Rattle.script_text.specs.Replies.{printed, reply_lines, record_line, replies_text, reply_words, record_lines}
+use Rattle.script_text.specs.Replies.{printed, reply_lines, record_line, replies_text}
 use Rattle.exchange_world.specs.Worlds.{World, opened}
 use Rattle.exchange_world.specs.Steps.{step, replies_to, bare, listed}
 use Rattle.exchange_world.specs.Sound.{IsSound}
-use Rattle.exchange_world.specs.Theorems.{CanOpen}
 use Rattle.exchange_world.specs.Laws.{OpenedIsSound, StepsKeepSound}
 use Rattle.job_cli.specs.Scripts.{printed_replies}
 

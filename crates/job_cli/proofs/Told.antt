@@ -6,7 +6,7 @@ use Rattle.flow_defs.specs.Lines.{lines}
 use Rattle.outside.specs.Told.{Reads}
 use Rattle.flow_defs.specs.declared.job.Job.{Job}
 use Rattle.flow_defs.specs.Tables.{Values}
-use Rattle.job_cli.specs.declared.lines.Lines.{Lines}
+use Rattle.job_cli.specs.declared.one_thread.lines.Lines.{Lines}
 use Rattle.job_plan.specs.Limits.{HasLongLine, IsOverLimit}
 use Rattle.job_cli.specs.LinesUnderWay.{IsUnderWay, GoesOn}
 use Rattle.job_plan.proofs.LinesLemmas.{long_later, none_long, begun_short}

@@ -1,15 +1,16 @@
 -- From what is known of a fault to what its status says.
-use Rattle.std.proofs.Common.{◌≡◌, ℕ, zero, suc, ◌≤◌, ◌<◌, cond, List, [], ◌∷◌, length, map, get_or, Option, Some, None, Contains, IfSome, refl, sym, ap, subst, ◌∙◌, arith, inl, inr, ◌⊎◌}
-use Rattle.std.specs.Prelude.{⊤, slice_get, codes}
+use Rattle.std.proofs.Common.{◌≡◌, ℕ, zero, suc, ◌≤◌, ◌<◌, List, [], ◌∷◌, length, map, get_or, Option, Some, None, Contains, IfSome, refl, sym, ap, subst, ◌∙◌, arith, inl, inr, ◌⊎◌}
+use Rattle.std.specs.Prelude.{⊤, slice_get}
 use Rattle.std.specs.Option.{option_map_or}
 use Rattle.std.proofs.lemmas.List.{length-map}
 use Rattle.flow_defs.specs.Items.{Items}
 use Rattle.flow_defs.specs.Tables.{table_text}
 use Rattle.plain_machine.specs.Worth.{tally}
-use Rattle.job_text.specs.declared.words.UsageKind.TheVariants.{MissingOperand}
-use Rattle.job_text.specs.Laws.{JobTextHasNoFault, JobTextNamesItsFiles, source_files}
+use Rattle.job_text.specs.declared.words.Command.TheVariants.{Run as RunCommand, Script as ScriptCommand}
+use Rattle.job_text.specs.declared.words.RunOptions.{RunOptions}
+use Rattle.job_text.specs.Laws.{JobTextHasNoFault, JobTextNamesItsFiles, CommandHasNoFault, WordsAreOneCommand, source_files}
 use Rattle.flow_defs.specs.declared.job.Job.{Job}
-use Rattle.flow_defs.specs.Jobs.{tasks}
+use Rattle.flow_defs.specs.Jobs.{segments_needed, tasks}
 use Rattle.flow_defs.specs.Lines.{lines}
 use Rattle.stage_fns.specs.Functions.{Functions}
 use Rattle.job_text.specs.Words.{IsRun, IsScript, usage_fault}
@@ -18,32 +19,34 @@ use Rattle.job_text.specs.JobFaults.{first_fault}
 use Rattle.job_cli.specs.declared.run.TheConstants.{JOB_MAX}
 use Rattle.job_plan.specs.declared.limits.TheConstants.{SOURCE_MAX}
 use Rattle.job_cli.specs.declared.fault.Fault.{Fault}
-use Rattle.job_cli.specs.declared.fault.Fault.TheVariants.{Usage, JobLine, ScriptLine, JobInput, ScriptInput, SourceInput, Output, LongJob, LongScript, LongLine, BigSource, TooFewSegments, Memory}
+use Rattle.job_cli.specs.declared.fault.Fault.TheVariants.{Usage, JobLine, ScriptLine, JobInput, ScriptInput, SourceInput, Output, LongJob, LongScript, LongLine, BigSource, TooFewSegments, Link, OverCredit, Peer, Memory}
 use Rattle.job_cli.specs.Causes.{status_of}
 use Rattle.job_plan.specs.Limits.{HasLongLine, IsOverLimit}
-use Rattle.job_cli.specs.Sources.{source_name, IsFirst}
+use Rattle.job_cli.specs.Sources.{source_name, IsOfSource}
+use Rattle.job_cli.proofs.SegmentLemmas.{needs_same}
 use Rattle.job_cli.specs.declared.script.TheConstants.{SCRIPT_MAX}
-use Rattle.job_cli.specs.Scripts.{NamesScript, Replies, IsScriptWith, HasEnough, HasTooFew, HasBadLine, IsNoScript, PassesScriptLimit, TellsScript, ScriptRunsTo, printed_replies}
+use Rattle.job_cli.specs.Scripts.{NamesScript, Replies, IsScriptWith, HasEnough, HasTooFew, HasBadLine, IsNoScript, PassesScriptLimit, TellsScript, printed_replies}
 use Rattle.script_text.specs.declared.event.Script.{Script}
-use Rattle.script_text.specs.Scripts.{IsScriptText}
-use Rattle.script_text.specs.ScriptFaults.{IsFirstBadLine}
 use Rattle.script_text.specs.Laws.{ScriptTextHasNoBadLine, ScriptTextIsOfOneScript}
-use Rattle.job_cli.specs.Run.{NamesCommand, NamesJob, NamesGoodJob, RunsTo, Prints, IsFaultOf, IsNoJob, PassesLimit, TellsJob, TellsRun, TellsSources, AreWithinLimits}
+use Rattle.job_cli.specs.Run.{NamesCommand, NamesRun, NamesJob, NamesGoodJob, NamesReadyJob, IsGoodText, HasPool, HasSmallPool, Prints, IsFaultOf, IsNoJob, IsOverLimits, PassesLimit, TellsJob, TellsRun, TellsSources, AreWithinLimits}
 
-pub known_status : (fault : Fault) → Contains (0 ∷ 2 ∷ 3 ∷ 4 ∷ 7 ∷ 10 ∷ 70 ∷ []) (status_of fault)
+pub known_status : (fault : Fault) → Contains (0 ∷ 2 ∷ 3 ∷ 4 ∷ 6 ∷ 7 ∷ 10 ∷ 11 ∷ 12 ∷ 70 ∷ []) (status_of fault)
 known_status (Usage kind) = (1, omega arith, refl)
 known_status (JobLine line kind) = (2, omega arith, refl)
-known_status JobInput = (3, omega arith, refl)
-known_status (SourceInput a) = (3, omega arith, refl)
-known_status Output = (4, omega arith, refl)
-known_status LongJob = (5, omega arith, refl)
-known_status (LongLine a) = (5, omega arith, refl)
-known_status (BigSource a) = (5, omega arith, refl)
 known_status (ScriptLine line) = (2, omega arith, refl)
+known_status JobInput = (3, omega arith, refl)
 known_status ScriptInput = (3, omega arith, refl)
-known_status LongScript = (5, omega arith, refl)
-known_status (TooFewSegments have need) = (5, omega arith, refl)
-known_status Memory = (6, omega arith, refl)
+known_status (SourceInput a) = (3, omega arith, refl)
+known_status Link = (4, omega arith, refl)
+known_status Output = (5, omega arith, refl)
+known_status LongJob = (6, omega arith, refl)
+known_status LongScript = (6, omega arith, refl)
+known_status (LongLine a) = (6, omega arith, refl)
+known_status (BigSource a) = (6, omega arith, refl)
+known_status (TooFewSegments have need) = (6, omega arith, refl)
+known_status (OverCredit channel received announced) = (7, omega arith, refl)
+known_status (Peer fault) = (8, omega arith, refl)
+known_status Memory = (9, omega arith, refl)
 
 abbrev file_name : Items ℕ → List ℕ
 file_name file = file.items
@@ -57,36 +60,28 @@ name_in (file ∷ sources) (suc a) = name_in sources a
 module _ (words : List (List ℕ)) (functions : Functions) (contents : List ℕ → Option (List ℕ)) where
   -- ---- of the words
 
+  is_named : (P : RunOptions → List ℕ → Type 0) → NamesRun words contents P → NamesCommand words
+  is_named P named = inl (named.job, named.options, named.is_run)
+
   pub names_command : (fault : Fault) → (status_of fault ≡ 2 → ⊥) → IsFaultOf words functions contents fault → NamesCommand words
   names_command (Usage kind) other is = absurd (other refl)
-  names_command (JobLine line kind) other is = inl (is.0, is.1)
-  names_command JobInput other is = inl (is.0, is.1)
-  names_command (SourceInput a) other is = inl (is.0, is.1)
-  names_command Output other (inl run) = inl (run.0, run.1)
+  names_command (JobLine line kind) other is = inl (is.job, is.options, is.is_run)
+  names_command JobInput other is = inl (is.job, is.options, is.is_run)
+  names_command (SourceInput a) other is = inl (is.job, is.options, is.is_run)
+  names_command Link other is = inl (is.job, is.options, is.is_run)
+  names_command (OverCredit channel received announced) other is = inl (is.job, is.options, is.is_run)
+  names_command (Peer peer) other is = inl (is.job, is.options, is.is_run)
+  names_command Output other (inl run) = inl (run.job, run.options, run.is_run)
   names_command Output other (inr run) = inr (run.0, run.1)
   names_command (ScriptLine line) other is = inr (is.0, is.1)
   names_command ScriptInput other is = inr (is.0, is.1)
   names_command LongScript other is = inr (is.0, is.1)
-  names_command (TooFewSegments have need) other is = inr (is.0, is.1)
-  names_command LongJob other is = inl (is.0, is.1)
-  names_command (LongLine a) other is = inl (is.0, is.1)
-  names_command (BigSource a) other is = inl (is.0, is.1)
+  names_command (TooFewSegments have need) other (inl run) = inl (run.job, run.options, run.is_run)
+  names_command (TooFewSegments have need) other (inr is) = inr (is.0, is.1)
+  names_command LongJob other is = inl (is.job, is.options, is.is_run)
+  names_command (LongLine a) other is = inl (is.job, is.options, is.is_run)
+  names_command (BigSource a) other is = inl (is.job, is.options, is.is_run)
   names_command Memory other is = is
-
-  pub no_command : ((usage_fault words ≡ None → NamesCommand words) × (NamesCommand words → usage_fault words ≡ None)) → (fault : Fault) → status_of fault ≡ 2 → IsFaultOf words functions contents fault → NamesCommand words → ⊥
-  no_command law (Usage kind) two is named = let none = law.1 named in cc
-  no_command law (JobLine line kind) two is named = cc
-  no_command law JobInput two is named = cc
-  no_command law (SourceInput a) two is named = cc
-  no_command law Output two is named = cc
-  no_command law LongJob two is named = cc
-  no_command law (LongLine a) two is named = cc
-  no_command law (BigSource a) two is named = cc
-  no_command law (ScriptLine line) two is named = cc
-  no_command law ScriptInput two is named = cc
-  no_command law LongScript two is named = cc
-  no_command law (TooFewSegments have need) two is named = cc
-  no_command law Memory two is named = cc
 
   -- ---- of the text
 
@@ -99,11 +94,14 @@ module _ (words : List (List ℕ)) (functions : Functions) (contents : List ℕ 
   bad_script (Some text) line is = (line, is)
 
   pub no_job : (fault : Fault) → status_of fault ≡ 3 → IsFaultOf words functions contents fault → NamesJob words contents (IsNoJob functions) ⊎ NamesScript words contents IsNoScript
-  no_job (JobLine line kind) three is = inl (is.0, is.1, some_fault (contents is.0) (line, kind) is.2)
+  no_job (JobLine line kind) three is = inl (record { job = is.job; options = is.options; is_run = is.is_run; holds = some_fault (contents is.job) (line, kind) is.holds })
   no_job (ScriptLine line) three is = inr (is.0, is.1, bad_script (contents is.0) line is.2)
   no_job (Usage kind) three is = absurd (cc)
   no_job JobInput three is = absurd (cc)
   no_job (SourceInput a) three is = absurd (cc)
+  no_job Link three is = absurd (cc)
+  no_job (OverCredit channel received announced) three is = absurd (cc)
+  no_job (Peer peer) three is = absurd (cc)
   no_job Output three is = absurd (cc)
   no_job LongJob three is = absurd (cc)
   no_job (LongLine a) three is = absurd (cc)
@@ -115,20 +113,26 @@ module _ (words : List (List ℕ)) (functions : Functions) (contents : List ℕ 
 
   -- ---- of the limits
 
-  long_job : (o : Option (List ℕ)) → IfSome o (λ text. JOB_MAX < length text)
-      → IfSome o (λ text. (JOB_MAX < length text) ⊎ ((job : Job) × IsJobText functions text job × ((a : ℕ) × (a < tasks job 0) × IfSome (contents (source_name job a)) IsOverLimit)))
-  long_job None is = tt
-  long_job (Some text) is = inl is
+  long_job : (options : RunOptions) (o : Option (List ℕ)) → IfSome o (λ text. JOB_MAX < length text) → IfSome o (IsOverLimits functions contents options)
+  long_job options None is = tt
+  long_job options (Some text) is = inl is
 
   over : (o : Option (List ℕ)) (P : List ℕ → Type 0) → ((bytes : List ℕ) → P bytes → IsOverLimit bytes) → IfSome o P → IfSome o IsOverLimit
   over None P leads is = tt
   over (Some bytes) P leads is = leads bytes is
 
-  over_source : (o : Option (List ℕ)) (a : ℕ) (P : List ℕ → Type 0) → ((bytes : List ℕ) → P bytes → IsOverLimit bytes)
-      → IfSome o (λ text. (length text ≤ JOB_MAX) × (first_fault functions text ≡ None) × ((job : Job) × IsJobText functions text job × IsFirst job contents a P))
-      → IfSome o (λ text. (JOB_MAX < length text) ⊎ ((job : Job) × IsJobText functions text job × ((a : ℕ) × (a < tasks job 0) × IfSome (contents (source_name job a)) IsOverLimit)))
-  over_source None a P leads is = tt
-  over_source (Some text) a P leads is = inr (is.2.0, is.2.1, (a, is.2.2.0, over (contents (source_name is.2.0 a)) P leads is.2.2.1))
+  over_source : (options : RunOptions) (o : Option (List ℕ)) (a : ℕ) (P : List ℕ → Type 0) → ((bytes : List ℕ) → P bytes → IsOverLimit bytes)
+      → IfSome o (λ text. IsGoodText functions (λ job. HasPool options job × IsOfSource job contents a P) text)
+      → IfSome o (IsOverLimits functions contents options)
+  over_source options None a P leads is = tt
+  over_source options (Some text) a P leads is =
+      inr (is.2.0, is.2.1, inr (a, (is.2.2.1.0, over (contents (source_name is.2.0 a)) P leads is.2.2.1.1)))
+
+  small_pool : (options : RunOptions) (o : Option (List ℕ)) (have need : ℕ)
+      → IfSome o (λ text. IsGoodText functions (λ job. HasSmallPool options job have need) text)
+      → IfSome o (IsOverLimits functions contents options)
+  small_pool options None have need is = tt
+  small_pool options (Some text) have need is = let pool = is.2.2 in inr (is.2.0, is.2.1, inl (omega (arith, pool.have_is, pool.need_is, pool.few)))
 
   too_long : (o : Option (List ℕ)) → IfSome o (λ text. SCRIPT_MAX < length text) → IfSome o PassesScriptLimit
   too_long None is = tt
@@ -139,164 +143,247 @@ module _ (words : List (List ℕ)) (functions : Functions) (contents : List ℕ 
   too_few (Some text) have need is = let pool = is.1.2 in inr (is.0, (is.1.0, is.1.1, omega (arith, pool.have_is, pool.need_is, pool.few)))
 
   pub passes_limit : (fault : Fault) → status_of fault ≡ 10 → IsFaultOf words functions contents fault → PassesLimit words functions contents ⊎ NamesScript words contents PassesScriptLimit
-  passes_limit LongJob ten is = inl (is.0, is.1, long_job (contents is.0) is.2)
-  passes_limit (LongLine a) ten is = inl (is.0, is.1, over_source (contents is.0) a (λ bytes. HasLongLine (lines bytes)) (λ bytes long. inr long) is.2)
-  passes_limit (BigSource a) ten is = inl (is.0, is.1, over_source (contents is.0) a (λ bytes. SOURCE_MAX < length bytes) (λ bytes big. inl big) is.2)
+  passes_limit LongJob ten is = inl (record { job = is.job; options = is.options; is_run = is.is_run; holds = long_job is.options (contents is.job) is.holds })
+  passes_limit (LongLine a) ten is = inl (record { job = is.job; options = is.options; is_run = is.is_run; holds = over_source is.options (contents is.job) a (λ bytes. HasLongLine (lines bytes)) (λ bytes long. inr long) is.holds })
+  passes_limit (BigSource a) ten is = inl (record { job = is.job; options = is.options; is_run = is.is_run; holds = over_source is.options (contents is.job) a (λ bytes. SOURCE_MAX < length bytes) (λ bytes big. inl big) is.holds })
+  passes_limit (TooFewSegments have need) ten (inl is) = inl (record { job = is.job; options = is.options; is_run = is.is_run; holds = small_pool is.options (contents is.job) have need is.holds })
+  passes_limit (TooFewSegments have need) ten (inr is) = inr (is.0, is.1, too_few (contents is.0) have need is.2)
   passes_limit (Usage kind) ten is = absurd (cc)
   passes_limit (JobLine line kind) ten is = absurd (cc)
   passes_limit JobInput ten is = absurd (cc)
   passes_limit (SourceInput a) ten is = absurd (cc)
+  passes_limit Link ten is = absurd (cc)
+  passes_limit (OverCredit channel received announced) ten is = absurd (cc)
+  passes_limit (Peer peer) ten is = absurd (cc)
   passes_limit Output ten is = absurd (cc)
   passes_limit Memory ten is = absurd (cc)
   passes_limit LongScript ten is = inr (is.0, is.1, too_long (contents is.0) is.2)
-  passes_limit (TooFewSegments have need) ten is = inr (is.0, is.1, too_few (contents is.0) have need is.2)
   passes_limit (ScriptLine line) ten is = absurd (cc)
   passes_limit ScriptInput ten is = absurd (cc)
 
+module _ (words : List (List ℕ)) (functions : Functions) (contents : List ℕ → Option (List ℕ)) (no_usage_fault : CommandHasNoFault) (one_command : WordsAreOneCommand) where
   -- ---- which status comes
 
   -- no words are those of both commands
-  not_both : (job file : List ℕ) → IsRun words job → IsScript words file → ⊥
-  not_both job file run script = run_is_script (sym run.words_are ∙ script.words_are)
-    where
-      run_is_script : codes "run" ∷ job ∷ [] ≡ codes "script" ∷ file ∷ [] → ⊥
-      run_is_script same = cc
+  not_both : (job file : List ℕ) (options : RunOptions) → IsRun words job options → IsScript words file → ⊥
+  not_both job file options run script = let same = one_command words (RunCommand job options) (ScriptCommand file) run script in cc
 
-  same_name : (a b : List ℕ) → IsRun words a → IsRun words b → a ≡ b
-  same_name a b first second = let x = first.words_are in let y = second.words_are in cc
+  same_run : (a b : List ℕ) (p q : RunOptions) → IsRun words a p → IsRun words b q → (a ≡ b) × (p ≡ q)
+  same_run a b p q first second = let same = one_command words (RunCommand a p) (RunCommand b q) first second in ((cc), (cc))
 
   -- what the words name and is told is what is known of the job that they name
-  told_of : (text : List ℕ) (tells : TellsJob words contents text) (P : List ℕ → Type 0) → NamesJob words contents P → P text
-  told_of text tells P named =
-      let same : contents named.0 ≡ Some text = ap contents (same_name named.0 tells.job named.1 tells.is_run) ∙ tells.told in
-      subst (λ o. IfSome o P) same named.2
+  told_of : (options : RunOptions) (text : List ℕ) (tells : TellsJob words contents options text) (P : RunOptions → List ℕ → Type 0) → NamesRun words contents P → P options text
+  told_of options text tells P named =
+      let both = same_run named.job tells.job named.options options named.is_run tells.is_run in
+      let same : contents named.job ≡ Some text = ap contents both.0 ∙ tells.told in
+      let there : P named.options text = subst (λ o. IfSome o (P named.options)) same named.holds in
+      subst (λ o. P o text) both.1 there
 
   -- a job's text that is told has no fault, and is within its limit
-  good : (text : List ℕ) (tells : TellsJob words contents text) (P : Job → Type 0) → NamesGoodJob words functions contents P → (length text ≤ JOB_MAX) × (first_fault functions text ≡ None) × ((job : Job) × IsJobText functions text job × P job)
-  good text tells P named = told_of text tells (λ t. (length t ≤ JOB_MAX) × (first_fault functions t ≡ None) × ((job : Job) × IsJobText functions t job × P job)) named
+  good : (options : RunOptions) (text : List ℕ) (tells : TellsJob words contents options text) (P : RunOptions → Job → Type 0) → NamesGoodJob words functions contents P → IsGoodText functions (P options) text
+  good options text tells P named = told_of options text tells (λ o t. IsGoodText functions (P o) t) named
 
-  usage_not : (kind : _) (job : List ℕ) → IsRun words job → usage_fault words ≡ Some kind → ⊥
-  usage_not kind job is fault = let none = law_of_words job is in cc
-    where
-      law_of_words : (job : List ℕ) → IsRun words job → usage_fault words ≡ None
-      law_of_words job is = ap usage_fault is.words_are ∙ ap (λ b. cond b None (Some MissingOperand)) is.operand
+  usage_not : (kind : _) (job : List ℕ) (options : RunOptions) → IsRun words job options → usage_fault words ≡ Some kind → ⊥
+  usage_not kind job options is fault = let none = no_usage_fault words (RunCommand job options) is in cc
 
-  no_good_text : (text : List ℕ) (tells : TellsJob words contents text) (P : Job → Type 0) → IsNoJob functions text → NamesGoodJob words functions contents P → ⊥
-  no_good_text text tells P bad named = let none = (good text tells P named).1 in let fault = bad.1.1 in cc
+  pub no_command : (fault : Fault) → status_of fault ≡ 2 → IsFaultOf words functions contents fault → NamesCommand words → ⊥
+  no_command (Usage kind) two is (inl run) = usage_not kind run.0 run.1 run.2 is
+  no_command (Usage kind) two is (inr script) = let none = no_usage_fault words (ScriptCommand script.0) script.1 in cc
+  no_command (JobLine line kind) two is named = absurd (cc)
+  no_command JobInput two is named = absurd (cc)
+  no_command (SourceInput a) two is named = absurd (cc)
+  no_command Link two is named = absurd (cc)
+  no_command (OverCredit channel received announced) two is named = absurd (cc)
+  no_command (Peer peer) two is named = absurd (cc)
+  no_command Output two is named = absurd (cc)
+  no_command LongJob two is named = absurd (cc)
+  no_command (LongLine a) two is named = absurd (cc)
+  no_command (BigSource a) two is named = absurd (cc)
+  no_command (ScriptLine line) two is named = absurd (cc)
+  no_command ScriptInput two is named = absurd (cc)
+  no_command LongScript two is named = absurd (cc)
+  no_command (TooFewSegments have need) two is named = absurd (cc)
+  no_command Memory two is named = absurd (cc)
 
-  no_long_text : (text : List ℕ) (tells : TellsJob words contents text) (P : Job → Type 0) → JOB_MAX < length text → NamesGoodJob words functions contents P → ⊥
-  no_long_text text tells P long named = let fits = (good text tells P named).0 in omega (arith, fits, long)
+  no_good_text : (options : RunOptions) (text : List ℕ) (tells : TellsJob words contents options text) (P : RunOptions → Job → Type 0) → IsNoJob functions text → NamesGoodJob words functions contents P → ⊥
+  no_good_text options text tells P bad named = let none = (good options text tells P named).1 in let fault = bad.1.1 in cc
 
-  pub text_refused : (text : List ℕ) → TellsJob words contents text → IsNoJob functions text → (fault : Fault) → IsFaultOf words functions contents fault → Contains (3 ∷ 4 ∷ 70 ∷ []) (status_of fault)
-  text_refused text tells bad (Usage kind) is = absurd (usage_not kind tells.job tells.is_run is)
-  text_refused text tells bad (JobLine line kind) is = (0, omega arith, refl)
-  text_refused text tells bad JobInput is = (1, omega arith, refl)
-  text_refused text tells bad (SourceInput a) is = (1, omega arith, refl)
-  text_refused text tells bad Output (inl run) = absurd (no_good_text text tells _ bad run)
-  text_refused text tells bad Output (inr run) = absurd (not_both tells.job run.0 tells.is_run run.1)
-  text_refused text tells bad LongJob is = let long = told_of text tells (λ t. JOB_MAX < length t) is in absurd (let fits = bad.0 in omega (arith, fits, long))
-  text_refused text tells bad (LongLine a) is = absurd (no_good_text text tells _ bad is)
-  text_refused text tells bad (BigSource a) is = absurd (no_good_text text tells _ bad is)
-  text_refused text tells bad Memory is = (2, omega arith, refl)
-  text_refused text tells bad (ScriptLine line) is = absurd (not_both tells.job is.0 tells.is_run is.1)
-  text_refused text tells bad ScriptInput is = absurd (not_both tells.job is.0 tells.is_run is.1)
-  text_refused text tells bad LongScript is = absurd (not_both tells.job is.0 tells.is_run is.1)
-  text_refused text tells bad (TooFewSegments have need) is = absurd (not_both tells.job is.0 tells.is_run is.1)
+  no_long_text : (options : RunOptions) (text : List ℕ) (tells : TellsJob words contents options text) (P : RunOptions → Job → Type 0) → JOB_MAX < length text → NamesGoodJob words functions contents P → ⊥
+  no_long_text options text tells P long named = let fits = (good options text tells P named).0 in omega (arith, fits, long)
 
-  pub job_refused : (text : List ℕ) → TellsJob words contents text → JOB_MAX < length text → (fault : Fault) → IsFaultOf words functions contents fault → Contains (10 ∷ 4 ∷ 70 ∷ []) (status_of fault)
-  job_refused text tells long (Usage kind) is = absurd (usage_not kind tells.job tells.is_run is)
-  job_refused text tells long (JobLine line kind) is = let fits = told_of text tells (λ t. (length t ≤ JOB_MAX) × (first_fault functions t ≡ Some (line, kind))) is in absurd (let few = fits.0 in omega (arith, few, long))
-  job_refused text tells long JobInput is = (1, omega arith, refl)
-  job_refused text tells long (SourceInput a) is = (1, omega arith, refl)
-  job_refused text tells long Output (inl run) = absurd (no_long_text text tells _ long run)
-  job_refused text tells long Output (inr run) = absurd (not_both tells.job run.0 tells.is_run run.1)
-  job_refused text tells long LongJob is = (0, omega arith, refl)
-  job_refused text tells long (LongLine a) is = (0, omega arith, refl)
-  job_refused text tells long (BigSource a) is = (0, omega arith, refl)
-  job_refused text tells long Memory is = (2, omega arith, refl)
-  job_refused text tells long (ScriptLine line) is = absurd (not_both tells.job is.0 tells.is_run is.1)
-  job_refused text tells long ScriptInput is = absurd (not_both tells.job is.0 tells.is_run is.1)
-  job_refused text tells long LongScript is = absurd (not_both tells.job is.0 tells.is_run is.1)
-  job_refused text tells long (TooFewSegments have need) is = absurd (not_both tells.job is.0 tells.is_run is.1)
+  module _ (options : RunOptions) (text : List ℕ) (tells : TellsJob words contents options text) where
+    no_script : (file : List ℕ) → IsScript words file → ⊥
+    no_script file script = not_both tells.job file options tells.is_run script
 
-  -- ---- the sources of the job of a text
+    pub text_refused : IsNoJob functions text → (fault : Fault) → IsFaultOf words functions contents fault → Contains (3 ∷ 4 ∷ 70 ∷ []) (status_of fault)
+    text_refused bad (Usage kind) is = absurd (usage_not kind tells.job options tells.is_run is)
+    text_refused bad (JobLine line kind) is = (0, omega arith, refl)
+    text_refused bad JobInput is = (1, omega arith, refl)
+    text_refused bad (SourceInput a) is = (1, omega arith, refl)
+    text_refused bad Link is = absurd (no_good_text options text tells _ bad is)
+    text_refused bad (OverCredit channel received announced) is = absurd (no_good_text options text tells _ bad is)
+    text_refused bad (Peer peer) is = absurd (no_good_text options text tells _ bad is)
+    text_refused bad Output (inl run) = absurd (no_good_text options text tells _ bad run)
+    text_refused bad Output (inr run) = absurd (no_script run.0 run.1)
+    text_refused bad LongJob is = let long = told_of options text tells (λ o t. JOB_MAX < length t) is in absurd (let fits = bad.0 in omega (arith, fits, long))
+    text_refused bad (LongLine a) is = absurd (no_good_text options text tells _ bad is)
+    text_refused bad (BigSource a) is = absurd (no_good_text options text tells _ bad is)
+    text_refused bad Memory is = (2, omega arith, refl)
+    text_refused bad (ScriptLine line) is = absurd (no_script is.0 is.1)
+    text_refused bad ScriptInput is = absurd (no_script is.0 is.1)
+    text_refused bad LongScript is = absurd (no_script is.0 is.1)
+    text_refused bad (TooFewSegments have need) (inl run) = absurd (no_good_text options text tells _ bad run)
+    text_refused bad (TooFewSegments have need) (inr is) = absurd (no_script is.0 is.1)
 
-  module _ (job : Job) (bytes : ℕ → List ℕ) (run : TellsRun words functions contents job bytes) (no_fault : JobTextHasNoFault) (files : JobTextNamesItsFiles) where
+    pub job_refused : JOB_MAX < length text → (fault : Fault) → IsFaultOf words functions contents fault → Contains (10 ∷ 4 ∷ 70 ∷ []) (status_of fault)
+    job_refused long (Usage kind) is = absurd (usage_not kind tells.job options tells.is_run is)
+    job_refused long (JobLine line kind) is = let fits = (told_of options text tells (λ o t. (length t ≤ JOB_MAX) × (first_fault functions t ≡ Some (line, kind))) is).0 in absurd (omega (arith, fits, long))
+    job_refused long JobInput is = (1, omega arith, refl)
+    job_refused long (SourceInput a) is = (1, omega arith, refl)
+    job_refused long Link is = absurd (no_long_text options text tells _ long is)
+    job_refused long (OverCredit channel received announced) is = absurd (no_long_text options text tells _ long is)
+    job_refused long (Peer peer) is = absurd (no_long_text options text tells _ long is)
+    job_refused long Output (inl run) = absurd (no_long_text options text tells _ long run)
+    job_refused long Output (inr run) = absurd (no_script run.0 run.1)
+    job_refused long LongJob is = (0, omega arith, refl)
+    job_refused long (LongLine a) is = (0, omega arith, refl)
+    job_refused long (BigSource a) is = (0, omega arith, refl)
+    job_refused long Memory is = (2, omega arith, refl)
+    job_refused long (ScriptLine line) is = absurd (no_script is.0 is.1)
+    job_refused long ScriptInput is = absurd (no_script is.0 is.1)
+    job_refused long LongScript is = absurd (no_script is.0 is.1)
+    job_refused long (TooFewSegments have need) is = (0, omega arith, refl)
+
+  -- ---- the pool and the sources of the job of a text
+
+  module _ (options : RunOptions) (job : Job) (run : TellsRun words functions contents options job) (no_fault : JobTextHasNoFault) (files : JobTextNamesItsFiles) where
     none : first_fault functions run.text ≡ None
     none = no_fault functions run.text job run.is_job
 
-    -- the sources of each job of the text are told to have these bytes
-    tells_too : (other : Job) → IsJobText functions run.text other → TellsSources other contents bytes
-    tells_too other is a inside =
-        let same : source_files other ≡ source_files job = files functions run.text other job is run.is_job in
-        let many : length other.sources.items ≡ length job.sources.items = sym (length-map other.sources.items file_name) ∙ ap length same ∙ length-map job.sources.items file_name in
-        let name : source_name other a ≡ source_name job a = name_in other.sources.items a ∙ ap (λ l. get_or l a []) same ∙ sym (name_in job.sources.items a) in
-        ap contents name ∙ run.sources a (omega (arith, many, inside))
+    names_script : (file : List ℕ) → IsScript words file → ⊥
+    names_script file script = not_both run.tells.job file options run.tells.is_run script
 
-    is_told : (other : Job) → IsJobText functions run.text other → (a : ℕ) → a < tasks other 0 → (P : List ℕ → Type 0) → IfSome (contents (source_name other a)) P → P (bytes a)
-    is_told other is a inside P told = subst (λ o. IfSome o P) (tells_too other is a inside) told
-
-    inside_too : (other : Job) → IsJobText functions run.text other → (a : ℕ) → a < tasks other 0 → a < tasks job 0
-    inside_too other is a inside =
-        let same : source_files other ≡ source_files job = files functions run.text other job is run.is_job in
-        let many : length other.sources.items ≡ length job.sources.items = sym (length-map other.sources.items file_name) ∙ ap length same ∙ length-map job.sources.items file_name in
-        omega (arith, many, inside)
-
-    inside_back : (other : Job) → IsJobText functions run.text other → (a : ℕ) → a < tasks job 0 → a < tasks other 0
-    inside_back other is a inside =
-        let same : source_files other ≡ source_files job = files functions run.text other job is run.is_job in
-        let many : length other.sources.items ≡ length job.sources.items = sym (length-map other.sources.items file_name) ∙ ap length same ∙ length-map job.sources.items file_name in
-        omega (arith, many, inside)
-
-    -- no run is done where a source is over its limit
-    pub not_done : (P : List ℕ → Type 0) (a : ℕ) → a < tasks job 0 → IsOverLimit (bytes a) → Prints words functions contents P → ⊥
-    not_done P a inside over (inr script) = not_both run.tells.job script.0 run.tells.is_run script.1
-    not_done P a inside over (inl runs) =
-        let it = good run.text run.tells (λ j. (bs : ℕ → List ℕ) → TellsSources j contents bs → AreWithinLimits j bs × P (table_text (tally j (λ b. lines (bs b))))) runs in
-        (it.2.2 bytes (tells_too it.2.0 it.2.1)).0 a (inside_back it.2.0 it.2.1 a inside) over
+    usage_no : (kind : _) → usage_fault words ≡ Some kind → ⊥
+    usage_no kind is = usage_not kind run.tells.job options run.tells.is_run is
 
     no_line : (line : ℕ) (kind : _) → IsFaultOf words functions contents (JobLine line kind) → ⊥
-    no_line line kind is = let fault = (told_of run.text run.tells (λ t. (length t ≤ JOB_MAX) × (first_fault functions t ≡ Some (line, kind))) is).1 in let clear = none in cc
+    no_line line kind is = let fault = (told_of options run.text run.tells (λ o t. (length t ≤ JOB_MAX) × (first_fault functions t ≡ Some (line, kind))) is).1 in let clear = none in cc
 
     no_long_job : IsFaultOf words functions contents LongJob → ⊥
-    no_long_job is = let long = told_of run.text run.tells (λ t. JOB_MAX < length t) is in let fits = run.fits in omega (arith, fits, long)
+    no_long_job is = let long = told_of options run.text run.tells (λ o t. JOB_MAX < length t) is in let fits = run.fits in omega (arith, fits, long)
 
-    pub source_refused : (a : ℕ) → a < tasks job 0 → IsOverLimit (bytes a) → (fault : Fault) → IsFaultOf words functions contents fault → Contains (10 ∷ 4 ∷ 70 ∷ []) (status_of fault)
-    source_refused a inside over (Usage kind) is = absurd (usage_not kind run.tells.job run.tells.is_run is)
-    source_refused a inside over (JobLine line kind) is = absurd (no_line line kind is)
-    source_refused a inside over JobInput is = (1, omega arith, refl)
-    source_refused a inside over (SourceInput b) is = (1, omega arith, refl)
-    source_refused a inside over Output is = absurd (not_done (λ text. ⊤) a inside over is)
-    source_refused a inside over LongJob is = absurd (no_long_job is)
-    source_refused a inside over (LongLine b) is = (0, omega arith, refl)
-    source_refused a inside over (BigSource b) is = (0, omega arith, refl)
-    source_refused a inside over Memory is = (2, omega arith, refl)
-    source_refused a inside over (ScriptLine line) is = absurd (not_both run.tells.job is.0 run.tells.is_run is.1)
-    source_refused a inside over ScriptInput is = absurd (not_both run.tells.job is.0 run.tells.is_run is.1)
-    source_refused a inside over LongScript is = absurd (not_both run.tells.job is.0 run.tells.is_run is.1)
-    source_refused a inside over (TooFewSegments have need) is = absurd (not_both run.tells.job is.0 run.tells.is_run is.1)
+    -- all jobs of the text need the same segments
+    needs : (other : Job) → IsJobText functions run.text other → segments_needed other ≡ segments_needed job
+    needs other is = needs_same functions run.text other job is run.is_job
 
-    -- no source is the one that passes a limit, where none does
-    no_source : (b : ℕ) (P : List ℕ → Type 0) → ((bs : List ℕ) → P bs → IsOverLimit bs) → AreWithinLimits job bytes → NamesGoodJob words functions contents (λ j. IsFirst j contents b P) → ⊥
-    no_source b P leads within named =
-        let it = good run.text run.tells (λ j. IsFirst j contents b P) named in
-        let inside = it.2.2.0 in
-        within b (inside_too it.2.0 it.2.1 b inside) (leads (bytes b) (is_told it.2.0 it.2.1 b inside P it.2.2.1))
+    -- no job that is ready needs more than the pool has
+    not_ready : (P : Job → Type 0) → options.pool < segments_needed job → NamesReadyJob words functions contents P → ⊥
+    not_ready P few named =
+        let it = good options run.text run.tells (λ o j. HasPool o j × P j) named in
+        let same = needs it.2.0 it.2.1 in
+        let pool = it.2.2.0 in
+        omega (arith, few, same, pool)
 
-    pub completes : AreWithinLimits job bytes → (fault : Fault) → (status_of fault ≡ 4 → ⊥) → (status_of fault ≡ 7 → ⊥) → IsFaultOf words functions contents fault → Contains (0 ∷ 70 ∷ []) (status_of fault)
-    completes within (Usage kind) input output is = absurd (usage_not kind run.tells.job run.tells.is_run is)
-    completes within (JobLine line kind) input output is = absurd (no_line line kind is)
-    completes within JobInput input output is = absurd (input refl)
-    completes within (SourceInput b) input output is = absurd (input refl)
-    completes within Output input output is = absurd (output refl)
-    completes within LongJob input output is = absurd (no_long_job is)
-    completes within (LongLine b) input output is = absurd (no_source b (λ bs. HasLongLine (lines bs)) (λ bs long. inr long) within is)
-    completes within (BigSource b) input output is = absurd (no_source b (λ bs. SOURCE_MAX < length bs) (λ bs big. inl big) within is)
-    completes within Memory input output is = (1, omega arith, refl)
-    completes within (ScriptLine line) input output is = absurd (not_both run.tells.job is.0 run.tells.is_run is.1)
-    completes within ScriptInput input output is = absurd (not_both run.tells.job is.0 run.tells.is_run is.1)
-    completes within LongScript input output is = absurd (not_both run.tells.job is.0 run.tells.is_run is.1)
-    completes within (TooFewSegments have need) input output is = absurd (not_both run.tells.job is.0 run.tells.is_run is.1)
+    -- where the pool is too small no work is done
+    pub pool_not_done : (P : List ℕ → Type 0) → options.pool < segments_needed job → Prints words functions contents P → ⊥
+    pool_not_done P few (inl named) = not_ready _ few named
+    pool_not_done P few (inr script) = names_script script.0 script.1
+
+    pub pool_refused : options.pool < segments_needed job → (fault : Fault) → IsFaultOf words functions contents fault → Contains (10 ∷ 4 ∷ 70 ∷ []) (status_of fault)
+    pool_refused few (Usage kind) is = absurd (usage_no kind is)
+    pool_refused few (JobLine line kind) is = absurd (no_line line kind is)
+    pool_refused few JobInput is = (1, omega arith, refl)
+    pool_refused few (SourceInput b) is = (1, omega arith, refl)
+    pool_refused few Link is = absurd (not_ready _ few is)
+    pool_refused few (OverCredit channel received announced) is = absurd (not_ready _ few is)
+    pool_refused few (Peer peer) is = absurd (not_ready _ few is)
+    pool_refused few Output is = absurd (pool_not_done (λ text. ⊤) few is)
+    pool_refused few LongJob is = (0, omega arith, refl)
+    pool_refused few (LongLine b) is = (0, omega arith, refl)
+    pool_refused few (BigSource b) is = (0, omega arith, refl)
+    pool_refused few Memory is = (2, omega arith, refl)
+    pool_refused few (ScriptLine line) is = absurd (names_script is.0 is.1)
+    pool_refused few ScriptInput is = absurd (names_script is.0 is.1)
+    pool_refused few LongScript is = absurd (names_script is.0 is.1)
+    pool_refused few (TooFewSegments have need) is = (0, omega arith, refl)
+
+    -- no pool is too small where the job has enough
+    no_small_pool : HasPool options job → (have need : ℕ) → IsFaultOf words functions contents (TooFewSegments have need) → ⊥
+    no_small_pool enough have need (inl named) =
+        let it = good options run.text run.tells (λ o j. HasSmallPool o j have need) named in
+        let same = needs it.2.0 it.2.1 in
+        let pool = it.2.2 in
+        omega (arith, enough, same, pool.have_is, pool.need_is, pool.few)
+    no_small_pool enough have need (inr script) = names_script script.0 script.1
+
+    same_many : (other : Job) → IsJobText functions run.text other → tasks other 0 ≡ tasks job 0
+    same_many other is =
+        let same : source_files other ≡ source_files job = files functions run.text other job is run.is_job in
+        sym (length-map other.sources.items file_name) ∙ ap length same ∙ length-map job.sources.items file_name
+
+    module _ (bytes : ℕ → List ℕ) (sources : TellsSources job contents bytes) where
+      -- the sources of each job of the text are told to have these bytes
+      tells_too : (other : Job) → IsJobText functions run.text other → TellsSources other contents bytes
+      tells_too other is a inside =
+          let same : source_files other ≡ source_files job = files functions run.text other job is run.is_job in
+          let many = same_many other is in
+          let name : source_name other a ≡ source_name job a = name_in other.sources.items a ∙ ap (λ l. get_or l a []) same ∙ sym (name_in job.sources.items a) in
+          ap contents name ∙ sources a (omega (arith, many, inside))
+
+      is_told : (other : Job) → IsJobText functions run.text other → (a : ℕ) → a < tasks other 0 → (P : List ℕ → Type 0) → IfSome (contents (source_name other a)) P → P (bytes a)
+      is_told other is a inside P told = subst (λ o. IfSome o P) (tells_too other is a inside) told
+
+      -- no run is done where a source is over its limit
+      pub not_done : (P : List ℕ → Type 0) (a : ℕ) → a < tasks job 0 → IsOverLimit (bytes a) → Prints words functions contents P → ⊥
+      not_done P a inside over (inr script) = names_script script.0 script.1
+      not_done P a inside over (inl runs) =
+          let it = good options run.text run.tells (λ o j. HasPool o j × ((bs : ℕ → List ℕ) → TellsSources j contents bs → AreWithinLimits j bs × P (table_text (tally j (λ b. lines (bs b)))))) runs in
+          let many = same_many it.2.0 it.2.1 in
+          (it.2.2.1 bytes (tells_too it.2.0 it.2.1)).0 a (omega (arith, many, inside)) over
+
+      pub source_refused : (a : ℕ) → a < tasks job 0 → IsOverLimit (bytes a) → (fault : Fault) → IsFaultOf words functions contents fault → Contains (10 ∷ 4 ∷ 6 ∷ 11 ∷ 12 ∷ 70 ∷ []) (status_of fault)
+      source_refused a inside over (Usage kind) is = absurd (usage_no kind is)
+      source_refused a inside over (JobLine line kind) is = absurd (no_line line kind is)
+      source_refused a inside over JobInput is = (1, omega arith, refl)
+      source_refused a inside over (SourceInput b) is = (1, omega arith, refl)
+      source_refused a inside over Link is = (2, omega arith, refl)
+      source_refused a inside over (OverCredit channel received announced) is = (3, omega arith, refl)
+      source_refused a inside over (Peer peer) is = (4, omega arith, refl)
+      source_refused a inside over Output is = absurd (not_done (λ text. ⊤) a inside over is)
+      source_refused a inside over LongJob is = absurd (no_long_job is)
+      source_refused a inside over (LongLine b) is = (0, omega arith, refl)
+      source_refused a inside over (BigSource b) is = (0, omega arith, refl)
+      source_refused a inside over Memory is = (5, omega arith, refl)
+      source_refused a inside over (ScriptLine line) is = absurd (names_script is.0 is.1)
+      source_refused a inside over ScriptInput is = absurd (names_script is.0 is.1)
+      source_refused a inside over LongScript is = absurd (names_script is.0 is.1)
+      source_refused a inside over (TooFewSegments have need) is = (0, omega arith, refl)
+
+      -- no source is the one that passes a limit, where none does
+      no_source : (b : ℕ) (P : List ℕ → Type 0) → ((bs : List ℕ) → P bs → IsOverLimit bs) → AreWithinLimits job bytes → NamesReadyJob words functions contents (λ j. IsOfSource j contents b P) → ⊥
+      no_source b P leads within named =
+          let it = good options run.text run.tells (λ o j. HasPool o j × IsOfSource j contents b P) named in
+          let inside = it.2.2.1.0 in
+          let many = same_many it.2.0 it.2.1 in
+          within b (omega (arith, many, inside)) (leads (bytes b) (is_told it.2.0 it.2.1 b inside P it.2.2.1.1))
+
+      pub completes : HasPool options job → AreWithinLimits job bytes → (fault : Fault) → (status_of fault ≡ 4 → ⊥) → (status_of fault ≡ 7 → ⊥) → IsFaultOf words functions contents fault → Contains (0 ∷ 6 ∷ 11 ∷ 12 ∷ 70 ∷ []) (status_of fault)
+      completes enough within (Usage kind) input output is = absurd (usage_no kind is)
+      completes enough within (JobLine line kind) input output is = absurd (no_line line kind is)
+      completes enough within JobInput input output is = absurd (input refl)
+      completes enough within (SourceInput b) input output is = absurd (input refl)
+      completes enough within Link input output is = (1, omega arith, refl)
+      completes enough within (OverCredit channel received announced) input output is = (2, omega arith, refl)
+      completes enough within (Peer peer) input output is = (3, omega arith, refl)
+      completes enough within Output input output is = absurd (output refl)
+      completes enough within LongJob input output is = absurd (no_long_job is)
+      completes enough within (LongLine b) input output is = absurd (no_source b (λ bs. HasLongLine (lines bs)) (λ bs long. inr long) within is)
+      completes enough within (BigSource b) input output is = absurd (no_source b (λ bs. SOURCE_MAX < length bs) (λ bs big. inl big) within is)
+      completes enough within Memory input output is = (4, omega arith, refl)
+      completes enough within (ScriptLine line) input output is = absurd (names_script is.0 is.1)
+      completes enough within ScriptInput input output is = absurd (names_script is.0 is.1)
+      completes enough within LongScript input output is = absurd (names_script is.0 is.1)
+      completes enough within (TooFewSegments have need) input output is = absurd (no_small_pool enough have need is)
 
   -- ---- scripts
 
@@ -309,14 +396,14 @@ module _ (words : List (List ℕ)) (functions : Functions) (contents : List ℕ 
         subst (λ o. IfSome o P) same named.2
 
     no_usage : (kind : _) → usage_fault words ≡ Some kind → ⊥
-    no_usage kind fault = let none : usage_fault words ≡ None = ap usage_fault tells.is_script.words_are ∙ ap (λ b. cond b None (Some MissingOperand)) tells.is_script.operand in cc
+    no_usage kind fault = let none = no_usage_fault words (ScriptCommand tells.file) tells.is_script in cc
 
-    no_job_too : (job : List ℕ) → IsRun words job → ⊥
-    no_job_too job run = not_both job tells.file run tells.is_script
+    no_job_too : (P : RunOptions → List ℕ → Type 0) → NamesRun words contents P → ⊥
+    no_job_too P run = not_both run.job tells.file run.options run.is_run tells.is_script
 
     -- what is printed is replied to a script of the text
     pub script_printed : (P : List ℕ → Type 0) → Prints words functions contents P → Replies P text
-    script_printed P (inl run) = absurd (no_job_too run.0 run.1)
+    script_printed P (inl run) = absurd (no_job_too _ run)
     script_printed P (inr run) = told_script (Replies P) run
 
     module _ (clear : ScriptTextHasNoBadLine) (one : ScriptTextIsOfOneScript) where
@@ -341,14 +428,18 @@ module _ (words : List (List ℕ)) (functions : Functions) (contents : List ℕ 
       script_refused bad ScriptInput is = (1, omega arith, refl)
       script_refused bad Memory is = (2, omega arith, refl)
       script_refused bad LongScript is = let long = told_script (λ t. SCRIPT_MAX < length t) is in let fits = bad.1.0 in absurd (omega (arith, long, fits))
-      script_refused bad (TooFewSegments have need) is = absurd (no_bad_too (λ script. HasTooFew script have need) bad (told_script (IsScriptWith (λ script. HasTooFew script have need)) is))
+      script_refused bad (TooFewSegments have need) (inl run) = absurd (no_job_too _ run)
+      script_refused bad (TooFewSegments have need) (inr is) = absurd (no_bad_too (λ script. HasTooFew script have need) bad (told_script (IsScriptWith (λ script. HasTooFew script have need)) is))
       script_refused bad Output is = absurd (no_bad_too (λ script. HasEnough script × ⊤) bad (script_printed (λ t. ⊤) is))
-      script_refused bad (JobLine line kind) is = absurd (no_job_too is.0 is.1)
-      script_refused bad JobInput is = absurd (no_job_too is.0 is.1)
-      script_refused bad (SourceInput a) is = absurd (no_job_too is.0 is.1)
-      script_refused bad LongJob is = absurd (no_job_too is.0 is.1)
-      script_refused bad (LongLine a) is = absurd (no_job_too is.0 is.1)
-      script_refused bad (BigSource a) is = absurd (no_job_too is.0 is.1)
+      script_refused bad (JobLine line kind) is = absurd (no_job_too _ is)
+      script_refused bad JobInput is = absurd (no_job_too _ is)
+      script_refused bad (SourceInput a) is = absurd (no_job_too _ is)
+      script_refused bad LongJob is = absurd (no_job_too _ is)
+      script_refused bad (LongLine a) is = absurd (no_job_too _ is)
+      script_refused bad (BigSource a) is = absurd (no_job_too _ is)
+      script_refused bad Link is = absurd (no_job_too _ is)
+      script_refused bad (OverCredit channel received announced) is = absurd (no_job_too _ is)
+      script_refused bad (Peer peer) is = absurd (no_job_too _ is)
 
       pub over_refused : PassesScriptLimit text → (fault : Fault) → IsFaultOf words functions contents fault → Contains (10 ∷ 4 ∷ 70 ∷ []) (status_of fault)
       over_refused over (Usage kind) is = absurd (no_usage kind is)
@@ -358,12 +449,15 @@ module _ (words : List (List ℕ)) (functions : Functions) (contents : List ℕ 
       over_refused over LongScript is = (0, omega arith, refl)
       over_refused over (TooFewSegments have need) is = (0, omega arith, refl)
       over_refused over Output is = absurd (over_not_good over (with_enough (λ t. ⊤) (script_printed (λ t. ⊤) is)))
-      over_refused over (JobLine line kind) is = absurd (no_job_too is.0 is.1)
-      over_refused over JobInput is = absurd (no_job_too is.0 is.1)
-      over_refused over (SourceInput a) is = absurd (no_job_too is.0 is.1)
-      over_refused over LongJob is = absurd (no_job_too is.0 is.1)
-      over_refused over (LongLine a) is = absurd (no_job_too is.0 is.1)
-      over_refused over (BigSource a) is = absurd (no_job_too is.0 is.1)
+      over_refused over (JobLine line kind) is = absurd (no_job_too _ is)
+      over_refused over JobInput is = absurd (no_job_too _ is)
+      over_refused over (SourceInput a) is = absurd (no_job_too _ is)
+      over_refused over LongJob is = absurd (no_job_too _ is)
+      over_refused over (LongLine a) is = absurd (no_job_too _ is)
+      over_refused over (BigSource a) is = absurd (no_job_too _ is)
+      over_refused over Link is = absurd (no_job_too _ is)
+      over_refused over (OverCredit channel received announced) is = absurd (no_job_too _ is)
+      over_refused over (Peer peer) is = absurd (no_job_too _ is)
 
       -- no work is done where the text is over its limit, or of a script with too few segments
       pub over_not_done : (P : List ℕ → Type 0) → PassesScriptLimit text → Prints words functions contents P → ⊥
@@ -378,11 +472,15 @@ module _ (words : List (List ℕ)) (functions : Functions) (contents : List ℕ 
       script_completes good ScriptInput input output is = absurd (input refl)
       script_completes good Memory input output is = (1, omega arith, refl)
       script_completes good LongScript input output is = absurd (over_not_good (inl (told_script (λ t. SCRIPT_MAX < length t) is)) good)
-      script_completes good (TooFewSegments have need) input output is = absurd (over_not_good (too_few (Some text) have need (told_script (IsScriptWith (λ script. HasTooFew script have need)) is)) good)
+      script_completes good (TooFewSegments have need) input output (inl run) = absurd (no_job_too _ run)
+      script_completes good (TooFewSegments have need) input output (inr is) = absurd (over_not_good (too_few words functions contents (Some text) have need (told_script (IsScriptWith (λ script. HasTooFew script have need)) is)) good)
       script_completes good Output input output is = absurd (output refl)
-      script_completes good (JobLine line kind) input output is = absurd (no_job_too is.0 is.1)
-      script_completes good JobInput input output is = absurd (no_job_too is.0 is.1)
-      script_completes good (SourceInput a) input output is = absurd (no_job_too is.0 is.1)
-      script_completes good LongJob input output is = absurd (no_job_too is.0 is.1)
-      script_completes good (LongLine a) input output is = absurd (no_job_too is.0 is.1)
-      script_completes good (BigSource a) input output is = absurd (no_job_too is.0 is.1)
+      script_completes good (JobLine line kind) input output is = absurd (no_job_too _ is)
+      script_completes good JobInput input output is = absurd (no_job_too _ is)
+      script_completes good (SourceInput a) input output is = absurd (no_job_too _ is)
+      script_completes good LongJob input output is = absurd (no_job_too _ is)
+      script_completes good (LongLine a) input output is = absurd (no_job_too _ is)
+      script_completes good (BigSource a) input output is = absurd (no_job_too _ is)
+      script_completes good Link input output is = absurd (no_job_too _ is)
+      script_completes good (OverCredit channel received announced) input output is = absurd (no_job_too _ is)
+      script_completes good (Peer peer) input output is = absurd (no_job_too _ is)

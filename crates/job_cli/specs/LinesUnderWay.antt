@@ -3,7 +3,7 @@ use Rattle.std.specs.Prelude.{◌≡◌, ℕ, List, ◌++◌}
 use Rattle.flow_defs.specs.declared.job.Job.{Job}
 use Rattle.flow_defs.specs.Lines.{lines}
 use Rattle.flow_defs.specs.Tables.{Values}
-use Rattle.job_cli.specs.declared.lines.Lines.{Lines}
+use Rattle.job_cli.specs.declared.one_thread.lines.Lines.{Lines}
 use Rattle.job_plan.specs.Begun.{IsBegun}
 use Rattle.job_plan.specs.Limits.{HasLongLine}
 use Rattle.job_cli.specs.Counting.{add_lines}

@@ -1,23 +1,24 @@
 -- What a command does, and why it is refused.
 use Rattle.std.specs.Prelude.{◌≡◌, ◌⊎◌, ⊤, ◌<◌, ◌≤◌, ℕ, length, List, ◌++◌, Option, Some, None, IfSome}
 use Rattle.flow_defs.specs.declared.job.Job.{Job}
-use Rattle.flow_defs.specs.Jobs.{tasks}
+use Rattle.flow_defs.specs.Jobs.{segments_needed, tasks}
 use Rattle.flow_defs.specs.Lines.{lines}
 use Rattle.flow_defs.specs.Tables.{table_text}
 use Rattle.plain_machine.specs.Worth.{tally}
 use Rattle.stage_fns.specs.Functions.{Functions}
 use Rattle.job_text.specs.declared.fault.JobFault.{JobFault}
+use Rattle.job_text.specs.declared.words.RunOptions.{RunOptions}
 use Rattle.job_text.specs.Words.{IsRun, IsScript, usage_fault}
 use Rattle.job_text.specs.JobText.{IsJobText}
 use Rattle.job_text.specs.JobFaults.{first_fault}
 use Rattle.job_cli.specs.declared.run.TheConstants.{JOB_MAX}
 use Rattle.job_cli.specs.declared.fault.Fault.{Fault}
-use Rattle.job_cli.specs.declared.fault.Fault.TheVariants.{Usage, JobLine, ScriptLine, JobInput, ScriptInput, SourceInput, Output, LongJob, LongScript, LongLine, BigSource, TooFewSegments, Memory}
+use Rattle.job_cli.specs.declared.fault.Fault.TheVariants.{Usage, JobLine, ScriptLine, JobInput, ScriptInput, SourceInput, Output, LongJob, LongScript, LongLine, BigSource, TooFewSegments, Link, OverCredit, Peer, Memory}
 use Rattle.job_cli.specs.Causes.{status_of}
 use Rattle.job_cli.specs.FaultTexts.{fault_line}
 use Rattle.job_cli.specs.Front.{GotFront}
 use Rattle.job_plan.specs.Limits.{IsOverLimit}
-use Rattle.job_cli.specs.Sources.{source_name, IsSourceFault}
+use Rattle.job_cli.specs.Sources.{source_name, IsOfSource, IsRunFault}
 use Rattle.job_cli.specs.declared.script.TheConstants.{SCRIPT_MAX}
 use Rattle.job_cli.specs.Scripts.{NamesScript, IsScriptWith, HasTooFew, HasBadLine, ScriptRunsTo, HasScripted, HasScriptedInPart}
 
@@ -27,25 +28,50 @@ TellsSources job contents bytes = (a : ℕ) → a < tasks job 0 → contents (so
 
 -- The words are a command's.
 abbrev pub NamesCommand : List (List ℕ) → Type 0
-NamesCommand words = ((job : List ℕ) × IsRun words job) ⊎ ((file : List ℕ) × IsScript words file)
+NamesCommand words = ((job : List ℕ) × (options : RunOptions) × IsRun words job options) ⊎ ((file : List ℕ) × IsScript words file)
 
 -- None of a job's sources passes a limit.
 abbrev pub AreWithinLimits : Job → (ℕ → List ℕ) → Type 0
 AreWithinLimits job bytes = (a : ℕ) → a < tasks job 0 → IsOverLimit (bytes a) → ⊥
 
+-- The pool that the options give has the segments that the job needs.
+abbrev pub HasPool : RunOptions → Job → Type 0
+HasPool options job = segments_needed job ≤ options.pool
+
+-- It has fewer: so many, where so many are needed.
+pub record HasSmallPool (options : RunOptions) (job : Job) (have need : ℕ) : Type 0 where
+  pub have_is : have ≡ options.pool
+  pub need_is : need ≡ segments_needed job
+  pub few : have < need
+
+-- The words name a job with options, and its text, where it is told, has P under these.
+pub record NamesRun (words : List (List ℕ)) (contents : List ℕ → Option (List ℕ)) (P : RunOptions → List ℕ → Type 0) : Type 0 where
+  pub job : List ℕ
+  pub options : RunOptions
+  pub is_run : IsRun words job options
+  pub holds : IfSome (contents job) (P options)
+
 -- The words name a job, and its text, where it is told, has P.
 abbrev pub NamesJob : List (List ℕ) → (List ℕ → Option (List ℕ)) → (List ℕ → Type 0) → Type 0
-NamesJob words contents P = (job : List ℕ) × IsRun words job × IfSome (contents job) P
+NamesJob words contents P = NamesRun words contents (λ options text. P text)
 
--- The words name a job that has P, and its text is within its limit and has no fault.
-abbrev pub NamesGoodJob : List (List ℕ) → Functions → (List ℕ → Option (List ℕ)) → (Job → Type 0) → Type 0
-NamesGoodJob words functions contents P =
-    NamesJob words contents (λ text. (length text ≤ JOB_MAX) × (first_fault functions text ≡ None) × ((job : Job) × IsJobText functions text job × P job))
+-- The text is within its limit and has no fault, and is that of a job that has P.
+abbrev pub IsGoodText : Functions → (Job → Type 0) → List ℕ → Type 0
+IsGoodText functions P text = (length text ≤ JOB_MAX) × (first_fault functions text ≡ None) × ((job : Job) × IsJobText functions text job × P job)
 
--- The words name a job. Whatever its sources are told to have is within their limits, and P holds of the text of their tally.
+-- The words name a job that has P under its options, and its text is within its limit and has no fault.
+abbrev pub NamesGoodJob : List (List ℕ) → Functions → (List ℕ → Option (List ℕ)) → (RunOptions → Job → Type 0) → Type 0
+NamesGoodJob words functions contents P = NamesRun words contents (λ options text. IsGoodText functions (P options) text)
+
+-- The words name a job that has P, and give it a pool that has the segments it needs.
+abbrev pub NamesReadyJob : List (List ℕ) → Functions → (List ℕ → Option (List ℕ)) → (Job → Type 0) → Type 0
+NamesReadyJob words functions contents P = NamesGoodJob words functions contents (λ options job. HasPool options job × P job)
+
+-- The words name a job and give it a large enough pool. Whatever its sources are told to have is within their limits, and P holds of
+-- the text of their tally.
 abbrev pub RunsTo : List (List ℕ) → Functions → (List ℕ → Option (List ℕ)) → (List ℕ → Type 0) → Type 0
 RunsTo words functions contents P =
-    NamesGoodJob words functions contents (λ job. (bytes : ℕ → List ℕ) → TellsSources job contents bytes →
+    NamesReadyJob words functions contents (λ job. (bytes : ℕ → List ℕ) → TellsSources job contents bytes →
     AreWithinLimits job bytes × P (table_text (tally job (λ a. lines (bytes a)))))
 
 -- The output got the text of the tally behind what was there, and nothing else.
@@ -67,19 +93,25 @@ HasDone words functions contents before after = HasRun words functions contents 
 abbrev pub HasDoneInPart : List (List ℕ) → Functions → (List ℕ → Option (List ℕ)) → Option (List ℕ) → Option (List ℕ) → Type 0
 HasDoneInPart words functions contents before after = HasRunInPart words functions contents before after ⊎ HasScriptedInPart words contents before after
 
--- The fault is the first of the words, of the text of the job or the script that they name, of that job's sources, or of that script's pool, as far as these are told.
+-- The fault is the first of the words, or of the text of the job or the script that they name, or else one of that job's pool, its
+-- sources or its exchange, or of that script's pool, as far as these are told.
 abbrev pub IsFaultOf : List (List ℕ) → Functions → (List ℕ → Option (List ℕ)) → Fault → Type 0
 IsFaultOf words functions contents (Usage kind) = usage_fault words ≡ Some kind
 IsFaultOf words functions contents JobInput = NamesJob words contents (λ text. ⊤)
 IsFaultOf words functions contents LongJob = NamesJob words contents (λ text. JOB_MAX < length text)
 IsFaultOf words functions contents (JobLine line kind) = NamesJob words contents (λ text. (length text ≤ JOB_MAX) × (first_fault functions text ≡ Some (line, kind)))
-IsFaultOf words functions contents (SourceInput a) = NamesGoodJob words functions contents (λ job. IsSourceFault job contents (SourceInput a))
-IsFaultOf words functions contents (LongLine a) = NamesGoodJob words functions contents (λ job. IsSourceFault job contents (LongLine a))
-IsFaultOf words functions contents (BigSource a) = NamesGoodJob words functions contents (λ job. IsSourceFault job contents (BigSource a))
+IsFaultOf words functions contents (SourceInput a) = NamesReadyJob words functions contents (λ job. IsRunFault job contents (SourceInput a))
+IsFaultOf words functions contents (LongLine a) = NamesReadyJob words functions contents (λ job. IsRunFault job contents (LongLine a))
+IsFaultOf words functions contents (BigSource a) = NamesReadyJob words functions contents (λ job. IsRunFault job contents (BigSource a))
+IsFaultOf words functions contents Link = NamesReadyJob words functions contents (λ job. ⊤)
+IsFaultOf words functions contents (OverCredit channel received announced) = NamesReadyJob words functions contents (λ job. ⊤)
+IsFaultOf words functions contents (Peer fault) = NamesReadyJob words functions contents (λ job. ⊤)
 IsFaultOf words functions contents ScriptInput = NamesScript words contents (λ text. ⊤)
 IsFaultOf words functions contents LongScript = NamesScript words contents (λ text. SCRIPT_MAX < length text)
 IsFaultOf words functions contents (ScriptLine line) = NamesScript words contents (HasBadLine line)
-IsFaultOf words functions contents (TooFewSegments have need) = NamesScript words contents (IsScriptWith (λ script. HasTooFew script have need))
+IsFaultOf words functions contents (TooFewSegments have need) =
+    NamesGoodJob words functions contents (λ options job. HasSmallPool options job have need)
+    ⊎ NamesScript words contents (IsScriptWith (λ script. HasTooFew script have need))
 IsFaultOf words functions contents Output = Prints words functions contents (λ text. ⊤)
 IsFaultOf words functions contents Memory = NamesCommand words
 
@@ -95,22 +127,26 @@ IsTold words functions contents before after risen status =
 abbrev pub IsNoJob : Functions → List ℕ → Type 0
 IsNoJob functions text = (length text ≤ JOB_MAX) × ((fault : ℕ × JobFault) × (first_fault functions text ≡ Some fault))
 
--- The job's text is over its limit, or one of its sources is over one of its own.
-abbrev pub PassesLimit : List (List ℕ) → Functions → (List ℕ → Option (List ℕ)) → Type 0
-PassesLimit words functions contents =
-    NamesJob words contents (λ text. (JOB_MAX < length text)
-    ⊎ ((job : Job) × IsJobText functions text job × ((a : ℕ) × (a < tasks job 0) × IfSome (contents (source_name job a)) IsOverLimit)))
+-- The text is over its limit, or that of a job that needs more segments than the pool has, or of one with a source over a limit.
+abbrev pub IsOverLimits : Functions → (List ℕ → Option (List ℕ)) → RunOptions → List ℕ → Type 0
+IsOverLimits functions contents options text =
+    (JOB_MAX < length text)
+    ⊎ ((job : Job) × IsJobText functions text job
+    × ((options.pool < segments_needed job) ⊎ ((a : ℕ) × IsOfSource job contents a IsOverLimit)))
 
--- The words name a job, and this is told to be its text.
-pub record TellsJob (words : List (List ℕ)) (contents : List ℕ → Option (List ℕ)) (text : List ℕ) : Type 0 where
+-- The words name a job, and a limit of its text, its pool or its sources is passed.
+abbrev pub PassesLimit : List (List ℕ) → Functions → (List ℕ → Option (List ℕ)) → Type 0
+PassesLimit words functions contents = NamesRun words contents (IsOverLimits functions contents)
+
+-- The words name a job with these options, and this is told to be its text.
+pub record TellsJob (words : List (List ℕ)) (contents : List ℕ → Option (List ℕ)) (options : RunOptions) (text : List ℕ) : Type 0 where
   pub job : List ℕ
-  pub is_run : IsRun words job
+  pub is_run : IsRun words job options
   pub told : contents job ≡ Some text
 
--- The words name this job, its text is told and within its limit, and its sources are told to have these bytes.
-pub record TellsRun (words : List (List ℕ)) (functions : Functions) (contents : List ℕ → Option (List ℕ)) (job : Job) (bytes : ℕ → List ℕ) : Type 0 where
+-- The words name this job with these options, and its text is told and within its limit.
+pub record TellsRun (words : List (List ℕ)) (functions : Functions) (contents : List ℕ → Option (List ℕ)) (options : RunOptions) (job : Job) : Type 0 where
   pub text : List ℕ
-  pub tells : TellsJob words contents text
+  pub tells : TellsJob words contents options text
   pub fits : length text ≤ JOB_MAX
   pub is_job : IsJobText functions text job
-  pub sources : TellsSources job contents bytes

@@ -1,6 +1,6 @@
 -- What is done with a script, and why it is refused. The command, its limit and its faults are this
 -- project's own choice; what the events do is Flink's credit-based flow control.
-use Rattle.std.specs.Prelude.{◌≡◌, ◌⊎◌, ⊤, ℕ, ◌*◌, ◌<◌, ◌≤◌, length, List, ◌++◌, Option, Some, None, IfSome}
+use Rattle.std.specs.Prelude.{◌≡◌, ◌⊎◌, ⊤, ℕ, ◌*◌, ◌<◌, ◌≤◌, length, List, ◌++◌, Option, Some, IfSome}
 use Rattle.job_text.specs.Words.{IsScript}
 use Rattle.script_text.specs.declared.event.Script.{Script}
 use Rattle.script_text.specs.Scripts.{IsScriptText}

@@ -1,5 +1,5 @@
 -- The sources of a job, and which fault they have.
-use Rattle.std.specs.Prelude.{⊤, ℕ, ◌<◌, List, [], length, slice_get, Option, IfSome}
+use Rattle.std.specs.Prelude.{◌≡◌, ⊤, ℕ, ◌<◌, List, [], length, slice_get, Option, Some, IfSome}
 use Rattle.std.specs.Option.{option_map_or}
 use Rattle.flow_defs.specs.Items.{Items}
 use Rattle.flow_defs.specs.declared.job.Job.{Job}
@@ -7,23 +7,39 @@ use Rattle.flow_defs.specs.Jobs.{tasks}
 use Rattle.flow_defs.specs.Lines.{lines}
 use Rattle.job_plan.specs.declared.limits.TheConstants.{SOURCE_MAX}
 use Rattle.job_cli.specs.declared.fault.Fault.{Fault}
-use Rattle.job_cli.specs.declared.fault.Fault.TheVariants.{SourceInput, LongLine, BigSource, Memory}
-use Rattle.job_plan.specs.Limits.{HasLongLine, IsOverLimit}
+use Rattle.job_cli.specs.declared.fault.Fault.TheVariants.{SourceInput, LongLine, BigSource, Link, OverCredit, Peer, Memory}
+use Rattle.job_plan.specs.Limits.{HasLongLine}
 
 -- The file that a source of a job names.
 abbrev pub source_name : Job → ℕ → List ℕ
 source_name job a = option_map_or (λ (file : Items ℕ). file.items) (slice_get job.sources.items a) []
 
--- The source of this index is the job's. Its bytes, where they are told, have P, and those of the sources before it pass no limit.
-abbrev pub IsFirst : Job → (List ℕ → Option (List ℕ)) → ℕ → (List ℕ → Type 0) → Type 0
-IsFirst job contents a P =
-    (a < tasks job 0) × IfSome (contents (source_name job a)) P
-    × ((b : ℕ) → b < a → IfSome (contents (source_name job b)) (λ bytes. IsOverLimit bytes → ⊥))
+-- The source of this index is the job's, and its bytes, where they are told, have P.
+abbrev pub IsOfSource : Job → (List ℕ → Option (List ℕ)) → ℕ → (List ℕ → Type 0) → Type 0
+IsOfSource job contents a P = (a < tasks job 0) × IfSome (contents (source_name job a)) P
 
--- The sources of a job have this fault, and no source before has one.
+-- A source of the job has this fault. Sources are read at once, so others may have one too.
 abbrev pub IsSourceFault : Job → (List ℕ → Option (List ℕ)) → Fault → Type 0
-IsSourceFault job contents (SourceInput a) = IsFirst job contents a (λ bytes. ⊤)
-IsSourceFault job contents (LongLine a) = IsFirst job contents a (λ bytes. HasLongLine (lines bytes))
-IsSourceFault job contents (BigSource a) = IsFirst job contents a (λ bytes. SOURCE_MAX < length bytes)
+IsSourceFault job contents (SourceInput a) = IsOfSource job contents a (λ bytes. ⊤)
+IsSourceFault job contents (LongLine a) = IsOfSource job contents a (λ bytes. HasLongLine (lines bytes))
+IsSourceFault job contents (BigSource a) = IsOfSource job contents a (λ bytes. SOURCE_MAX < length bytes)
 IsSourceFault job contents Memory = ⊤
 IsSourceFault job contents fault = ⊥
+
+-- A run of the job over the exchange has this fault. Nothing is said of when a link or the other end of a connection has one.
+abbrev pub IsRunFault : Job → (List ℕ → Option (List ℕ)) → Fault → Type 0
+IsRunFault job contents Link = ⊤
+IsRunFault job contents (OverCredit channel received announced) = ⊤
+IsRunFault job contents (Peer fault) = ⊤
+IsRunFault job contents fault = IsSourceFault job contents fault
+
+-- ---- the inputs of the sources
+
+-- Each of these inputs tells what is told of the source of its index, and has no fault.
+abbrev pub AreInputsOf : {S : Type 0} → (S → Option (List ℕ)) → (S → ℕ) → Job → (List ℕ → Option (List ℕ)) → List S → Type 0
+AreInputsOf {S} left faults job contents inputs = (a : ℕ) (input : S) → slice_get inputs a ≡ Some input →
+    (left input ≡ contents (source_name job a)) × (faults input ≡ 0)
+
+-- One of these inputs has a fault.
+abbrev pub HasFaulty : {S : Type 0} → (S → ℕ) → List S → Type 0
+HasFaulty {S} faults inputs = (a : ℕ) × (input : S) × (slice_get inputs a ≡ Some input) × (0 < faults input)

@@ -1,11 +1,15 @@
--- Which fault the words have, and the text of the job that they name.
+-- Which fault the words have, the text of the job that they name, and a run of that job.
 use Rattle.std.specs.Prelude.{◌≡◌, ⊤, ℕ, ◌<◌, List, length, Option, Some, None, IfSome}
 use Rattle.stage_fns.specs.Functions.{Functions}
 use Rattle.job_text.specs.Words.{usage_fault}
 use Rattle.job_text.specs.JobFaults.{first_fault}
 use Rattle.job_cli.specs.declared.run.TheConstants.{JOB_MAX}
 use Rattle.job_cli.specs.declared.fault.Fault.{Fault}
-use Rattle.job_cli.specs.declared.fault.Fault.TheVariants.{Usage, JobLine, JobInput, LongJob, Memory}
+use Rattle.job_cli.specs.declared.fault.Fault.TheVariants.{Usage, JobLine, JobInput, LongJob, TooFewSegments, Memory}
+use Rattle.flow_defs.specs.declared.job.Job.{Job}
+use Rattle.job_text.specs.declared.words.RunOptions.{RunOptions}
+use Rattle.job_cli.specs.Run.{HasPool, HasSmallPool}
+use Rattle.job_cli.specs.Sources.{IsRunFault}
 
 -- The words have this fault. Without one, memory may be lacking.
 abbrev pub IsWordFault : List (List ℕ) → Fault → Type 0
@@ -25,3 +29,9 @@ abbrev pub IsTextFault : Functions → List ℕ → Fault → Type 0
 IsTextFault functions text (JobLine line kind) = first_fault functions text ≡ Some (line, kind)
 IsTextFault functions text Memory = ⊤
 IsTextFault functions text fault = ⊥
+
+-- A run of the job under these options has this fault: its pool is too small, or it is one of the run's.
+abbrev pub IsExchangeFault : RunOptions → Job → (List ℕ → Option (List ℕ)) → Fault → Type 0
+IsExchangeFault options job contents (TooFewSegments have need) = HasSmallPool options job have need
+IsExchangeFault options job contents Memory = ⊤
+IsExchangeFault options job contents fault = HasPool options job × IsRunFault job contents fault

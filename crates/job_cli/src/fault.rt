@@ -1,24 +1,46 @@
 // Why a command was not done: its status, and the line that tells of it.
-ghost use Rattle.std.specs.Prelude.{◌≡◌, ◌++◌};
-ghost use Rattle.job_cli.specs.FaultTexts.{usage_text, job_fault_text, fault_text, number_text};
+ghost use Rattle.std.specs.Prelude.{◌≡◌, ◌++◌, decimal, flat_map};
+ghost use Rattle.job_cli.specs.FaultTexts.{usage_text, job_fault_text, peer_text, fault_text, part_text};
 
+use flow_defs::{ChannelId, PeerFault};
 use job_text::{JobFault, UsageKind};
+
+/// A part of a fault's text: a text, and a number behind it.
+#[derive(Clone, Copy, Debug, PartialEq, Eq)]
+pub struct Part {
+    pub text: &'static str,
+    pub number: Option<u64>,
+}
+
+const NOTHING: Part = Part {
+    text: "",
+    number: None,
+};
 
 /// Why a command was not done.
 #[derive(Clone, Copy, Debug, PartialEq, Eq)]
 pub enum Fault {
     /// The words are no command.
-    Usage { kind: UsageKind },
+    Usage {
+        kind: UsageKind,
+    },
     /// A line of the job's text is no line of a job. Lines are counted from 1.
-    JobLine { line: u64, kind: JobFault },
+    JobLine {
+        line: u64,
+        kind: JobFault,
+    },
     /// A line of the script's text is no line of a script. Lines are counted from 1.
-    ScriptLine { line: u64 },
+    ScriptLine {
+        line: u64,
+    },
     /// The job's text was not found, or a read of it failed.
     JobInput,
     /// The script's text was not found, or a read of it failed.
     ScriptInput,
     /// A source was not found, or a read of it failed. Sources are counted from 0.
-    SourceInput { source: u32 },
+    SourceInput {
+        source: u32,
+    },
     /// The output failed, or took nothing.
     Output,
     /// The job's text is over its limit.
@@ -26,11 +48,30 @@ pub enum Fault {
     /// The script's text is over its limit.
     LongScript,
     /// A line of a source is longer than a record may be.
-    LongLine { source: u32 },
+    LongLine {
+        source: u32,
+    },
     /// A source is over its limit.
-    BigSource { source: u32 },
-    /// The script opens a connection that needs more segments than it has.
-    TooFewSegments { have: u32, need: u32 },
+    BigSource {
+        source: u32,
+    },
+    /// The pool has fewer segments than the job's channels need, or those of the connection that the script opens.
+    TooFewSegments {
+        have: u32,
+        need: u32,
+    },
+    /// A half of a link failed.
+    Link,
+    /// A data frame came whose number on its channel is above the credit that was announced there.
+    OverCredit {
+        channel: ChannelId,
+        received: u64,
+        announced: u64,
+    },
+    /// What came over a link is not what a sound other end sends.
+    Peer {
+        fault: PeerFault,
+    },
     Memory,
 }
 
@@ -45,51 +86,96 @@ impl Fault {
             Fault::Usage { .. } => 2,
             Fault::JobLine { .. } | Fault::ScriptLine { .. } => 3,
             Fault::JobInput | Fault::ScriptInput | Fault::SourceInput { .. } => 4,
+            Fault::Link => 6,
             Fault::Output => 7,
             Fault::LongJob | Fault::LongScript => 10,
             Fault::LongLine { .. } | Fault::BigSource { .. } => 10,
             Fault::TooFewSegments { .. } => 10,
+            Fault::OverCredit { .. } => 11,
+            Fault::Peer { .. } => 12,
             Fault::Memory => 70,
         }
     }
 
-    /// The text that tells of it: a text, the number behind it, the text behind that, and a number at the end.
-    pub fn text(self) -> (&'static str, Option<u64>, &'static str, Option<u64>)
-        ensures { result.0.now ++ number_text result.1 ++ result.2.now ++ number_text result.3 ≡ fault_text self }
+    /// The text that tells of it, in parts.
+    pub fn text(self) -> [Part; 5]
+        ensures { flat_map part_text result ≡ fault_text self }
     {
         match self {
-            Fault::Usage { kind } => ("usage: ", None, usage(kind), None),
-            Fault::JobLine { line, kind } => ("job line ", Some(line), job_fault(kind), None),
-            Fault::ScriptLine { line } => ("script line ", Some(line), ": bad line", None),
-            Fault::JobInput => ("input fault: job", None, "", None),
-            Fault::ScriptInput => ("input fault: script", None, "", None),
+            Fault::Usage { kind } => both(plain("usage: "), plain(usage(kind))),
+            Fault::JobLine { line, kind } => both(
+                numbered("job line ", line),
+                plain(job_fault(kind)),
+            ),
+            Fault::ScriptLine { line } => both(numbered("script line ", line), plain(": bad line")),
+            Fault::JobInput => alone(plain("input fault: job")),
+            Fault::ScriptInput => alone(plain("input fault: script")),
             Fault::SourceInput { source } => {
-                ("input fault: source ", Some(source as u64), "", None)
+                alone(numbered("input fault: source ", source as u64))
             }
-            Fault::Output => ("output fault", None, "", None),
-            Fault::LongJob => ("job over 65536", None, "", None),
-            Fault::LongScript => ("script over 16777216", None, "", None),
-            Fault::LongLine { source } => (
-                "source ",
-                Some(source as u64),
-                ": line over 1048576",
-                None,
+            Fault::Link => alone(plain("link fault")),
+            Fault::Output => alone(plain("output fault")),
+            Fault::LongJob => alone(plain("job over 65536")),
+            Fault::LongScript => alone(plain("script over 16777216")),
+            Fault::LongLine { source } => both(
+                numbered("source ", source as u64),
+                plain(": line over 1048576"),
             ),
-            Fault::BigSource { source } => (
-                "source ",
-                Some(source as u64),
-                ": over 1099511627776",
-                None,
+            Fault::BigSource { source } => both(
+                numbered("source ", source as u64),
+                plain(": over 1099511627776"),
             ),
-            Fault::TooFewSegments { have, need } => (
-                "pool has ",
-                Some(have as u64),
-                ", needs ",
-                Some(need as u64),
+            Fault::TooFewSegments { have, need } => both(
+                numbered("pool has ", have as u64),
+                numbered(", needs ", need as u64),
             ),
-            Fault::Memory => ("out of memory", None, "", None),
+            Fault::OverCredit {
+                channel,
+                received,
+                announced,
+            } => over_credit(channel, received, announced),
+            Fault::Peer { fault } => both(plain("peer: "), plain(peer(fault))),
+            Fault::Memory => alone(plain("out of memory")),
         }
     }
+}
+
+fn plain(text: &'static str) -> Part
+    ensures { part_text result ≡ text.now }
+{
+    Part { text, number: None }
+}
+
+fn numbered(text: &'static str, number: u64) -> Part
+    ensures { part_text result ≡ text.now ++ decimal number }
+{
+    Part {
+        text,
+        number: Some(number),
+    }
+}
+
+fn alone(part: Part) -> [Part; 5]
+    ensures { flat_map part_text result ≡ part_text part }
+{
+    [part, NOTHING, NOTHING, NOTHING, NOTHING]
+}
+
+fn both(first: Part, second: Part) -> [Part; 5]
+    ensures { flat_map part_text result ≡ part_text first ++ part_text second }
+{
+    [first, second, NOTHING, NOTHING, NOTHING]
+}
+
+fn over_credit(channel: ChannelId, received: u64, announced: u64) -> [Part; 5]
+    ensures { flat_map part_text result ≡ fault_text (Fault.OverCredit channel received announced) }
+{
+    let edge = numbered("over credit on ", channel.edge as u64);
+    let from = numbered(" ", channel.from as u64);
+    let to = numbered(" ", channel.to as u64);
+    let got = numbered(": received ", received);
+    let most = numbered(", announced ", announced);
+    [edge, from, to, got, most]
 }
 
 fn usage(kind: UsageKind) -> &'static str
@@ -101,6 +187,9 @@ fn usage(kind: UsageKind) -> &'static str
         UsageKind::MissingOperand => "missing operand",
         UsageKind::UnknownOption => "unknown option",
         UsageKind::ExtraWord => "extra word",
+        UsageKind::BadValue => "bad value",
+        UsageKind::OptionTwice => "option twice",
+        UsageKind::MissingValue => "missing value",
     }
 }
 
@@ -117,5 +206,23 @@ fn job_fault(kind: JobFault) -> &'static str
         JobFault::BadNumber => ": bad number",
         JobFault::BadExchange => ": bad exchange",
         JobFault::BadWidth => ": bad width",
+    }
+}
+
+fn peer(fault: PeerFault) -> &'static str
+    ensures { result.now ≡ peer_text fault }
+{
+    match fault {
+        PeerFault::BadFrame => "bad frame",
+        PeerFault::Sequence => "wrong sequence",
+        PeerFault::Barrier => "wrong barrier",
+        PeerFault::Size => "wrong size",
+        PeerFault::AfterEnd => "after end",
+        PeerFault::Channel => "wrong channel",
+        PeerFault::Credit => "credit over",
+        PeerFault::Resume => "not blocked",
+        PeerFault::Left => "record cut",
+        PeerFault::Cut => "link cut",
+        PeerFault::Refused => "refused",
     }
 }

@@ -1,6 +1,6 @@
 //! Runs a job: counts what its stages make of the lines of its sources, as the job's text says, and
-//! prints the counts. Or does a script: drives both ends of a connection, event by event, and prints
-//! what is replied to each.
+//! prints the counts. Its tasks run at once, joined by the exchange over links in memory. Or does a
+//! script: drives both ends of a connection, event by event, and prints what is replied to each.
 //!
 //! It stands on the crates of the machine, of the texts and of the exchange. `top` is the program over
 //! the world that it is handed; what it answers and writes is said by its contract, in the words of
@@ -8,11 +8,14 @@
 //! the output for errors.
 #![tactic(auto)]
 
+mod exchange;
 mod fault;
+#[cfg(test)]
+mod held_files;
 mod input;
-mod lines;
+mod inputs;
+mod one_thread;
 mod output;
-mod plan;
 mod program;
 mod run;
 mod script;

@@ -1,11 +1,11 @@
 // Writes tables and faults to sinks.
-ghost use Rattle.std.specs.Prelude.{◌≡◌, ◌≤◌, ◌++◌, flat_map, Some, IfOk, IfSome, OnOk, OnErr};
+ghost use Rattle.std.specs.Prelude.{◌≡◌, ◌≤◌, ◌++◌, [], ◌∷◌, flat_map, Some, IfOk, IfSome, OnOk, OnErr};
 ghost use Rattle.flow_defs.specs.Tables.{row_text, table_text};
-ghost use Rattle.job_cli.specs.FaultTexts.{fault_line, number_text};
+ghost use Rattle.job_cli.specs.FaultTexts.{fault_line, number_text, part_text};
 ghost use Rattle.job_cli.specs.Front.{GotFront};
 ghost use Rattle.outside.specs.Faults.{HasRisen};
 
-use crate::fault::Fault;
+use crate::fault::{Fault, Part};
 use flow_defs::{Bytes, Table};
 use itoa::Buffer;
 use outside::Sink;
@@ -64,18 +64,46 @@ pub fn tell<E: Sink>(err: &mut E, fault: Fault)
     ensures told { (HasRisen (E.faults err.old) (E.faults err.new) → ⊥) →
         IfSome (E.got err.old) (λ had. E.got err.new ≡ Some (had ++ fault_line fault)) }
 {
-    let (before, number, behind, last) = fault.text();
-    let mut buffer = Buffer::new();
-    let mut last_buffer = Buffer::new();
-    let parts = [
-        before,
-        digits(&mut buffer, number),
-        behind,
-        digits(&mut last_buffer, last),
-        "\n",
-    ];
+    let parts = fault.text();
     // What a failing sink doesn't take is lost.
-    let _ = write_parts(err, &parts);
+    let _ = write_line(err, &parts);
+}
+
+// Writes these parts of a line, one after another, and ends it.
+fn write_line<O: Sink>(out: &mut O, parts: &[Part]) -> Result<(), OutputFault>
+    ensures front { IfSome (O.got out.old) (λ had. GotFront had (flat_map part_text parts.now ++ 10 ∷ []) (O.got out.new)) }
+    ensures told { OnOk result (IfSome (O.got out.old) (λ had. O.got out.new ≡ Some (had ++ (flat_map part_text parts.now ++ 10 ∷ [])))) }
+    ensures never_falls { O.faults out.old ≤ O.faults out.new }
+    ensures failed { OnErr result (HasRisen (O.faults out.old) (O.faults out.new)) }
+{
+    write_parts(out, parts)?;
+    write_all(out, b"\n")
+}
+
+// Writes these parts, one after another.
+fn write_parts<O: Sink>(out: &mut O, parts: &[Part]) -> Result<(), OutputFault>
+    ensures front { IfSome (O.got out.old) (λ had. GotFront had (flat_map part_text parts.now) (O.got out.new)) }
+    ensures told { OnOk result (IfSome (O.got out.old) (λ had. O.got out.new ≡ Some (had ++ flat_map part_text parts.now))) }
+    ensures never_falls { O.faults out.old ≤ O.faults out.new }
+    ensures failed { OnErr result (HasRisen (O.faults out.old) (O.faults out.new)) }
+{
+    for part in parts {
+        write_part(out, *part)?;
+    }
+    Ok(())
+}
+
+// Writes the text of a part, and its number in decimal, where there is one.
+fn write_part<O: Sink>(out: &mut O, part: Part) -> Result<(), OutputFault>
+    ensures front { IfSome (O.got out.old) (λ had. GotFront had (part_text part) (O.got out.new)) }
+    ensures told { OnOk result (IfSome (O.got out.old) (λ had. O.got out.new ≡ Some (had ++ part_text part))) }
+    ensures never_falls { O.faults out.old ≤ O.faults out.new }
+    ensures failed { OnErr result (HasRisen (O.faults out.old) (O.faults out.new)) }
+{
+    let mut buffer = Buffer::new();
+    let number = digits(&mut buffer, part.number);
+    write_all(out, part.text.as_bytes())?;
+    write_all(out, number.as_bytes())
 }
 
 // The number in decimal, where there is one.
@@ -86,17 +114,4 @@ fn digits(buffer: &mut Buffer, number: Option<u64>) -> &str
         Some(number) => buffer.format(number),
         None => "",
     }
-}
-
-// Writes these texts, one after another.
-fn write_parts<O: Sink>(out: &mut O, parts: &[&str]) -> Result<(), OutputFault>
-    ensures front { IfSome (O.got out.old) (λ had. GotFront had (flat_map (λ part. part.now) parts.now) (O.got out.new)) }
-    ensures told { OnOk result (IfSome (O.got out.old) (λ had. O.got out.new ≡ Some (had ++ flat_map (λ part. part.now) parts.now))) }
-    ensures never_falls { O.faults out.old ≤ O.faults out.new }
-    ensures failed { OnErr result (HasRisen (O.faults out.old) (O.faults out.new)) }
-{
-    for part in parts {
-        write_all(out, part.as_bytes())?;
-    }
-    Ok(())
 }

@@ -19,7 +19,10 @@ pub fn run_program<R: Threads + Wait + Sync, F: Files, O: Sink, E: Sink>(
     files: &mut F,
     out: &mut O,
     err: &mut E,
-) -> u8 {
+) -> u8
+where
+    F::Input: Drop,
+{
     match with_functions(rt, alloc, command, files, out, err) {
         Ok(status) => status,
         Err(AllocError) => {
@@ -36,7 +39,10 @@ fn with_functions<R: Threads + Wait + Sync, F: Files, O: Sink, E: Sink>(
     files: &mut F,
     out: &mut O,
     err: &mut E,
-) -> Result<u8, AllocError> {
+) -> Result<u8, AllocError>
+where
+    F::Input: Drop,
+{
     let mut functions = FnTable::new(alloc);
     let f: StageFn = Box::new(
         alloc,

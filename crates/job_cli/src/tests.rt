@@ -1,17 +1,31 @@
 // Whole runs over files and outputs in memory.
 ghost use Rattle.std.specs.Prelude.{◌≡◌, ◌≤◌, IfOk};
 
+use crate::held_files::HeldFiles;
+use crate::one_thread::tally_on_one_thread;
+use crate::output::table_text;
 use crate::program::run_program;
+use crate::run::job_of_text;
 use crate::top::top;
 use flow_defs::{AggKind, Bytes, ListOf, StageKind, Word};
 use outside::{MemoryFile, MemoryFiles, MemorySink};
-use stage_fns::{AggFn, FnTable, StageFn, count, words};
+use stage_fns::{AggFn, FnTable, StageFn, count, keep, upper, words};
 use std::alloc::{AllocError, Global};
+use std::process::Abort;
 use std::sync::Wait;
+use std::sync::atomic::AtomicU64;
 use std::test::Fail;
 use std::thread::Threads;
 
 const COUNT: &str = "source in\naggregate count 1\n";
+
+// Two sources of pages, of which those that were got are counted by their names. It needs 42 segments.
+const PAGES: &str =
+    "source in\nsource in2\nstage keep:GET 2 rebalance\nstage field:2 2 hash\naggregate count 2\n";
+
+// The widest job, which needs 1,400 segments.
+const WIDEST: &str =
+    "source in\nsource in\nsource in\nsource in\nsource in\nsource in\nsource in\nsource in\nstage upper 8 rebalance\nstage upper 8 hash\nstage upper 8 rebalance\nstage upper 8 hash\nstage upper 8 rebalance\nstage upper 8 hash\naggregate count 8\n";
 
 // A file that gives at most so many bytes in a read, and whose read of this number fails, if it is not 0.
 fn file(
@@ -166,19 +180,175 @@ fn a_script_prints_the_replies_to_its_events(rt: HostRuntime) -> Result<(), Fail
     Ok(())
 }
 
+// A line that is longer than a segment goes in many.
 #[test]
 fn takes_lines_up_to_the_limit(rt: HostRuntime) -> Result<(), Fail> {
     let alloc = rt.alloc();
     let line = vec![in alloc; b'a'; 1_048_577]?;
-    for (source, status, got, told) in [
-        (&line[1..], 0, 1_048_579, ""),
-        (line.as_slice(), 10, 0, "source 0: line over 1048576\n"),
+    for (source, status, told) in [
+        (&line[1..], 0, ""),
+        (line.as_slice(), 10, "source 0: line over 1048576\n"),
     ] {
         let files = files(alloc, COUNT, source, "", 50_000, 0)?;
-        let left = left_by(&rt, alloc, "run job", files, 1_100_000, 100)?;
+        let left = left_by(&rt, alloc, "run job --segment 64", files, 1_100_000, 100)?;
+        let mut table = Bytes::new(alloc);
+        if status == 0 {
+            table.extend(source)?;
+            table.extend(b"\t1\n")?;
+        }
         assert_eq!(rt; left.status, status);
-        assert_eq!(rt; left.out.bytes().len(), got);
+        assert_eq!(rt; left.out.bytes(), table.as_slice());
         assert_eq!(rt; left.err.bytes(), told.as_bytes());
+    }
+    Ok(())
+}
+
+#[test]
+fn the_pool_is_compared_with_what_the_job_needs(rt: HostRuntime) -> Result<(), Fail> {
+    let alloc = rt.alloc();
+    let pages = "GET,/a,3\nPUT,/b,4\nGET,/a,5\n";
+    for (words, job, first, second, table, told) in [
+        (
+            "run job --pool 41",
+            PAGES,
+            pages,
+            "GET,/c,1\n",
+            "",
+            "pool has 41, needs 42\n",
+        ),
+        (
+            "run job --pool 42",
+            PAGES,
+            pages,
+            "GET,/c,1\n",
+            "/a\t2\n/c\t1\n",
+            "",
+        ),
+        (
+            "run job --pool 3",
+            COUNT,
+            "b\na\nb\n",
+            "",
+            "",
+            "pool has 3, needs 4\n",
+        ),
+        (
+            "run job --pool 4",
+            COUNT,
+            "b\na\nb\n",
+            "",
+            "a\t1\nb\t2\n",
+            "",
+        ),
+        (
+            "run job --pool 1399",
+            WIDEST,
+            "a\nb\n",
+            "",
+            "",
+            "pool has 1399, needs 1400\n",
+        ),
+        (
+            "run job --pool 1400 --segment 64",
+            WIDEST,
+            "a\nb\n",
+            "",
+            "A\t8\nB\t8\n",
+            "",
+        ),
+    ] {
+        let files = files(alloc, job, first.as_bytes(), second, 9, 0)?;
+        let left = left_by(&rt, alloc, words, files, 100, 100)?;
+        assert_eq!(rt;
+            left.status,
+            if told.is_empty() { 0 } else { 10 },
+            "{words}"
+        );
+        assert_eq!(rt; left.out.bytes(), table.as_bytes(), "{words}");
+        assert_eq!(rt; left.err.bytes(), told.as_bytes(), "{words}");
+    }
+    Ok(())
+}
+
+// Each source's first read waits for that of the other.
+#[test]
+fn two_tasks_overlap(rt: HostRuntime) -> Result<(), Fail> {
+    let alloc = rt.alloc();
+    let first = AtomicU64::new(0);
+    let second = AtomicU64::new(0);
+    let job = "source in\nsource in2\naggregate count 1\n";
+    let mut files = HeldFiles::new(job.as_bytes(), &first, &second);
+    let words = words_of(alloc, "run job")?;
+    let mut out = sink(alloc, 100)?;
+    let mut err = sink(alloc, 100)?;
+    let status = run_program(&rt, alloc, &words, &mut files, &mut out, &mut err);
+    assert_eq!(rt; status, 0);
+    assert_eq!(rt; out.bytes(), b"a\t1\nb\t1\n".as_slice());
+    assert_eq!(rt; err.bytes(), b"".as_slice());
+    Ok(())
+}
+
+// The program prints of a job over these two files what the plain one prints, which reads the sources one
+// after another.
+fn compare<R: Threads + Wait + Sync + Abort>(
+    rt: &R,
+    alloc: Global,
+    functions: &FnTable,
+    job: &str,
+    first: &str,
+    second: &str,
+) -> Result<(), Fail> {
+    let mut plain = files(alloc, job, first.as_bytes(), second, 5, 0)?;
+    let Ok(plan) = job_of_text(alloc, job.as_bytes(), functions) else {
+        return Err("no job".into());
+    };
+    let Ok(table) = tally_on_one_thread(alloc, &plan, functions, &mut plain) else {
+        return Err("no table".into());
+    };
+    let text = table_text(alloc, &table)?;
+    let files = files(alloc, job, first.as_bytes(), second, 5, 0)?;
+    let left = left_by(rt, alloc, "run job --segment 64", files, 1000, 100)?;
+    assert_eq!(rt; left.status, 0, "`{job}`");
+    assert_eq!(rt; left.out.bytes(), text.as_slice(), "`{job}`");
+    Ok(())
+}
+
+#[test]
+fn the_exchange_prints_what_one_thread_prints(rt: HostRuntime) -> Result<(), Fail> {
+    let alloc = rt.alloc();
+    let mut functions = FnTable::new(alloc);
+    let f: StageFn = Box::new(
+        alloc,
+        |alloc: Global, arg: &[u8], record: &[u8], list: &mut ListOf<Bytes>| {
+            words(alloc, arg, record, list)
+        },
+    )?;
+    functions.add_stage(StageKind::Words, f)?;
+    let f: StageFn = Box::new(
+        alloc,
+        |alloc: Global, arg: &[u8], record: &[u8], list: &mut ListOf<Bytes>| {
+            upper(alloc, arg, record, list)
+        },
+    )?;
+    functions.add_stage(StageKind::Upper, f)?;
+    let f: StageFn = Box::new(
+        alloc,
+        |alloc: Global, arg: &[u8], record: &[u8], list: &mut ListOf<Bytes>| {
+            keep(alloc, arg, record, list)
+        },
+    )?;
+    functions.add_stage(StageKind::Keep, f)?;
+    let f: AggFn = Box::new(alloc, |record: &[u8], old: u64| count(record, old))?;
+    functions.add_agg(AggKind::Count, f)?;
+    for job in [
+        COUNT,
+        WIDEST,
+        "source in\nsource in2\nsource in\nstage words 3 rebalance\nstage keep:a 3 forward\naggregate count 4\n",
+        "source in\nsource in2\nstage upper 2 forward\nstage words 8 hash\nstage words 1 rebalance\naggregate count 8\n",
+    ] {
+        for (first, second) in [("", "\n\n"), ("a b\nan a\n\nb a b", "at\nb\na b c d a\n")] {
+            compare(&rt, alloc, &functions, job, first, second)?;
+        }
     }
     Ok(())
 }
@@ -196,6 +366,14 @@ fn tells_each_fault_by_its_status_and_a_line(rt: HostRuntime) -> Result<(), Fail
         ("run -job", COUNT, 2, "usage: missing operand\n"),
         ("run job k", COUNT, 2, "usage: extra word\n"),
         ("run job --fast", COUNT, 2, "usage: unknown option\n"),
+        ("run job --pool 0", COUNT, 2, "usage: bad value\n"),
+        ("run job --pool", COUNT, 2, "usage: missing value\n"),
+        (
+            "run job --pool 4 --pool 4",
+            COUNT,
+            2,
+            "usage: option twice\n",
+        ),
         ("script", "", 2, "usage: missing operand\n"),
         ("script job", "", 3, "script line 1: bad line\n"),
         (

@@ -1,18 +1,19 @@
 // The program, over the world that it is handed.
 ghost use Rattle.std.specs.Prelude.{◌≡◌, ◌≢◌, ◌<◌, ◌⊎◌, List, ℕ, [], ◌∷◌, length, Contains};
-ghost use Rattle.flow_defs.specs.Jobs.{tasks};
+ghost use Rattle.flow_defs.specs.Jobs.{segments_needed, tasks};
 ghost use Rattle.flow_defs.specs.declared.job.Job.{Job};
 ghost use Rattle.outside.specs.Faults.{HasRisen};
 ghost use Rattle.stage_fns.specs.Kinds.{kinds};
 ghost use Rattle.job_plan.specs.Limits.{IsOverLimit};
-ghost use Rattle.job_cli.specs.Run.{NamesCommand, NamesJob, HasDone, HasDoneInPart, IsNoJob, IsTold, PassesLimit, TellsJob, TellsRun, AreWithinLimits};
+ghost use Rattle.job_text.specs.declared.words.RunOptions.{RunOptions};
+ghost use Rattle.job_cli.specs.Run.{NamesCommand, NamesJob, HasDone, HasDoneInPart, HasPool, IsNoJob, IsTold, PassesLimit, TellsJob, TellsRun, TellsSources, AreWithinLimits};
 ghost use Rattle.job_cli.specs.Scripts.{NamesScript, HasEnough, IsNoScript, IsScriptWith, PassesScriptLimit, TellsScript};
 ghost use Rattle.job_cli.specs.declared.run.TheConstants.{JOB_MAX};
 
 use crate::output::tell;
 use crate::run::run;
 use flow_defs::{ListOf, Word};
-use job_text::laws::job_texts_are_clear;
+use job_text::laws::{job_texts_are_clear, words_are_clear};
 use outside::{Files, Sink};
 use script_text::laws::script_texts_are_clear;
 use stage_fns::FnTable;
@@ -21,12 +22,15 @@ use std::sync::Wait;
 use std::thread::Threads;
 
 /// Does the command that the words are, and answers the status with which the program ends: 0 done,
-/// 2 the words are no command, 3 the text is no job's or no script's, 4 a fault of an input, 7 one of the
-/// output, 10 a limit is passed, 70 want of memory. With another status than 0, `err` gets one line
-/// that tells of the fault.
+/// 2 the words are no command, 3 the text is no job's or no script's, 4 a fault of an input, 6 one of a link,
+/// 7 one of the output, 10 a limit is passed, 11 more came on a channel than its credit allows, 12 another fault of
+/// a connection's other end, 70 want of memory. With another status than 0, `err` gets one line that tells of the
+/// fault.
 ///
-/// A run reads its sources one after another, in pieces of 64 KiB. Its memory grows with the keys, the
-/// longest line and what the stages give for it. A script is held whole, with all replies to it.
+/// A run does all tasks of its job at once, each in a thread of its own where threads can be made, and reads its
+/// sources at once, in pieces. The tasks are joined by links in memory. Its memory grows with the keys, the longest
+/// line and what the stages give for it, and with the pool of segments; the order in which tasks come to their turns
+/// changes nothing in what is printed. A script is held whole, with all replies to it.
 pub fn top<R: Threads + Wait + Sync, F: Files, O: Sink, E: Sink>(
     rt: &R,
     alloc: Global,
@@ -36,8 +40,10 @@ pub fn top<R: Threads + Wait + Sync, F: Files, O: Sink, E: Sink>(
     out: &mut O,
     err: &mut E,
 ) -> u8
-    // Status 0 comes only where all work was done: the output got the text of the tally, or the replies to
-    // all events of the script, and nothing else.
+where
+    F::Input: Drop,
+    // Status 0 comes only where all work was done: the pool was large enough, no source was over a limit, and the output got
+    // the text of the tally, or the replies to all events of the script, and nothing else.
     ensures done { result ≡ 0 → HasDone words.now.items (kinds functions.now) (F.contents files.old) (O.got out.old) (O.got out.new) }
 
     // Which status comes where the words are no command, the text is no job's or no script's, or a limit is passed.
@@ -45,18 +51,20 @@ pub fn top<R: Threads + Wait + Sync, F: Files, O: Sink, E: Sink>(
     ensures accepted { result ≢ 2 → NamesCommand words.now.items }
     ensures text { result ≡ 3 → NamesJob words.now.items (F.contents files.old) (IsNoJob (kinds functions.now))
         ⊎ NamesScript words.now.items (F.contents files.old) IsNoScript }
-    ensures text_refused { (text : List ℕ) → TellsJob words.now.items (F.contents files.old) text → IsNoJob (kinds functions.now) text →
-        Contains (3 ∷ 4 ∷ 70 ∷ []) result }
+    ensures text_refused { (options : RunOptions) (text : List ℕ) → TellsJob words.now.items (F.contents files.old) options text →
+        IsNoJob (kinds functions.now) text → Contains (3 ∷ 4 ∷ 70 ∷ []) result }
     ensures script_refused { (text : List ℕ) → TellsScript words.now.items (F.contents files.old) text → IsNoScript text →
         Contains (3 ∷ 4 ∷ 70 ∷ []) result }
     ensures limit { result ≡ 10 → PassesLimit words.now.items (kinds functions.now) (F.contents files.old)
         ⊎ NamesScript words.now.items (F.contents files.old) PassesScriptLimit }
-    ensures job_refused { (text : List ℕ) → TellsJob words.now.items (F.contents files.old) text → JOB_MAX < length text →
+    ensures job_refused { (options : RunOptions) (text : List ℕ) → TellsJob words.now.items (F.contents files.old) options text →
+        JOB_MAX < length text → Contains (10 ∷ 4 ∷ 70 ∷ []) result }
+    ensures pool_refused { (options : RunOptions) (job : Job) →
+        TellsRun words.now.items (kinds functions.now) (F.contents files.old) options job → options.pool < segments_needed job →
         Contains (10 ∷ 4 ∷ 70 ∷ []) result }
-    ensures source_refused { (job : Job) (bytes : ℕ → List ℕ) (a : ℕ) →
-        TellsRun words.now.items (kinds functions.now) (F.contents files.old) job bytes → a < tasks job 0 → IsOverLimit (bytes a) →
-        Contains (10 ∷ 4 ∷ 70 ∷ []) result }
-
+    ensures source_refused { (options : RunOptions) (job : Job) (bytes : ℕ → List ℕ) (a : ℕ) →
+        TellsRun words.now.items (kinds functions.now) (F.contents files.old) options job → TellsSources job (F.contents files.old) bytes →
+        a < tasks job 0 → IsOverLimit (bytes a) → Contains (10 ∷ 4 ∷ 6 ∷ 11 ∷ 12 ∷ 70 ∷ []) result }
     ensures over_refused { (text : List ℕ) → TellsScript words.now.items (F.contents files.old) text → PassesScriptLimit text →
         Contains (10 ∷ 4 ∷ 70 ∷ []) result }
 
@@ -64,15 +72,17 @@ pub fn top<R: Threads + Wait + Sync, F: Files, O: Sink, E: Sink>(
     ensures input { result ≡ 4 → HasRisen (F.faults files.old) (F.faults files.new) }
     ensures output { result ≡ 7 → HasRisen (O.faults out.old) (O.faults out.new) }
 
-    // Where the words and the texts are good, no limit is passed and no count rises, all work is done unless memory runs out.
-    ensures complete { (job : Job) (bytes : ℕ → List ℕ) →
-        TellsRun words.now.items (kinds functions.now) (F.contents files.old) job bytes → AreWithinLimits job bytes →
+    // Where the words and the texts are good, no limit is passed and no count rises, all work is done unless memory runs out. That no
+    // link and no other end of a connection has a fault is not said here.
+    ensures complete { (options : RunOptions) (job : Job) (bytes : ℕ → List ℕ) →
+        TellsRun words.now.items (kinds functions.now) (F.contents files.old) options job → TellsSources job (F.contents files.old) bytes →
+        HasPool options job → AreWithinLimits job bytes →
         (HasRisen (F.faults files.old) (F.faults files.new) → ⊥) → (HasRisen (O.faults out.old) (O.faults out.new) → ⊥) →
-        Contains (0 ∷ 70 ∷ []) result }
+        Contains (0 ∷ 6 ∷ 11 ∷ 12 ∷ 70 ∷ []) result }
     ensures complete_script { (text : List ℕ) → TellsScript words.now.items (F.contents files.old) text → IsScriptWith HasEnough text →
         (HasRisen (F.faults files.old) (F.faults files.new) → ⊥) → (HasRisen (O.faults out.old) (O.faults out.new) → ⊥) →
         Contains (0 ∷ 70 ∷ []) result }
-    ensures known { Contains (0 ∷ 2 ∷ 3 ∷ 4 ∷ 7 ∷ 10 ∷ 70 ∷ []) result }
+    ensures known { Contains (0 ∷ 2 ∷ 3 ∷ 4 ∷ 6 ∷ 7 ∷ 10 ∷ 11 ∷ 12 ∷ 70 ∷ []) result }
 
     // With another status than 0 and 7 the output got nothing, and with 7 a front of what status 0 writes.
     ensures silent { result ≢ 0 → result ≢ 7 → O.got out.new ≡ O.got out.old }
@@ -85,6 +95,7 @@ pub fn top<R: Threads + Wait + Sync, F: Files, O: Sink, E: Sink>(
     // Each input that was found is given back.
     ensures given_back { F.lent files.new ≡ F.lent files.old }
 {
+    words_are_clear();
     job_texts_are_clear();
     script_texts_are_clear();
     match run(rt, alloc, words, functions, files, out) {

@@ -10,17 +10,17 @@ use Rattle.job_cli.proofs.run.text_to_print.Goals as goal
 pub returns-in-Run-clause-done : goal.returns-in-Run-clause-done
 returns-in-Run-clause-done g c =
     let words = c.args.words.now.items in
-    let is_run : IsRun words c.text.result.now = subst (IsRun words) (sym c.text.ensures) (subst (IsCommand words) c.in-Run.is c.in_ok-command.ensures.command) in
+    let is_run : IsRun words c.text.result.now c.in-Run.options = subst (λ (name : List ℕ). IsRun words name c.in-Run.options) (sym c.text.ensures) (subst (IsCommand words) c.in-Run.is c.in_ok-command.ensures.command) in
     IfOk-weaker c.tally_text.result
-    (λ (text : Items ℕ). (ws : List (List ℕ)) → IsRun ws c.text.result.now → RunsTo ws (kinds c.args.functions.now) (g.F.Files.contents c.args.files.now) (λ tally. text.items ≡ tally))
+    (λ (text : Items ℕ). (ws : List (List ℕ)) → IsRun ws c.text.result.now c.in-Run.options → RunsTo ws (kinds c.args.functions.now) (g.F.Files.contents c.args.files.now) (λ tally. text.items ≡ tally))
     (λ (text : Items ℕ). Prints words (kinds c.args.functions.now) (g.F.Files.contents c.args.files.now) (λ all. text.items ≡ all))
     (λ text is. inl (is words is_run)) c.tally_text.ensures.done
 
 pub returns-in-Run-clause-fault : goal.returns-in-Run-clause-fault
 returns-in-Run-clause-fault g c =
     let words = c.args.words.now.items in
-    let is_run : IsRun words c.text.result.now = subst (IsRun words) (sym c.text.ensures) (subst (IsCommand words) c.in-Run.is c.in_ok-command.ensures.command) in
+    let is_run : IsRun words c.text.result.now c.in-Run.options = subst (λ (name : List ℕ). IsRun words name c.in-Run.options) (sym c.text.ensures) (subst (IsCommand words) c.in-Run.is c.in_ok-command.ensures.command) in
     IfErr-weaker c.tally_text.result
-    (λ (fault : Fault). (ws : List (List ℕ)) → IsRun ws c.text.result.now → IsFaultOf ws (kinds c.args.functions.now) (g.F.Files.contents c.args.files.now) fault)
+    (λ (fault : Fault). (ws : List (List ℕ)) → IsRun ws c.text.result.now c.in-Run.options → IsFaultOf ws (kinds c.args.functions.now) (g.F.Files.contents c.args.files.now) fault)
     (IsFaultOf words (kinds c.args.functions.now) (g.F.Files.contents c.args.files.now))
     (λ fault is. is words is_run) c.tally_text.ensures.fault

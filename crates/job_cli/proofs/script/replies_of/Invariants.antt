@@ -1,4 +1,4 @@
-use Rattle.std.proofs.Common.{◌≤◌, ◌*◌, reverse, length}
+use Rattle.std.proofs.Common.{reverse, length}
 use Rattle.job_cli.specs.Scripts.{printed_replies}
 use Rattle.job_cli.proofs.ScriptLemmas.{IsScripted}
 use Rattle.job_cli.proofs.script.replies_of.Given as goal

@@ -1,0 +1,104 @@
+-- From what is known of a run of the exchange to what is said of its job.
+use Rattle.std.proofs.Common.{◌≡◌, ℕ, ◌<◌, List, length, Option, Some, None, IfSome, subst, ◌∙◌, arith, inl, inr}
+use Rattle.std.specs.Prelude.{⊤}
+use Rattle.std.proofs.lemmas.Option.{slice_get_within}
+use Rattle.flow_defs.specs.declared.cause.Cause.{Cause}
+use Rattle.flow_defs.specs.declared.cause.Cause.TheVariants as causes
+use Rattle.flow_defs.specs.declared.job.Job.{Job}
+use Rattle.flow_defs.specs.Jobs.{tasks}
+use Rattle.flow_defs.specs.Lines.{lines}
+use Rattle.outside.specs.Faults.{HasRisen}
+use Rattle.job_plan.specs.declared.limits.TheConstants.{SOURCE_MAX}
+use Rattle.job_plan.specs.Limits.{HasLongLine}
+use Rattle.job_outcome.specs.Outcomes.{AreTold, IsRunCause, IsOfInput}
+use Rattle.job_cli.specs.Causes.{of_cause, status_of}
+use Rattle.job_text.specs.declared.words.RunOptions.{RunOptions}
+use Rattle.job_cli.specs.declared.fault.Fault.{Fault}
+use Rattle.job_cli.specs.declared.fault.Fault.TheVariants.{Usage, JobLine, ScriptLine, JobInput, ScriptInput, SourceInput, Output, LongJob, LongScript, LongLine, BigSource, TooFewSegments, Link, OverCredit, Peer, Memory}
+use Rattle.job_cli.specs.Run.{HasPool, TellsSources}
+use Rattle.job_cli.specs.TextFaults.{IsExchangeFault}
+use Rattle.job_cli.specs.Sources.{source_name, AreInputsOf, HasFaulty, IsRunFault}
+
+-- a count that was 0 and has risen is above 0
+above : (old new : ℕ) → old ≡ 0 → HasRisen old new → 0 < new
+above old new none risen = elim risen [ inl more ↦ omega (arith, none, more) | inr full ↦ omega (arith, full) ]
+
+whatever : (o : Option (List ℕ)) → IfSome o (λ bytes. ⊤)
+whatever None = tt
+whatever (Some bytes) = tt
+
+module _ {S : Type 0} (left : S → Option (List ℕ)) (faults : S → ℕ) (before after : List S) where
+  -- whatever the grounds of a link's fault
+  pub link_aside : (link : Type 0) (cause : Cause) → IsRunCause left faults before after link cause → IsRunCause left faults before after ⊤ cause
+  link_aside link causes.Done is = is
+  link_aside link causes.Stopped is = is
+  link_aside link (causes.Input a) is = is
+  link_aside link causes.Link is = tt
+  link_aside link (causes.LongLine a) is = is
+  link_aside link (causes.BigSource a) is = is
+  link_aside link (causes.OverCredit channel received announced) is = tt
+  link_aside link (causes.Peer fault) is = tt
+  link_aside link causes.Memory is = tt
+
+  module _ (job : Job) (contents : List ℕ → Option (List ℕ)) (told : AreInputsOf left faults job contents before) (many : length before ≡ tasks job 0) where
+    -- what the sources are told to be their inputs are
+    pub tells_inputs : (bytes : ℕ → List ℕ) → TellsSources job contents bytes → AreTold left before bytes
+    tells_inputs bytes tells = λ a input is. (told a input is).0 ∙ tells a (let inside = slice_get_within before a input is in omega (arith, many, inside))
+
+    is_source : (a : ℕ) (P : List ℕ → Type 0) → IsOfInput left faults before after a (λ o fell rose. IfSome o P) → (a < tasks job 0) × IfSome (contents (source_name job a)) P
+    is_source a P is = (let inside = slice_get_within before a is.old is.was in omega (arith, many, inside), subst (λ o. IfSome o P) (told a is.old is.was).0 is.holds)
+
+    -- the cause of a run is a fault of its job
+    pub fault_of_run : (cause : Cause) → IsRunCause left faults before after ⊤ cause → IsRunFault job contents (of_cause cause)
+    fault_of_run causes.Done is = absurd is
+    fault_of_run causes.Stopped is = absurd is
+    fault_of_run (causes.Input a) is = (let inside = slice_get_within before a is.old is.was in omega (arith, many, inside), whatever (contents (source_name job a)))
+    fault_of_run causes.Link is = tt
+    fault_of_run (causes.LongLine a) is = is_source a (λ bytes. HasLongLine (lines bytes)) is
+    fault_of_run (causes.BigSource a) is = is_source a (λ bytes. SOURCE_MAX < length bytes) is
+    fault_of_run (causes.OverCredit channel received announced) is = tt
+    fault_of_run (causes.Peer fault) is = tt
+    fault_of_run causes.Memory is = tt
+
+    -- with an input fault one of the inputs that come back has a fault
+    pub faulty_input : (cause : Cause) → IsRunCause left faults before after ⊤ cause → status_of (of_cause cause) ≡ 4 → HasFaulty faults after
+    faulty_input causes.Done is four = absurd is
+    faulty_input causes.Stopped is four = absurd is
+    faulty_input (causes.Input a) is four = (a, is.new, is.is, above (faults is.old) (faults is.new) (told a is.old is.was).1 is.holds)
+    faulty_input causes.Link is four = absurd (cc)
+    faulty_input (causes.LongLine a) is four = absurd (cc)
+    faulty_input (causes.BigSource a) is four = absurd (cc)
+    faulty_input (causes.OverCredit channel received announced) is four = absurd (cc)
+    faulty_input (causes.Peer fault) is four = absurd (cc)
+    faulty_input causes.Memory is four = absurd (cc)
+
+-- no cause has the status of an output fault
+pub no_output : (cause : Cause) → status_of (of_cause cause) ≡ 7 → ⊥
+no_output causes.Done seven = cc
+no_output causes.Stopped seven = cc
+no_output (causes.Input a) seven = cc
+no_output causes.Link seven = cc
+no_output (causes.LongLine a) seven = cc
+no_output (causes.BigSource a) seven = cc
+no_output (causes.OverCredit channel received announced) seven = cc
+no_output (causes.Peer fault) seven = cc
+no_output causes.Memory seven = cc
+
+-- a fault of a run is one of a run whose pool is large enough
+pub run_is_exchange : (options : RunOptions) (job : Job) (contents : List ℕ → Option (List ℕ)) (fault : Fault) → HasPool options job → IsRunFault job contents fault → IsExchangeFault options job contents fault
+run_is_exchange options job contents (SourceInput a) enough is = (enough, is)
+run_is_exchange options job contents (LongLine a) enough is = (enough, is)
+run_is_exchange options job contents (BigSource a) enough is = (enough, is)
+run_is_exchange options job contents Link enough is = (enough, is)
+run_is_exchange options job contents (OverCredit channel received announced) enough is = (enough, is)
+run_is_exchange options job contents (Peer peer) enough is = (enough, is)
+run_is_exchange options job contents Memory enough is = tt
+run_is_exchange options job contents (Usage kind) enough is = absurd is
+run_is_exchange options job contents (JobLine line kind) enough is = absurd is
+run_is_exchange options job contents JobInput enough is = absurd is
+run_is_exchange options job contents Output enough is = absurd is
+run_is_exchange options job contents LongJob enough is = absurd is
+run_is_exchange options job contents (ScriptLine line) enough is = absurd is
+run_is_exchange options job contents ScriptInput enough is = absurd is
+run_is_exchange options job contents LongScript enough is = absurd is
+run_is_exchange options job contents (TooFewSegments have need) enough is = absurd is

@@ -1,0 +1,168 @@
+// Runs a job through the exchange, over links in memory.
+ghost use Rattle.std.specs.Prelude.{◌≡◌, ◌⊎◌, ⊤, ℕ, ◌+◌, ◌≤◌, List, [], length, Option, IfOk, IfErr};
+ghost use Rattle.std.specs.List.{AllByRecursion};
+ghost use Rattle.flow_defs.specs.Items.{Items};
+ghost use Rattle.flow_defs.specs.Jobs.{IsJob, tasks};
+ghost use Rattle.flow_defs.specs.Lines.{lines};
+ghost use Rattle.flow_defs.specs.Stages.{IsToken};
+ghost use Rattle.plain_machine.specs.Worth.{tally};
+ghost use Rattle.outside.specs.Faults.{HasRisen};
+ghost use Rattle.segment_pool.specs.Stocks.{IsSize, IsTotal};
+ghost use Rattle.stage_fns.specs.Kinds.{kinds};
+ghost use Rattle.job_plan.specs.Plans.{CanRun};
+ghost use Rattle.job_outcome.specs.Outcomes.{AreTold, AreWithin, ComeBack, IsRunCause};
+ghost use Rattle.job_cli.specs.Causes.{of_cause, status_of};
+ghost use Rattle.job_cli.specs.Run.{AreWithinLimits, HasPool, TellsSources};
+ghost use Rattle.job_cli.specs.Sources.{HasFaulty, IsRunFault};
+ghost use Rattle.job_cli.specs.TextFaults.{IsExchangeFault};
+
+use crate::fault::Fault;
+use crate::inputs::{find_inputs, give_back};
+use flow_defs::{Cause, Job, ListOf, SOURCES_MAX, Table, needed};
+use job_run::run_job;
+use job_text::RunOptions;
+use outside::{Files, MemoryLinks, Source};
+use stage_fns::FnTable;
+use std::alloc::Global;
+use std::sync::Wait;
+use std::thread::Threads;
+
+/// The table of the job, whose tasks run at once and read its sources at once. The pool is compared with what the
+/// job needs before the first source is looked for. Each input that was found is given back, whatever comes.
+pub fn table_by_exchange<R: Threads + Wait + Sync, F: Files>(
+    rt: &R,
+    alloc: Global,
+    job: &Job,
+    options: RunOptions,
+    functions: &FnTable,
+    files: &mut F,
+) -> Result<Table, Fault>
+where
+    F::Input: Drop,
+    requires is_job { IsJob job.now × CanRun (kinds functions.now) job.now }
+    requires few { length job.now.sources.items ≤ 8 }
+    requires names { AllByRecursion (λ (file : Items ℕ). IsToken file.items) job.now.sources.items }
+    requires range { IsTotal options.pool × IsSize options.segment }
+    ensures enough { IfOk result (λ _. HasPool options job.now) }
+    ensures told { IfOk result (λ table. (bytes : ℕ → List ℕ) → TellsSources job.now (F.contents files.old) bytes →
+        AreWithinLimits job.now bytes × (table ≡ tally job.now (λ a. lines (bytes a)))) }
+    ensures fault { IfErr result (IsExchangeFault options job.now (F.contents files.old)) }
+    ensures input { IfErr result (λ fault. status_of fault ≡ 4 → HasRisen (F.faults files.old) (F.faults files.new)) }
+    ensures no_output { IfErr result (λ fault. status_of fault ≡ 7 → ⊥) }
+    ensures given_back { F.lent files.new ≡ F.lent files.old }
+{
+    check_pool(job, options)?;
+    let mut inputs = ListOf::new(alloc);
+    inputs.reserve(SOURCES_MAX)?;
+    let table = table_of_found(rt, alloc, job, options, functions, files, &mut inputs);
+    give_back(files, inputs);
+    table
+}
+
+// Compares the pool with what the job needs.
+fn check_pool(job: &Job, options: RunOptions) -> Result<(), Fault>
+    requires { IsJob job.now }
+    ensures enough { IfOk result (λ _. HasPool options job.now) }
+    ensures fault { IfErr result (λ fault. (contents : List ℕ → Option (List ℕ)) → IsExchangeFault options job.now contents fault) }
+    ensures limit { IfErr result (λ fault. status_of fault ≡ 10) }
+{
+    let have = options.pool;
+    let need = needed(job);
+    if have < need {
+        return Err(Fault::TooFewSegments { have, need });
+    }
+    Ok(())
+}
+
+// Finds the inputs, and runs the job over them. Those that were found are on the list.
+fn table_of_found<R: Threads + Wait + Sync, F: Files>(
+    rt: &R,
+    alloc: Global,
+    job: &Job,
+    options: RunOptions,
+    functions: &FnTable,
+    files: &mut F,
+    inputs: &mut ListOf<F::Input>,
+) -> Result<Table, Fault>
+where
+    F::Input: Drop,
+    requires is_job { IsJob job.now × CanRun (kinds functions.now) job.now }
+    requires few { length job.now.sources.items ≤ 8 }
+    requires names { AllByRecursion (λ (file : Items ℕ). IsToken file.items) job.now.sources.items }
+    requires range { IsTotal options.pool × IsSize options.segment }
+    requires enough { HasPool options job.now }
+    requires none { inputs.old.items ≡ [] }
+    requires room { 8 ≤ inputs.old.room }
+    ensures told { IfOk result (λ table. (bytes : ℕ → List ℕ) → TellsSources job.now (F.contents files.old) bytes →
+        AreWithinLimits job.now bytes × (table ≡ tally job.now (λ a. lines (bytes a)))) }
+    ensures fault { IfErr result (IsRunFault job.now (F.contents files.old)) }
+    ensures input { IfErr result (λ fault. status_of fault ≡ 4 → HasRisen (F.faults files.old) (F.faults files.new) ⊎ HasFaulty F.Input.faults inputs.new.items) }
+    ensures no_output { IfErr result (λ fault. status_of fault ≡ 7 → ⊥) }
+    ensures lent { F.lent files.new ≡ F.lent files.old + length inputs.new.items }
+    ensures never_falls { F.faults files.old ≤ F.faults files.new }
+{
+    find_inputs(alloc, job, files, inputs)?;
+    match table_of_inputs(rt, alloc, job, options, functions, inputs) {
+        Ok(table) => Ok(table),
+        Err(cause) => Err(fault_of(cause)),
+    }
+}
+
+// Runs the job over these inputs.
+fn table_of_inputs<R: Threads + Wait + Sync, S: Source + Send + Drop>(
+    rt: &R,
+    alloc: Global,
+    job: &Job,
+    options: RunOptions,
+    functions: &FnTable,
+    inputs: &mut ListOf<S>,
+) -> Result<Table, Cause>
+    requires is_job { IsJob job.now × CanRun (kinds functions.now) job.now }
+    requires range { IsTotal options.pool × IsSize options.segment }
+    requires enough { HasPool options job.now }
+    requires inputs { length inputs.old.items ≡ tasks job.now 0 }
+    ensures told { IfOk result (λ table. (bytes : ℕ → List ℕ) → AreTold S.left inputs.old.items bytes →
+        AreWithin job.now bytes × (table ≡ tally job.now (λ a. lines (bytes a)))) }
+    ensures cause { IfErr result (IsRunCause S.left S.faults inputs.old.items inputs.new.items ⊤) }
+    ensures inputs { ComeBack S.faults inputs.old.items inputs.new.items }
+{
+    let mut net = MemoryLinks::new(
+        alloc,
+        ListOf::new(alloc),
+        ListOf::new(alloc),
+        ListOf::new(alloc),
+    );
+    run_job(
+        rt,
+        alloc,
+        job,
+        functions,
+        options.pool,
+        options.segment,
+        inputs,
+        &mut net,
+    )
+}
+
+// The fault of a run whose workers ended so. One that has no table is neither done nor stopped.
+fn fault_of(cause: Cause) -> Fault
+    ensures { result ≡ of_cause cause }
+{
+    match cause {
+        Cause::Input { source } => Fault::SourceInput { source },
+        Cause::Link => Fault::Link,
+        Cause::LongLine { source } => Fault::LongLine { source },
+        Cause::BigSource { source } => Fault::BigSource { source },
+        Cause::OverCredit {
+            channel,
+            received,
+            announced,
+        } => Fault::OverCredit {
+            channel,
+            received,
+            announced,
+        },
+        Cause::Peer { fault } => Fault::Peer { fault },
+        Cause::Done | Cause::Stopped | Cause::Memory => Fault::Memory,
+    }
+}

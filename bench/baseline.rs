@@ -1,10 +1,19 @@
 // The same counts in plain Rust, over std alone: what the benchmark compares the program with.
-use std::collections::HashMap;
+use std::collections::hash_map::DefaultHasher;
+use std::collections::{BTreeMap, HashMap};
 use std::env;
 use std::fs::File;
+use std::hash::{Hash, Hasher};
 use std::io::{self, BufRead, BufReader, BufWriter, Write};
+use std::sync::mpsc::{Receiver, SyncSender, sync_channel};
+use std::thread;
 
-fn count(counts: &mut HashMap<Vec<u8>, u64>, record: &[u8]) {
+type Counts = HashMap<Vec<u8>, u64>;
+
+const BUFFER: usize = 32_768;
+const BUFFERS: usize = 10;
+
+fn count(counts: &mut Counts, record: &[u8]) {
     match counts.get_mut(record) {
         Some(count) => *count += 1,
         None => {
@@ -13,31 +22,115 @@ fn count(counts: &mut HashMap<Vec<u8>, u64>, record: &[u8]) {
     }
 }
 
-// `baseline lines FILE` counts lines, `baseline words FILE` the words between their spaces.
-fn main() -> io::Result<()> {
-    let mut args = env::args().skip(1);
-    let what = args.next().ok_or(io::ErrorKind::InvalidInput)?;
-    let path = args.next().ok_or(io::ErrorKind::InvalidInput)?;
+fn each_line(path: &str, mut done_with: impl FnMut(&[u8])) -> io::Result<()> {
     let mut reader = BufReader::with_capacity(65_536, File::open(path)?);
-    let mut counts = HashMap::new();
     let mut line = Vec::new();
     while reader.read_until(b'\n', &mut line)? > 0 {
         if line.last() == Some(&b'\n') {
             line.pop();
         }
-        if what == "words" {
-            for word in line.split(|byte| *byte == b' ').filter(|word| !word.is_empty()) {
-                count(&mut counts, word);
-            }
-        } else {
-            count(&mut counts, &line);
-        }
+        done_with(&line);
         line.clear();
     }
-    let mut rows: Vec<_> = counts.into_iter().collect();
-    rows.sort_unstable();
+    Ok(())
+}
+
+fn words(line: &[u8]) -> impl Iterator<Item = &[u8]> {
+    line.split(|byte| *byte == b' ').filter(|word| !word.is_empty())
+}
+
+// One end of several bounded channels that carry buffers of records, each behind its length.
+struct Writer {
+    channels: Vec<(SyncSender<Vec<u8>>, Vec<u8>)>,
+}
+
+impl Writer {
+    fn new(channels: Vec<SyncSender<Vec<u8>>>) -> Self {
+        let empty = || Vec::with_capacity(BUFFER);
+        Writer { channels: channels.into_iter().map(|channel| (channel, empty())).collect() }
+    }
+
+    fn write(&mut self, to: usize, record: &[u8]) {
+        let (channel, buffer) = &mut self.channels[to];
+        if buffer.len() + 4 + record.len() > BUFFER {
+            channel.send(std::mem::replace(buffer, Vec::with_capacity(BUFFER))).unwrap();
+        }
+        buffer.extend((record.len() as u32).to_be_bytes());
+        buffer.extend(record);
+    }
+
+    fn finish(self) {
+        for (channel, buffer) in self.channels {
+            channel.send(buffer).unwrap();
+        }
+    }
+}
+
+fn each_record(channel: &Receiver<Vec<u8>>, mut done_with: impl FnMut(&[u8])) {
+    for buffer in channel {
+        let mut rest = &buffer[..];
+        while let Some((len, behind)) = rest.split_first_chunk::<4>() {
+            let (record, next) = behind.split_at(u32::from_be_bytes(*len) as usize);
+            done_with(record);
+            rest = next;
+        }
+    }
+}
+
+fn task_of(word: &[u8], tasks: usize) -> usize {
+    let mut hasher = DefaultHasher::new();
+    word.hash(&mut hasher);
+    hasher.finish() as usize % tasks
+}
+
+// One source, two tasks that cut words, and two that count, each in a thread of its own.
+fn count_in_threads(path: &str) -> io::Result<Counts> {
+    let (line_ends, word_tasks): (Vec<_>, Vec<_>) = (0..2).map(|_| sync_channel(BUFFERS)).unzip();
+    let (word_ends, count_tasks): (Vec<_>, Vec<_>) = (0..2).map(|_| sync_channel(BUFFERS)).unzip();
+    thread::scope(|scope| {
+        for lines in word_tasks {
+            let mut writer = Writer::new(word_ends.clone());
+            scope.spawn(move || {
+                each_record(&lines, |line| words(line).for_each(|word| writer.write(task_of(word, 2), word)));
+                writer.finish();
+            });
+        }
+        drop(word_ends);
+        let counting: Vec<_> = count_tasks
+            .into_iter()
+            .map(|words| {
+                scope.spawn(move || {
+                    let mut counts = Counts::new();
+                    each_record(&words, |word| count(&mut counts, word));
+                    counts
+                })
+            })
+            .collect();
+        let mut writer = Writer::new(line_ends);
+        let mut next = 0;
+        each_line(path, |line| {
+            writer.write(next % 2, line);
+            next += 1;
+        })?;
+        writer.finish();
+        Ok(counting.into_iter().flat_map(|task| task.join().unwrap()).collect())
+    })
+}
+
+// `baseline lines FILE` counts lines, `baseline words FILE` the words between their spaces, and
+// `baseline exchange FILE` those words by five threads.
+fn main() -> io::Result<()> {
+    let mut args = env::args().skip(1);
+    let what = args.next().ok_or(io::ErrorKind::InvalidInput)?;
+    let path = args.next().ok_or(io::ErrorKind::InvalidInput)?;
+    let mut counts = Counts::new();
+    match what.as_str() {
+        "lines" => each_line(&path, |line| count(&mut counts, line))?,
+        "words" => each_line(&path, |line| words(line).for_each(|word| count(&mut counts, word)))?,
+        _ => counts = count_in_threads(&path)?,
+    }
     let mut out = BufWriter::new(io::stdout().lock());
-    for (key, count) in rows {
+    for (key, count) in counts.into_iter().collect::<BTreeMap<_, _>>() {
         out.write_all(&key)?;
         writeln!(out, "\t{count}")?;
     }

@@ -353,6 +353,11 @@ fn the_exchange_prints_what_one_thread_prints(rt: HostRuntime) -> Result<(), Fai
     Ok(())
 }
 
+// So many of the bytes, or all where they are fewer.
+fn front(bytes: &[u8], most: usize) -> &[u8] {
+    &bytes[..bytes.len().min(most)]
+}
+
 // Words that the program refuses, or whose job it does.
 #[test]
 fn tells_each_fault_by_its_status_and_a_line(rt: HostRuntime) -> Result<(), Fail> {
@@ -401,7 +406,7 @@ fn tells_each_fault_by_its_status_and_a_line(rt: HostRuntime) -> Result<(), Fail
             let left = left_by(&rt, alloc, text, files, 100, spare)?;
             assert_eq!(rt; left.status, status, "{told}");
             assert_eq!(rt; left.out.bytes(), b"".as_slice(), "{told}");
-            assert_eq!(rt; left.err.bytes(), &told.as_bytes()[..told.len().min(spare)]);
+            assert_eq!(rt; left.err.bytes(), front(told.as_bytes(), spare));
         }
     }
     Ok(())

@@ -1,0 +1,3 @@
+mod Aligning
+mod Counting
+mod Numbers

@@ -1,0 +1,12 @@
+//! Barrier alignment: when a task may snapshot, given the barriers that its channels have given so far.
+//!
+//! It stands on flow_defs, and the tasks stand on it. Contracts see an `Aligner` as an `Alignment`: how
+//! many checkpoints are closed, and of each channel whether it has given the barrier of the next one.
+#![tactic(auto)]
+
+mod aligner;
+pub mod laws;
+#[cfg(test)]
+mod tests;
+
+pub use aligner::{Action, Aligner};

@@ -1,0 +1,5 @@
+pub mod Lists
+pub mod Stretches
+pub mod Growing
+pub mod Told
+pub mod Example

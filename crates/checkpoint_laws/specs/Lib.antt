@@ -1,0 +1,6 @@
+pub mod Puts
+pub mod Chapters
+pub mod Collecting
+pub mod Runs
+pub mod Growing
+pub mod Theorems

@@ -1,0 +1,6 @@
+mod ListLemmas
+mod TaskPlaces
+mod SlotLemmas
+mod MadeImages
+mod Acknowledging
+mod FaultLemmas

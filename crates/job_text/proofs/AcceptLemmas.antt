@@ -44,21 +44,21 @@ digits_no_space (b ∷ word) is =
     let here = and_parts _ _ parts.0 in
     and_from _ _ (not_from_false _ (ne_eqb b 32 (λ space. let low = leb-true 48 b here.0 in omega (arith, low, space)))) (digits_no_space word parts.1)
 
-decimal_no_space : (n : ℕ) → 1 ≤ n → n ≤ 9999 → has_no_space (decimal n) ≡ true
+pub decimal_no_space : (n : ℕ) → 1 ≤ n → n ≤ 9999 → has_no_space (decimal n) ≡ true
 decimal_no_space n low high = let is = decimal_spelled 9999 n (lit< tt) low high in digits_no_space (decimal n) is.digits
 
-kind_no_space : (kind : StageKind) (arg : List ℕ) → IsArgument kind arg → has_no_space (kind_word kind arg) ≡ true
+pub kind_no_space : (kind : StageKind) (arg : List ℕ) → IsArgument kind arg → has_no_space (kind_word kind arg) ≡ true
 kind_no_space Words arg is = refl
 kind_no_space Upper arg is = refl
 kind_no_space Keep arg is = visible_no_space arg is.visible
 kind_no_space Field arg is = ap has_no_space is.1 ∙ decimal_no_space is.0 is.2 is.3
 
-exchange_no_space : (exchange : Exchange) → has_no_space (exchange_word exchange) ≡ true
+pub exchange_no_space : (exchange : Exchange) → has_no_space (exchange_word exchange) ≡ true
 exchange_no_space Hash = refl
 exchange_no_space Rebalance = refl
 exchange_no_space Forward = refl
 
-agg_no_space : (kind : AggKind) → has_no_space (agg_word kind) ≡ true
+pub agg_no_space : (kind : AggKind) → has_no_space (agg_word kind) ≡ true
 agg_no_space Count = refl
 
 -- the pieces of a line are its words

@@ -8,14 +8,14 @@ use Rattle.stage_fns.specs.Functions.{Functions}
 use Rattle.job_text.specs.JobText.{IsJobText, source_line, stage_line, aggregate_line}
 use Rattle.job_text.specs.Laws.{source_files}
 
-abbrev file_of : Items ℕ → List ℕ
+abbrev pub file_of : Items ℕ → List ℕ
 file_of file = file.items
 
-abbrev line_for : Items ℕ → List ℕ
+abbrev pub line_for : Items ℕ → List ℕ
 line_for file = source_line file.items
 
 -- the first line is no source's
-abbrev BeginsOtherwise : List (List ℕ) → Type 0
+abbrev pub BeginsOtherwise : List (List ℕ) → Type 0
 BeginsOtherwise [] = Unit
 BeginsOtherwise (line ∷ lines) = (file : List ℕ) → line ≡ source_line file → ⊥
 
@@ -25,20 +25,20 @@ no_stage stage file same = let second : 116 ≡ 111 = ap (λ l. get_or l 1 0) sa
 no_aggregate : (kind : AggKind) (n : ℕ) (file : List ℕ) → aggregate_line kind n ≡ source_line file → ⊥
 no_aggregate kind n file same = let first : 97 ≡ 115 = ap (λ l. get_or l 0 0) same in omega (arith, first)
 
-rest_begins : (stages : List Stage) (kind : AggKind) (n : ℕ) → BeginsOtherwise (map stage_line stages ++ aggregate_line kind n ∷ [])
+pub rest_begins : (stages : List Stage) (kind : AggKind) (n : ℕ) → BeginsOtherwise (map stage_line stages ++ aggregate_line kind n ∷ [])
 rest_begins [] kind n = no_aggregate kind n
 rest_begins (stage ∷ stages) kind n = no_stage stage
 
 same_file : (a b : List ℕ) → source_line a ≡ source_line b → a ≡ b
 same_file a b same = ap (drop 7) same
 
-head_is : {A : Type 0} (x y : A) (xs ys : List A) → x ∷ xs ≡ y ∷ ys → x ≡ y
+pub head_is : {A : Type 0} (x y : A) (xs ys : List A) → x ∷ xs ≡ y ∷ ys → x ≡ y
 head_is x y xs ys same = cc
 
-tail_is : {A : Type 0} (x y : A) (xs ys : List A) → x ∷ xs ≡ y ∷ ys → xs ≡ ys
+pub tail_is : {A : Type 0} (x y : A) (xs ys : List A) → x ∷ xs ≡ y ∷ ys → xs ≡ ys
 tail_is x y xs ys same = cc
 
-same_files : (files others : List (Items ℕ)) (rest more : List (List ℕ)) → BeginsOtherwise rest → BeginsOtherwise more
+pub same_files : (files others : List (Items ℕ)) (rest more : List (List ℕ)) → BeginsOtherwise rest → BeginsOtherwise more
     → map line_for files ++ rest ≡ map line_for others ++ more → map file_of files ≡ map file_of others
 same_files [] [] rest more first second same = refl
 same_files [] (o ∷ others) rest more first second same = absurd (subst BeginsOtherwise same first o.items refl)

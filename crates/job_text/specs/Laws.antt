@@ -1,6 +1,7 @@
 -- What holds of every text of a job, and of the words of every command.
 use Rattle.std.specs.Prelude.{◌≡◌, ℕ, List, map, None}
 use Rattle.flow_defs.specs.Items.{Items}
+use Rattle.flow_defs.specs.Jobs.{last_edge, tasks, exchange}
 use Rattle.flow_defs.specs.declared.job.Job.{Job}
 use Rattle.stage_fns.specs.Functions.{Functions}
 use Rattle.job_text.specs.JobText.{IsJobText}
@@ -22,6 +23,16 @@ abbrev pub JobTextNamesItsFiles : Type 0
 JobTextNamesItsFiles =
     (functions : Functions) (text : List ℕ) (job other : Job) → IsJobText functions text job → IsJobText functions text other →
     source_files job ≡ source_files other
+
+-- Two jobs have the same tasks and edges.
+pub record HaveSameTasks (job other : Job) : Type 0 where
+  pub edges : last_edge job ≡ last_edge other
+  pub widths : (i : ℕ) → tasks job i ≡ tasks other i
+  pub exchanges : (e : ℕ) → exchange job e ≡ exchange other e
+
+-- All jobs of a text have the same tasks and edges.
+abbrev pub JobTextSaysTasks : Type 0
+JobTextSaysTasks = (functions : Functions) (text : List ℕ) (job other : Job) → IsJobText functions text job → IsJobText functions text other → HaveSameTasks job other
 
 -- The words of a command have no fault.
 abbrev pub CommandHasNoFault : Type 0

@@ -7,6 +7,7 @@
 
 mod fault;
 mod job;
+mod known;
 pub mod laws;
 mod lines;
 mod options;
@@ -16,5 +17,5 @@ mod tests;
 mod words;
 
 pub use fault::{JobFault, JobReadFault};
-pub use job::read_job;
+pub use job::{read_grammar, read_job};
 pub use words::{Command, RunOptions, UsageKind, WordFault, read_words};

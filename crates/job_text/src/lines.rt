@@ -2,10 +2,10 @@
 ghost use Rattle.std.specs.Prelude.{◌≡◌, ◌<◌, ◌^◌, ◌+◌, ◌∷◌, Some, [], length, IfOk, IfErr, IfSome, IfNone, MatchResult};
 ghost use Rattle.flow_defs.specs.Lines.{lines};
 
+use crate::known::Known;
 use crate::spelling::{agg_of, cut_word, exchange_of, is, is_token, kind_of, number_of};
 use crate::{JobFault, JobReadFault};
 use flow_defs::{AggKind, Exchange, SOURCES_MAX, STAGES_MAX, StageKind, TASKS_MAX, cut_line};
-use stage_fns::FnTable;
 
 // A line of a job's text.
 #[derive(Clone, Copy)]
@@ -44,7 +44,7 @@ impl<'a> JobLines<'a> {
     ghost use Rattle.job_text.specs.Reading.{place_of, fault_left, IsTold, Takes, IsLine};
     ghost use Rattle.job_text.specs.JobText.{line_of};
     ghost use Rattle.stage_fns.specs.Functions.{Functions};
-    ghost use Rattle.stage_fns.specs.Kinds.{kinds};
+    ghost use Rattle.job_text.specs.KnownKinds.{known};
 
     // Stands before the first line of the text.
     pub fn of(text: &'a [u8]) -> Self
@@ -65,9 +65,9 @@ impl<'a> JobLines<'a> {
 
     // Takes the next line. The aggregate's is the last, and is a fault where another follows it; it is
     // not called again behind that one, nor behind a fault.
-    pub fn next(&mut self, functions: &FnTable) -> Result<Line<'a>, JobReadFault>
-        ensures ok { IfOk result (Takes (kinds functions.now) self.old self.new) }
-        ensures err { IfErr result (λ told. IsTold told (fault_left (kinds functions.now) self.old)) }
+    pub fn next(&mut self, functions: Known) -> Result<Line<'a>, JobReadFault>
+        ensures ok { IfOk result (Takes (known functions.entry) self.old self.new) }
+        ensures err { IfErr result (λ told. IsTold told (fault_left (known functions.entry) self.old)) }
     {
         let Some((text, rest)) = next_line(self.rest) else {
             return Err(JobReadFault::Line {
@@ -107,10 +107,10 @@ impl<'a> JobLines<'a> {
     }
 
     // Reads a line that stands next.
-    fn read<'t>(&self, line: &'t [u8], functions: &FnTable) -> Result<Line<'t>, JobFault>
+    fn read<'t>(&self, line: &'t [u8], functions: Known) -> Result<Line<'t>, JobFault>
         ensures { MatchResult result
-            (λ read. IsLine (kinds functions.now) (place_of self.now) read line.now)
-            (λ kind. line_fault (kinds functions.now) (place_of self.now) line.now ≡ Some kind) }
+            (λ read. IsLine (known functions.entry) (place_of self.now) read line.now)
+            (λ kind. line_fault (known functions.entry) (place_of self.now) line.now ≡ Some kind) }
     {
         let (first, rest) = cut_word(line);
         let Some(rest) = rest else {
@@ -152,18 +152,20 @@ impl<'a> JobLines<'a> {
         first: &[u8],
         kind: &[u8],
         tasks: &[u8],
-        functions: &FnTable,
+        functions: Known,
     ) -> Result<Line<'t>, JobFault>
-        ensures ok { IfOk result (λ line. IsLine (kinds functions.now) (place_of self.now) line
+        ensures ok { IfOk result (λ line. IsLine (known functions.entry) (place_of self.now) line
             (line_of (first.now ∷ kind.now ∷ tasks.now ∷ []))) }
-        ensures err { IfErr result (λ fault. aggregate_fault (kinds functions.now) (place_of self.now)
+        ensures err { IfErr result (λ fault. aggregate_fault (known functions.entry) (place_of self.now)
             first.now kind.now tasks.now ≡ Some fault) }
     {
         if !is(first, "aggregate") || self.sources == 0 {
             return Err(JobFault::BadLine);
         }
         let kind = agg_of(kind).ok_or(JobFault::UnknownKind)?;
-        functions.agg(kind).ok_or(JobFault::NoFunction)?;
+        if !functions.has_agg(kind) {
+            return Err(JobFault::NoFunction);
+        }
         let tasks = number_of(tasks, TASKS_MAX).ok_or(JobFault::BadNumber)?;
         Ok(Line::Aggregate { kind, tasks })
     }
@@ -175,11 +177,11 @@ impl<'a> JobLines<'a> {
         kind: &'t [u8],
         tasks: &[u8],
         exchange: &[u8],
-        functions: &FnTable,
+        functions: Known,
     ) -> Result<Line<'t>, JobFault>
-        ensures ok { IfOk result (λ line. IsLine (kinds functions.now) (place_of self.now) line
+        ensures ok { IfOk result (λ line. IsLine (known functions.entry) (place_of self.now) line
             (line_of (first.now ∷ kind.now ∷ tasks.now ∷ exchange.now ∷ []))) }
-        ensures err { IfErr result (λ fault. stage_fault (kinds functions.now) (place_of self.now)
+        ensures err { IfErr result (λ fault. stage_fault (known functions.entry) (place_of self.now)
             first.now kind.now tasks.now exchange.now ≡ Some fault) }
     {
         if !is(first, "stage") || self.sources == 0 {
@@ -189,7 +191,9 @@ impl<'a> JobLines<'a> {
             return Err(JobFault::TooMany);
         }
         let (kind, arg) = kind_of(kind).ok_or(JobFault::UnknownKind)?;
-        functions.stage(kind).ok_or(JobFault::NoFunction)?;
+        if !functions.has_stage(kind) {
+            return Err(JobFault::NoFunction);
+        }
         let tasks = number_of(tasks, TASKS_MAX).ok_or(JobFault::BadNumber)?;
         let exchange = exchange_of(exchange).ok_or(JobFault::BadExchange)?;
         if exchange == Exchange::Forward && tasks as usize != self.tasks {

@@ -1,7 +1,7 @@
 // Words and texts that are read, beside those that are refused, each with its first fault.
 ghost use Rattle.flow_defs.specs.Stages.{IsArgument};
 
-use crate::{Command, RunOptions, read_job, read_words};
+use crate::{Command, JobFault, JobReadFault, RunOptions, read_grammar, read_job, read_words};
 use flow_defs::{AggKind, Bytes, Exchange, ListOf, StageKind, Word};
 use stage_fns::{AggFn, FnTable, StageFn, count, field, keep, words};
 use std::alloc::{AllocError, Global};
@@ -664,5 +664,29 @@ fn a_job_is_read(rt: HostRuntime) -> Result<(), Fail> {
     assert_eq!(rt; job.agg, AggKind::Count);
     assert_eq!(rt; job.agg_tasks, 5);
     assert_eq!(rt; job.text.as_slice(), text);
+    Ok(())
+}
+
+#[test]
+fn a_grammar_needs_no_function(rt: HostRuntime) -> Result<(), Fail> {
+    let alloc = rt.alloc();
+    let text = b"source in\nstage upper 2 hash\naggregate count 1\n".as_slice();
+    let job = read_grammar(alloc, text)?;
+    let [stage] = job.stages.as_slice() else {
+        return Err(Fail::from("there is other than one stage"));
+    };
+    assert_eq!(rt; stage.kind, StageKind::Upper);
+    assert_eq!(rt; stage.tasks, 2);
+    assert_eq!(rt; job.text.as_slice(), text);
+    match read_grammar(alloc, b"source in\naggregate count 9\n") {
+        Err(fault) => assert_eq!(rt;
+            fault,
+            JobReadFault::Line {
+                line: 2,
+                kind: JobFault::BadNumber
+            }
+        ),
+        Ok(_) => Err("a stage has no nine tasks")?,
+    }
     Ok(())
 }

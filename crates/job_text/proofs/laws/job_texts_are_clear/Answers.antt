@@ -1,3 +1,4 @@
+use Rattle.job_text.proofs.TaskLemmas.{says_tasks}
 use Rattle.job_text.proofs.FileLemmas.{names_its_files}
 use Rattle.job_text.proofs.Law.{accepted}
 use Rattle.job_text.proofs.laws.job_texts_are_clear.Goals as goal
@@ -7,3 +8,6 @@ returns-clause-no_fault c = accepted
 
 pub returns-clause-files : goal.returns-clause-files
 returns-clause-files c = names_its_files
+
+pub returns-clause-tasks : goal.returns-clause-tasks
+returns-clause-tasks c = says_tasks

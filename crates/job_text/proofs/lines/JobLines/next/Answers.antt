@@ -1,6 +1,6 @@
 use Rattle.std.proofs.Common.{◌≡◌, ℕ, suc, ◌+◌, Some, length, ap, sym, ◌∙◌, subst, refl, arith}
 use Rattle.flow_defs.specs.Lines.{lines}
-use Rattle.stage_fns.specs.Kinds.{kinds}
+use Rattle.job_text.specs.KnownKinds.{known}
 use Rattle.std.proofs.lemmas.Bool.{eqb-true}
 use Rattle.job_text.specs.declared.lines.JobLines.{JobLines}
 use Rattle.job_text.specs.declared.lines.Line.{Line}
@@ -14,7 +14,7 @@ use Rattle.job_text.proofs.lines.JobLines.next.Goals.{in-Source, in-Stage, in-Ag
 
 pub returns-then-not-is_empty-clause-err : goal.returns-then-not-is_empty-clause-err
 returns-then-not-is_empty-clause-err g c =
-    let functions = kinds c.args.functions.now in
+    let functions = known c.args.functions in
     let old = c.args.self.now in
     let rest = c.in-Some.rest.now in
     let l = Aggregate c.in-Aggregate.kind c.in-Aggregate.tasks in
@@ -25,7 +25,7 @@ returns-then-not-is_empty-clause-err g c =
 
 pub returns-after-line-clause-ok : goal.returns-after-line-clause-ok
 returns-after-line-clause-ok g c =
-    let functions = kinds c.args.functions.now in
+    let functions = known c.args.functions in
     let old = c.args.self.now in
     let new = c.match-line.self in
     let text = c.in-Some.text.now in

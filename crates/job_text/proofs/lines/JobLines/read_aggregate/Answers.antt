@@ -2,7 +2,7 @@ use Rattle.std.proofs.Common.{◌≡◌, ◌<◌, true, rules, arith, Some}
 use Rattle.std.specs.Prelude.{codes, bytes_eq}
 use Rattle.flow_defs.specs.declared.job.TheConstants.{TASKS_MAX}
 use Rattle.stage_fns.specs.Functions.{HasAgg}
-use Rattle.stage_fns.specs.Kinds.{kinds}
+use Rattle.job_text.specs.KnownKinds.{known}
 use Rattle.job_text.specs.JobFaults.{agg_of, number_of}
 use Rattle.job_text.specs.Reading.{place_of}
 use Rattle.job_text.proofs.ReadLemmas.{aggregate_is}
@@ -10,7 +10,7 @@ use Rattle.job_text.proofs.lines.JobLines.read_aggregate.Goals as goal
 
 pub returns-clause-ok : goal.returns-clause-ok
 returns-clause-ok g c =
-    let functions = kinds c.args.functions.now in
+    let functions = known c.args.functions in
     let place = place_of c.args.self.now in
     let word : bytes_eq c.args.first.now (codes "aggregate") ≡ true = grind arith in
     let some : 0 < c.args.self.now.sources = omega arith in

@@ -8,7 +8,7 @@ use Rattle.flow_defs.specs.declared.job.TheConstants.{STAGES_MAX, TASKS_MAX}
 use Rattle.flow_defs.specs.contracts.job.Exchange.{the_type}
 use denote.Enum.Bare.{sameb}
 use Rattle.stage_fns.specs.Functions.{HasStage}
-use Rattle.stage_fns.specs.Kinds.{kinds}
+use Rattle.job_text.specs.KnownKinds.{known}
 use Rattle.job_text.specs.JobFaults.{kind_of, number_of, exchange_of}
 use Rattle.job_text.specs.Reading.{place_of}
 use Rattle.job_text.proofs.ReadLemmas.{stage_is}
@@ -18,7 +18,7 @@ use Rattle.job_text.proofs.lines.JobLines.read_stage.Goals.{else-eq-via-then-eq+
 pub returns-clause-ok : goal.returns-clause-ok
 returns-clause-ok g c =
     let place = place_of c.args.self.now in
-    let functions = kinds c.args.functions.now in
+    let functions = known c.args.functions in
     let k = c.in_ok-kind.kind in
     let arg = c.in_ok-kind.arg.now in
     let n = c.in_ok-tasks.tasks in

@@ -1,0 +1,33 @@
+-- What bytes have to be to spell an image. The format of images is this project's own.
+use Rattle.std.specs.Prelude.{ℕ, ◌≤◌, ◌^◌, nat_lt, ◌&&◌, Bool, length}
+use Rattle.std.specs.List.{list_all}
+use Rattle.std.specs.FinMap.{entries}
+use Rattle.flow_defs.specs.declared.job.Job.{Job}
+use Rattle.flow_defs.specs.declared.image.TakeRun.{TakeRun}
+use Rattle.flow_defs.specs.declared.image.Image.{Image}
+use Rattle.flow_defs.specs.Items.{Items}
+use Rattle.flow_defs.specs.Tables.{Values}
+use Rattle.job_text.specs.JobText.{IsJobText}
+use Rattle.job_text.specs.KnownKinds.{every_kind}
+use Rattle.plain_machine.specs.Images.{Fits}
+
+-- Whether a number goes into four bytes.
+abbrev pub is_count : ℕ → Bool
+is_count n = nat_lt n (2 ^ 32)
+
+-- Whether all numbers of keys and runs and all lengths of saved pieces do.
+abbrev pub has_counts : Image → Bool
+has_counts image =
+    list_all (λ (table : Values). is_count (length (entries table))) image.tables.items && list_all (λ (runs : Items TakeRun). is_count (length runs.items)) image.takes.items
+    && list_all (λ (piece : Items ℕ). is_count (length piece.items)) image.saved_in.items && list_all (λ (piece : Items ℕ). is_count (length piece.items)) image.saved_out.items
+
+-- The most bytes of a job's text in an image.
+abbrev pub TEXT_MOST : ℕ
+TEXT_MOST = 65536
+
+-- The image fits the job of its text, whose kinds need no functions.
+pub record FitsItsText (image : Image) : Type 0 where
+  pub job : Job
+  pub job_text : IsJobText every_kind image.text.items job
+  pub fits : Fits job image
+  pub short : length image.text.items ≤ TEXT_MOST

@@ -1,8 +1,11 @@
 pub mod Faults
+pub mod Keepers
+pub mod LastImages
 pub mod Links
 pub mod Stops
 pub mod Told
 pub mod Memory
 pub mod MemoryFiles
+pub mod MemoryKeepers
 pub mod Rings
 pub mod MemoryLinks

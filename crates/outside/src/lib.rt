@@ -1,7 +1,8 @@
 //! The world as the program sees it: files that are found by their names, sources that are read,
-//! sinks that are written to, and links between two workers. Each is a trait, with a form in memory,
-//! and but for links a real one. Beside them are the cell that stops all workers once one has met a
-//! fault, and the pauses of loops that wait.
+//! sinks that are written to, keepers of images, and links between two workers. Each is a trait, with a
+//! form in memory, and but for keepers and links a real one. Beside them are the cell that stops all
+//! workers once one has met a fault, the cell that tells them which image was stored last, and the
+//! pauses of loops that wait.
 //!
 //! It stands on flow_defs, turn_cell and the kit's circular_buffer and crossbeam_utils. Contracts see
 //! what a thing tells of its bytes, which is nothing where it is a real one, and its count of faults: a
@@ -10,12 +11,17 @@
 
 mod dir_files;
 mod files;
+mod keeper;
+#[cfg(test)]
+mod keeper_tests;
+mod last_image;
 #[cfg(test)]
 mod link_tests;
 mod link_turns;
 mod links;
 mod memory_files;
 mod memory_in;
+mod memory_keeper;
 mod memory_links;
 mod memory_out;
 mod memory_sink;
@@ -32,9 +38,12 @@ mod wires;
 
 pub use dir_files::{DirFiles, DirSource};
 pub use files::{Files, FindFault};
+pub use keeper::{KeepFault, Keeper, Kept};
+pub use last_image::{LastImage, Stored, collector_alone_stores, look_for_stored, tell_stored};
 pub use links::{LinkIn, LinkOut};
 pub use memory_files::{MemoryFile, MemoryFiles};
 pub use memory_in::MemoryIn;
+pub use memory_keeper::MemoryKeeper;
 pub use memory_links::MemoryLinks;
 pub use memory_out::MemoryOut;
 pub use memory_sink::MemorySink;

@@ -1,0 +1,158 @@
+// A keeper in memory at the calls that are to fail, and turns of the cell with the last image.
+ghost use Rattle.std.specs.Prelude.{◌≡◌, ◌<◌, ◌++◌, [], ◌∷◌, ℕ, length, IfOk};
+ghost use Rattle.turn_cell.specs.Passes.{IsPassOf, number};
+ghost use Rattle.outside.specs.Keepers.{IsAboveLast};
+
+use crate::tests::numbers;
+use crate::{
+    KeepFault, Keeper, Kept, LastImage, MemoryKeeper, Stored, look_for_stored, tell_stored,
+};
+use flow_defs::{Bytes, ListOf};
+use std::alloc::{AllocError, Global};
+use std::sync::Wait;
+use std::test::Fail;
+use turn_cell::{Pass, TurnCell};
+
+// A keeper of these two images, of which these calls fail.
+fn keeper_of_two(alloc: Global, lasts: &[u64], puts: &[u64]) -> Result<MemoryKeeper, AllocError> {
+    let mut images = ListOf::new(alloc);
+    images.push(Kept {
+        number: 3,
+        bytes: Bytes::of(alloc, b"ab")?,
+    })?;
+    images.push(Kept {
+        number: 7,
+        bytes: Bytes::of(alloc, b"cd")?,
+    })?;
+    Ok(MemoryKeeper::new(images, numbers(alloc, lasts)?, numbers(alloc, puts)?))
+}
+
+// Puts these bytes under the number behind the last one, whether or not the keeper tells its images.
+fn put_behind<K: Keeper>(alloc: Global, keeper: &mut K, bytes: &[u8]) -> Result<u64, KeepFault>
+    ensures { IfOk result (λ number. (more : ℕ) → number < more → IsAboveLast (K.images keeper.new) more) }
+{
+    let before = match keeper.last(alloc)? {
+        Some(kept) => kept.number,
+        None => 0,
+    };
+    let Some(number) = before.checked_add(1) else {
+        return Err(KeepFault::Failed);
+    };
+    keeper.put(alloc, number, bytes)?;
+    Ok(number)
+}
+
+// Puts these bytes twice, and looks for the last image only once.
+fn put_twice<K: Keeper>(alloc: Global, keeper: &mut K, bytes: &[u8]) -> Result<u64, KeepFault> {
+    let first = put_behind(alloc, keeper, bytes)?;
+    let Some(number) = first.checked_add(1) else {
+        return Err(KeepFault::Failed);
+    };
+    keeper.put(alloc, number, bytes)?;
+    Ok(number)
+}
+
+#[test]
+fn a_memory_keeper_fails_at_the_calls_that_are_told(rt: HostRuntime) -> Result<(), Fail> {
+    let alloc = rt.alloc();
+    let mut keeper = keeper_of_two(alloc, &[2], &[1, 3])?;
+    for (put, kept) in [
+        (Err(KeepFault::Failed), 2),
+        (Err(KeepFault::Failed), 2),
+        (Ok(8), 3),
+        (Err(KeepFault::Failed), 3),
+        (Ok(9), 4),
+    ] {
+        assert_eq!(rt; put_behind(alloc, &mut keeper, b"ef"), put);
+        assert_eq!(rt; keeper.images().len(), kept);
+    }
+    Ok(())
+}
+
+#[test]
+fn a_memory_keeper_gives_its_last_image(rt: HostRuntime) -> Result<(), Fail> {
+    let alloc = rt.alloc();
+    let mut keeper = keeper_of_two(alloc, &[], &[])?;
+    for (number, text) in [(7, "cd"), (9, "ef"), (11, "ef")] {
+        match keeper.last(alloc) {
+            Ok(Some(kept)) => {
+                assert_eq!(rt; kept.number, number);
+                assert_eq!(rt; kept.bytes.as_slice(), text.as_bytes());
+            }
+            _ => Err("an image is kept")?,
+        }
+        assert_eq!(rt; put_twice(alloc, &mut keeper, b"ef"), Ok(number + 2));
+    }
+    Ok(())
+}
+
+#[test]
+fn an_empty_memory_keeper_gives_none(rt: HostRuntime) -> Result<(), Fail> {
+    let alloc = rt.alloc();
+    let mut keeper = MemoryKeeper::new(
+        ListOf::new(alloc),
+        numbers(alloc, &[])?,
+        numbers(alloc, &[])?,
+    );
+    assert!(rt; matches!(keeper.last(alloc), Ok(None)));
+    assert_eq!(rt; put_behind(alloc, &mut keeper, b""), Ok(1));
+    assert_eq!(rt; keeper.images().len(), 1);
+    Ok(())
+}
+
+// Takes the last of these passes.
+fn deal(passes: &mut ListOf<Pass<LastImage>>) -> Pass<LastImage>
+    requires { 0 < length passes.old.items }
+    ensures { passes.old.items ≡ passes.new.items ++ result ∷ [] }
+{
+    passes.pop().unwrap()
+}
+
+// The cell, the pass of the collecting worker, and that of another worker.
+#[derive(Drop)]
+struct Workers {
+    cell: TurnCell<LastImage>,
+    collecting: Pass<LastImage>,
+    reading: Pass<LastImage>,
+    ghost own: { IsPassOf cell collecting × IsPassOf cell reading },
+    ghost collector: { number collecting ≡ 0 },
+}
+
+fn new_workers(alloc: Global) -> Result<Workers, AllocError> {
+    let Ok((cell, mut passes)) = TurnCell::new(alloc, LastImage::new(), 2) else {
+        return Err(AllocError);
+    };
+    let reading = deal(&mut passes);
+    let collecting = deal(&mut passes);
+    Ok(Workers {
+        cell,
+        collecting,
+        reading,
+    })
+}
+
+// What the other worker sees before and after this image is stored.
+fn look_twice<R: Wait>(
+    rt: &R,
+    workers: &mut Workers,
+    stored: Stored,
+) -> (Option<Stored>, Option<Stored>) {
+    let before = look_for_stored(rt, &workers.cell, &mut workers.reading);
+    tell_stored(rt, &workers.cell, &mut workers.collecting, stored);
+    let after = look_for_stored(rt, &workers.cell, &mut workers.reading);
+    (before, after)
+}
+
+#[test]
+fn workers_see_the_last_stored_image(rt: HostRuntime) -> Result<(), Fail> {
+    let alloc = rt.alloc();
+    let mut workers = new_workers(alloc)?;
+    let mut last = None;
+    for (number, all_ended) in [(1, false), (2, false), (3, true)] {
+        let stored = Stored { number, all_ended };
+        let seen = look_twice(&rt, &mut workers, stored);
+        assert_eq!(rt; seen, (last, Some(stored)));
+        last = Some(stored);
+    }
+    Ok(())
+}

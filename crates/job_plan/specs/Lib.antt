@@ -2,3 +2,4 @@ pub mod Limits
 pub mod Plans
 pub mod Entries
 pub mod Begun
+pub mod Joins

@@ -1,39 +1,27 @@
 // The tables of the aggregate's tasks, joined.
-ghost use Rattle.std.specs.Prelude.{◌≡◌, length, suc, IfErr, IfOk, OnOk};
+ghost use Rattle.std.specs.Prelude.{◌≡◌, ◌++◌, length, suc, IfErr, IfOk, OnOk};
 ghost use Rattle.std.specs.FinMap as map;
 ghost use Rattle.flow_defs.specs.declared.cause.Cause.TheVariants.{Done};
 ghost use Rattle.flow_defs.specs.Jobs.{IsJob, last_edge};
-ghost use Rattle.flow_defs.specs.Rows.{row_pairs};
-ghost use Rattle.flow_defs.specs.Tables.{add_values, join};
+ghost use Rattle.flow_defs.specs.Tables.{join};
+ghost use Rattle.job_plan.specs.Joins.{lent_pairs};
 ghost use Rattle.job_outcome.specs.Theorems.{table_in, tables_in};
 ghost use Rattle.job_run.specs.Runs.{IsFaultOf, IsJoined};
 
-use flow_defs::{AggKind, Cause, Job, Row, Table, fold_value};
+use flow_defs::{AggKind, Cause, Job, Row, Table};
+use job_plan::{fold_rows, lend_rows};
 use job_workers::{Place, TaskPlace, TaskRow};
 use std::alloc::{AllocError, Global};
 
-// Adds the rows of a table to another one.
-fn add_rows(agg: AggKind, rows: &[Row], table: &mut Table) -> Result<(), AllocError>
-    ensures { OnOk result (table.new ≡ add_values agg table.old (row_pairs rows.now)) }
-{
-    for row in rows {
-        let key = row.key.as_slice();
-        let old = table.get(key).unwrap_or(0);
-        table.set(key, fold_value(agg, old, row.value))?;
-    }
-    Ok(())
-}
-
-// Adds what stands in a place to a table.
-fn add_place<'a, 'p, S>(
-    agg: AggKind,
-    place: &TaskPlace<'a, 'p, S>,
-    table: &mut Table,
+// Lends the rows of what stands in a place.
+fn lend_place<'r, 'a, 'p, S>(
+    place: &'r TaskPlace<'a, 'p, S>,
+    rows: &mut Vec<&'r Row>,
 ) -> Result<(), AllocError>
-    ensures { OnOk result (table.new ≡ add_values agg table.old (map.entries (table_in place.now))) }
+    ensures { OnOk result (lent_pairs rows.new.items ≡ lent_pairs rows.old.items ++ map.entries (table_in place.now)) }
 {
     match place {
-        Place::Ended(left) => add_rows(agg, left.table.rows(), table),
+        Place::Ended(left) => lend_rows(left.table.rows(), rows),
         Place::Todo(_) => Ok(()),
         Place::Vacant => Ok(()),
     }
@@ -47,11 +35,11 @@ fn join_row<'a, 'p, S>(
 ) -> Result<Table, AllocError>
     ensures { IfOk result (λ table. table ≡ join agg (tables_in row.now)) }
 {
-    let mut table = Table::new(alloc);
+    let mut rows = Vec::new(alloc);
     for place in row {
-        add_place(agg, place, &mut table)?;
+        lend_place(place, &mut rows)?;
     }
-    Ok(table)
+    fold_rows(alloc, agg, rows.as_mut_slice())
 }
 
 /// What a run answers whose workers ended with this cause: where they are done, the tables of the last row,

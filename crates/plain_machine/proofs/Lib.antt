@@ -6,6 +6,7 @@ pub mod Channels
 pub mod Reach
 pub mod Edges
 pub mod WorthLemmas
+pub mod AnyOrder
 pub mod PlaceLemmas
 pub mod StageLemmas
 pub mod SpanLemmas

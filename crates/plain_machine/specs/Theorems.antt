@@ -10,7 +10,8 @@ use Rattle.flow_defs.specs.Aggregates.{folded}
 use Rattle.flow_defs.specs.Records.{all_encoded, spans, IsShort, IsSpans}
 use Rattle.flow_defs.specs.Stages.{apply}
 use Rattle.flow_defs.specs.Jobs.{last_edge, tasks, is_channel, edge_width, sum_below, IsJob}
-use Rattle.flow_defs.specs.Tables.{Values, add_all, join, table_of}
+use Rattle.std.specs.List.Sorted.{IsPermutation}
+use Rattle.flow_defs.specs.Tables.{add_values, Values, add_all, join, table_of}
 use Rattle.plain_machine.specs.Cuts.{Cut, start, SameCut}
 use Rattle.plain_machine.specs.Emitting.{count_after, emit}
 use Rattle.plain_machine.specs.Weaving.{woven, rests, CanWeave}
@@ -89,6 +90,12 @@ abbrev pub AddedInParts : Type 0
 AddedInParts =
     (agg : AggKind) (table : Values) (first second : List (List ℕ)) →
     add_all agg table (first ++ second) ≡ add_all agg (add_all agg table first) second
+
+-- Values of keys may be added in any order.
+abbrev pub AddedInAnyOrder : Type 0
+AddedInAnyOrder =
+    (agg : AggKind) (table : Values) (rows others : List (List ℕ × ℕ)) → IsPermutation rows others →
+    add_values agg table others ≡ add_values agg table rows
 
 -- A successor keeps the worth. For this it is enough that no source goes back.
 abbrev pub SuccessorKeepsWorth : Type 0

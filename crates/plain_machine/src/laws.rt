@@ -12,6 +12,7 @@ ghost use Rattle.plain_machine.specs.Theorems.{
   EmittedAreShort,
   TallyThroughStages,
   AddedInParts,
+  AddedInAnyOrder,
   SuccessorKeepsWorth,
   StartIsWorthTally,
   SameCutSameWorth,
@@ -60,10 +61,12 @@ pub fn emits_in_parts()
     ensures short { EmittedAreShort }
 {}
 
-/// The tally is that of one pass through all stages, and its table may be filled in parts.
+/// The tally is that of one pass through all stages, and its table may be filled in parts, and
+/// with values in any order.
 pub fn tally_in_parts()
     ensures stages { TallyThroughStages }
     ensures added { AddedInParts }
+    ensures any_order { AddedInAnyOrder }
 {}
 
 /// A successor is worth what the cut before it is, and the start is worth the tally of all lines.

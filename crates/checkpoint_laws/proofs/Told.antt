@@ -1,6 +1,7 @@
 -- From what the workers of a run say to the chain of its images.
 use Rattle.std.proofs.Common.{◌≡◌, ℕ, zero, suc, ◌+◌, ◌<◌, ◌≤◌, ◌&&◌, Bool, true, false, cond, eqb, leb, ltb, List, [], ◌∷◌, ◌++◌, map, length, get_or, take, Option, Some, None, refl, sym, ap, subst, ◌∙◌, arith, append-nil}
-use Rattle.std.specs.Prelude.{All, replicate, flat_map, slice_index, slice_get, slice_range, unwrap_or}
+use Rattle.std.specs.Prelude.{◌==◌, if◌then◌else◌, All, replicate, flat_map, slice_index, slice_get, slice_range, unwrap_or}
+use Rattle.std.specs.Option.{option_map_or}
 use Rattle.std.specs.List.{AllByRecursion}
 use Rattle.std.specs.FinMap.{empty, entries, insert, entries-insert}
 use Rattle.std.specs.declared.cmp.Ordering.TheVariants.{Less, Equal, Greater}
@@ -12,11 +13,11 @@ use Rattle.std.proofs.lemmas.List.Elements.{All-get_or, All-from_get_or, All-fro
 use Rattle.flow_defs.specs.declared.parcel.Parcel.{Parcel}
 use Rattle.flow_defs.specs.declared.job.Job.{Job}
 use Rattle.flow_defs.specs.declared.job.AggKind.{AggKind}
-use Rattle.flow_defs.specs.declared.job.AggKind.TheVariants.{Count}
+use Rattle.flow_defs.specs.declared.job.AggKind.TheVariants.{Count, Sum, Max}
 use Rattle.flow_defs.specs.declared.image.TakeRun.{TakeRun}
 use Rattle.flow_defs.specs.declared.image.Snapshot.{Snapshot}
 use Rattle.flow_defs.specs.declared.image.Image.{Image}
-use Rattle.flow_defs.specs.Aggregates.{key_of}
+use Rattle.flow_defs.specs.Aggregates.{parted, key_of}
 use Rattle.flow_defs.specs.Records.{IsShort, encoded, all_encoded}
 use Rattle.flow_defs.specs.Jobs.{last_edge, tasks, exchange, joins, is_channel}
 use Rattle.flow_defs.specs.Tables.{Values, key_cmp, add, add_all}
@@ -127,8 +128,27 @@ insert_short table key value short keys =
     subst (All HasShortKey) (sym (entries-insert nat_list_cmp_total table key value))
     (All-from_recursion HasShortKey _ (put_short key value (entries table) short (recursion_from_All HasShortKey (entries table) keys)))
 
+-- A key is no longer than its record.
+key_length : (r : List ℕ) → option_map_or (λ (parts : List ℕ × List ℕ). length parts.0) (parted r) 0 ≤ length r
+key_length [] = omega arith
+key_length (b ∷ r) = elim (parted r) as (λ p. option_map_or (λ (parts : List ℕ × List ℕ). length parts.0) p 0 ≤ length r → option_map_or (λ (parts : List ℕ × List ℕ). length parts.0) (option_map_or (λ (parts : List ℕ × List ℕ). Some (b ∷ parts.0, parts.1)) p (if b == 61 then Some ([], r) else None)) 0 ≤ suc (length r)) [
+  | Some parts ↦ λ rest. omega (arith, rest)
+  | None ↦ λ rest. elim (b == 61) as (λ t. option_map_or (λ (parts : List ℕ × List ℕ). length parts.0) (if t then Some ([], r) else None) 0 ≤ suc (length r)) [
+    | true ↦ omega arith
+    | false ↦ omega arith
+  ]
+] (key_length r)
+
+parted_short : (r : List ℕ) → IsShort r → IsShort (option_map_or (λ parts. parts.0) (parted r) r)
+parted_short r short = elim (parted r) as (λ p. option_map_or (λ (parts : List ℕ × List ℕ). length parts.0) p 0 ≤ length r → IsShort (option_map_or (λ (parts : List ℕ × List ℕ). parts.0) p r)) [
+  | Some parts ↦ λ within. omega (arith, within, short)
+  | None ↦ λ within. short
+] (key_length r)
+
 key_short : (agg : AggKind) (r : List ℕ) → IsShort r → IsShort (key_of agg r)
 key_short Count r short = short
+key_short Sum r short = parted_short r short
+key_short Max r short = parted_short r short
 
 added_short : (agg : AggKind) (table : Values) (rs : List (List ℕ)) → HasShortKeys table → AllByRecursion IsShort rs → HasShortKeys (add_all agg table rs)
 added_short agg table [] keys short = keys

@@ -4,3 +4,4 @@ mod SlotLemmas
 mod MadeImages
 mod Acknowledging
 mod FaultLemmas
+mod CountingJob

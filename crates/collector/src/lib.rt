@@ -12,6 +12,9 @@ mod filling;
 pub mod laws;
 mod lists;
 mod places;
+#[cfg(test)]
+mod tests;
 
 pub use collector::{Checkpoint, Collector};
 pub use fault::find_fault;
+pub use places::{place_of, task_place};

@@ -48,6 +48,10 @@ impl LinkOut for SlowOut {
 
     ghost faults = { λ s. s.faults };
 
+    ghost never_fails = { λ _. ⊥ };
+
+    ghost is_faultless = { λ old new never. absurd never };
+
     fn write<R: Wait>(&mut self, _rt: &R, bytes: &[u8]) -> Result<usize, Failed> {
         self.writes = self.writes.saturating_add(1);
         let count = bytes.len().min(self.most);

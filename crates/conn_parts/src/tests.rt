@@ -1,5 +1,5 @@
 // Bytes that are written and read back over a link in memory, and segments that are asked for and given.
-ghost use Rattle.std.specs.Prelude.{◌≡◌, ◌<◌, ◌≤◌, ◌++◌, [], ◌∷◌, length, take, Some, false};
+ghost use Rattle.std.specs.Prelude.{◌≡◌, ◌<◌, ◌≤◌, ◌++◌, [], ◌∷◌, ⊤, length, take, Some, false, refl};
 ghost use Rattle.turn_cell.specs.Passes.{IsPassOf, opened_with};
 ghost use Rattle.segment_pool.specs.Passes.{out};
 ghost use Rattle.segment_pool.specs.Pools as pools;
@@ -41,6 +41,10 @@ impl LinkOut for SlowOut {
 
     ghost faults = { λ s. s.faults };
 
+    ghost never_fails = { λ _. ⊥ };
+
+    ghost is_faultless = { λ old new never. absurd never };
+
     fn write<R: Wait>(&mut self, _rt: &R, bytes: &[u8]) -> Result<usize, Failed> {
         self.writes = self.writes.saturating_add(1);
         let count = bytes.len().min(self.most);
@@ -77,6 +81,10 @@ impl LinkIn for SlowIn {
     ghost ended = { λ s. Some s.ended };
 
     ghost faults = { λ _. 0 };
+
+    ghost never_fails = { λ _. ⊤ };
+
+    ghost is_faultless = { λ old new never same. refl };
 
     fn read<R: Wait>(&mut self, _rt: &R, room: &mut [u8]) -> Result<usize, Failed> {
         let left = &self.bytes.as_slice()[self.at..];

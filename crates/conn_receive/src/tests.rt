@@ -54,6 +54,10 @@ impl LinkIn for SlowIn {
 
     ghost faults = { λ s. s.faults };
 
+    ghost never_fails = { λ _. ⊥ };
+
+    ghost is_faultless = { λ old new never. absurd never };
+
     fn read<R: Wait>(&mut self, _rt: &R, room: &mut [u8]) -> Result<usize, Failed> {
         self.reads = self.reads.saturating_add(1);
         if self.reads >= self.fails_from {

@@ -56,6 +56,10 @@ impl LinkOut for FaultyOut {
 
     ghost faults = { λ s. s.faults };
 
+    ghost never_fails = { λ _. ⊥ };
+
+    ghost is_faultless = { λ old new never. absurd never };
+
     fn write<R: Wait>(&mut self, _rt: &R, bytes: &[u8]) -> Result<usize, Failed> {
         self.writes = self.writes.saturating_add(1);
         let fails = self.writes >= self.fails_from;

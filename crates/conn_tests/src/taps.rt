@@ -1,5 +1,6 @@
 // Ends of links in memory that take or give at most so many bytes a call, and keep what was written.
 ghost use Rattle.std.specs.Prelude.{◌≡◌, ◌<◌, ◌≤◌, length, Some};
+ghost use Rattle.outside.specs.MemoryLinks.{in_faults, out_faults};
 
 use flow_defs::ListOf;
 use outside::{Failed, LinkIn, LinkOut, MemoryIn, MemoryOut};
@@ -23,7 +24,11 @@ impl LinkOut for TapOut {
 
     ghost finished = { λ s. Some s.inner.finished };
 
-    ghost faults = { λ s. s.inner.faults };
+    ghost faults = { λ s. out_faults s.inner };
+
+    ghost never_fails = { λ _. ⊥ };
+
+    ghost is_faultless = { λ old new never. absurd never };
 
     fn write<R: Wait>(&mut self, rt: &R, bytes: &[u8]) -> Result<usize, Failed> {
         let piece = &bytes[..bytes.len().min(self.most)];
@@ -55,7 +60,11 @@ impl LinkIn for TapIn {
 
     ghost ended = { λ s. Some s.inner.ended };
 
-    ghost faults = { λ s. s.inner.faults };
+    ghost faults = { λ s. in_faults s.inner };
+
+    ghost never_fails = { λ _. ⊥ };
+
+    ghost is_faultless = { λ old new never. absurd never };
 
     fn read<R: Wait>(&mut self, rt: &R, room: &mut [u8]) -> Result<usize, Failed> {
         let most = room.len().min(self.most);

@@ -6,7 +6,8 @@ use Rattle.std.specs.FinMap.{entries, empty, len-entries, len-empty, entries-ins
 use Rattle.std.proofs.lemmas.Cmp.{nat_list_cmp_total}
 use Rattle.flow_defs.specs.Lines.{lines}
 use Rattle.flow_defs.specs.Records.{length_bytes, all_encoded}
-use Rattle.flow_defs.specs.declared.job.AggKind.TheVariants.{Count}
+use Rattle.flow_defs.specs.Aggregates.{key_of, value_of, folded}
+use Rattle.flow_defs.specs.declared.job.AggKind.TheVariants.{Count, Sum, Max}
 use Rattle.flow_defs.specs.Tables.{key_cmp, table_of, table_text}
 
 lines_three : lines (codes "a\nb\na\n") ≡ codes "a" ∷ codes "b" ∷ codes "a" ∷ []
@@ -44,3 +45,22 @@ text_with_rest = simp (entries-insert {X = ℕ} nat_list_cmp_total, get-insert {
 
 text_of_none : table_text (table_of Count (lines [])) ≡ []
 text_of_none = simp entries-empty
+
+-- the last `=` parts a record, and a number is read modulo 2^64
+key_of_two : key_of Sum (codes "a=b=7") ≡ codes "a=b"
+key_of_two = refl
+
+value_of_two : value_of Sum (codes "a=b=7") ≡ 7
+value_of_two = refl
+
+value_of_none : (value_of Max (codes "m") ≡ 0) × (value_of Max (codes "k=") ≡ 0) × (value_of Max (codes "k=x") ≡ 0) × (value_of Max (codes "k=-1") ≡ 0)
+value_of_none = (refl, refl, refl, refl)
+
+value_of_large : value_of Sum (codes "k=18446744073709551617") ≡ 1
+value_of_large = refl
+
+sum_wraps : folded Sum 18446744073709551615 2 ≡ 1
+sum_wraps = refl
+
+max_stays : (folded Max 7 0 ≡ 7) × (folded Max 0 7 ≡ 7)
+max_stays = (refl, refl)

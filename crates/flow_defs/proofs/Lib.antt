@@ -1,4 +1,6 @@
 pub mod JobLemmas
 pub mod LineLemmas
+pub mod PartLemmas
+pub mod NumberLemmas
 pub mod TableLemmas
 pub mod Examples

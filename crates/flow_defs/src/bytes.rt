@@ -2,21 +2,26 @@
 ghost use Rattle.std.specs.Prelude.{◌≡◌, ◌+◌, ◌<◌, ◌≤◌, [], ◌∷◌, ◌++◌, length, IfOk, IsOk, IsSome, OnOk, OnErr, ◌↔◌};
 ghost use Rattle.std.specs.Option.{option_to_list};
 
+use smallvec::SmallVec;
 use std::alloc::{AllocError, Global};
 use std::cmp::Ordering;
 use std::hash::{Hash, Hasher};
 use std::marker::Model;
 
-/// A list of bytes. It keeps the allocator that it was made with.
+// How many bytes lie in the value itself. Most words of a line are no longer.
+const INLINE: usize = 24;
+
+/// A list of bytes. It keeps the allocator that it was made with, and takes no memory while it has at
+/// most 24 bytes.
 ///
 /// Contracts see the bytes in order, and the room: how many more fit with no allocation.
 #[derive(Debug, Drop)]
 pub struct Bytes {
-    bytes: Vec<u8>,
+    bytes: SmallVec<u8, INLINE>,
 }
 
 impl Model for Bytes {
-    ghost use Rattle.std.specs.Prelude.{ℕ, ◌-◌, vec_len, vec_capacity};
+    ghost use Rattle.std.specs.Prelude.{ℕ, ◌-◌, length};
     ghost use Rattle.std.specs.Coded.{coded_ℕ};
     ghost use Rattle.flow_defs.specs.Items.{Items, items_code};
 
@@ -24,7 +29,7 @@ impl Model for Bytes {
 
     ghost coded = { items_code coded_ℕ };
 
-    ghost view = { λ b. record { items = b.bytes.items; room = vec_capacity b.bytes - vec_len b.bytes } };
+    ghost view = { λ b. record { items = b.bytes.items; room = b.bytes.capacity - length b.bytes.items } };
 }
 
 impl Bytes {
@@ -36,7 +41,7 @@ impl Bytes {
         ensures { result.items ≡ [] }
     {
         Bytes {
-            bytes: Vec::new(alloc),
+            bytes: SmallVec::new(alloc),
         }
     }
 
@@ -66,6 +71,8 @@ impl Bytes {
         ensures succeeds { length piece.now ≤ self.old.room → IsOk result }
         ensures room { self.old.room ≤ self.new.room + length piece.now }
     {
+        // The length is at most the capacity.
+        let _len = self.bytes.len();
         self.bytes.extend_from_slice(piece)
     }
 
@@ -84,6 +91,7 @@ impl Bytes {
         ensures some { IsSome result ↔ (0 < length self.old.items) }
         ensures room { self.new.room ≡ self.old.room + length (option_to_list result) }
     {
+        let _len = self.bytes.len();
         self.bytes.pop()
     }
 
@@ -92,6 +100,7 @@ impl Bytes {
         ensures items { self.new.items ≡ [] }
         ensures room { self.new.room ≡ self.old.room + length self.old.items }
     {
+        let _len = self.bytes.len();
         self.bytes.clear()
     }
 
@@ -99,7 +108,7 @@ impl Bytes {
     pub fn as_slice(&self) -> &[u8]
         ensures { result.now ≡ self.now.items }
     {
-        &self.bytes
+        self.bytes.as_slice()
     }
 
     /// The bytes, for writing.
@@ -181,6 +190,6 @@ impl Hash for Bytes {
     ghost respects_eq = { λ a b same. ap (λ l. l ∷ []) (same_text a.items b.items (sym same)) };
 
     fn hash<H: Hasher>(&self, state: &mut H) {
-        state.write(&self.bytes);
+        state.write(self.bytes.as_slice());
     }
 }

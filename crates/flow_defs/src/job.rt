@@ -39,6 +39,11 @@ pub enum StageKind {
 pub enum AggKind {
     /// How many they are. The key is the whole record.
     Count,
+    /// The sum of their values, modulo 2^64. The key is what stands before the last `=` of a record, and
+    /// the value the number behind it.
+    Sum,
+    /// The greatest of their values. Key and value are as those of a sum.
+    Max,
 }
 
 /// A stateless stage.

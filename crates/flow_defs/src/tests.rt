@@ -1,5 +1,5 @@
 // Each call that takes memory, once where there is enough.
-use crate::{Bytes, ListOf, Table, Word, cut_line};
+use crate::{AggKind, Bytes, ListOf, Table, Word, cut_line, fold_value, key_len, value_of};
 use std::test::Fail;
 
 #[test]
@@ -50,4 +50,22 @@ fn a_line_ends_at_the_first_newline(rt: HostRuntime) {
     );
     assert_eq!(rt; cut_line(b"\n"), Some((b"".as_slice(), b"".as_slice())));
     assert_eq!(rt; cut_line(b"ab"), None);
+}
+
+#[test]
+fn the_last_equals_parts_a_record(rt: HostRuntime) {
+    for (line, key, value) in [
+        ("k=7", 1, 7),
+        ("a=b=7", 3, 7),
+        ("m", 1, 0),
+        ("k=", 1, 0),
+        ("k=+7", 1, 0),
+        ("=18446744073709551617", 0, 1),
+    ] {
+        let line = line.as_bytes();
+        assert_eq!(rt; key_len(AggKind::Sum, line), key);
+        assert_eq!(rt; value_of(AggKind::Max, line), value);
+    }
+    assert_eq!(rt; fold_value(AggKind::Sum, u64::MAX, 2), 1);
+    assert_eq!(rt; fold_value(AggKind::Max, 7, 0), 7);
 }

@@ -1,5 +1,5 @@
 -- What is due of a line with the end behind it, and what a poll makes of a channel.
-use Rattle.std.proofs.Common.{◌≡◌, ℕ, zero, suc, ◌+◌, ◌≤◌, ◌%◌, ◌^◌, ltb, Bool, true, false, cond, List, [], ◌∷◌, ◌++◌, length, drop, Option, Some, None, refl, sym, ap, subst, ◌∙◌, true≢false, arith}
+use Rattle.std.proofs.Common.{◌≡◌, ℕ, zero, suc, ◌+◌, ◌-◌, ◌<◌, ◌≤◌, ◌%◌, ◌^◌, ltb, Bool, true, false, cond, List, [], ◌∷◌, ◌++◌, length, drop, Option, Some, None, refl, sym, ap, subst, ◌∙◌, true≢false, arith}
 use Rattle.std.specs.Prelude.{◌&&◌, option_to_list}
 use Rattle.flow_defs.specs.declared.task.BarrierKind.{BarrierKind}
 use Rattle.flow_defs.specs.declared.task.BarrierKind.TheVariants.{Inline, Front}
@@ -9,9 +9,9 @@ use Rattle.flow_defs.specs.Parcels.{barriers_of}
 use Rattle.input_channel.specs.declared.held.HeldBuf.{HeldBuf}
 use Rattle.input_channel.specs.declared.entry.Gave.{Gave}
 use Rattle.input_channel.specs.declared.entry.Gave.TheVariants.{NoBuffer, Exclusive, Floating}
-use Rattle.input_channel.specs.declared.entry.ReceiveEntry.TheVariants.{Poll}
+use Rattle.input_channel.specs.declared.entry.ReceiveEntry.TheVariants.{Poll, Credit}
 use Rattle.input_channel.specs.Inboxes.{front_waits, first_parcel, first_barrier, without_barrier, due, undue, is_barrier, poll_gives, poll_leaves}
-use Rattle.input_channel.specs.Counts.{Counts, counts_one}
+use Rattle.input_channel.specs.Counts.{Counts, counts_one, told}
 use Rattle.input_channel.specs.declared.arrival.ArrivalKind.TheVariants as kinds
 use Rattle.input_channel.specs.declared.fault.AcceptFault.TheVariants.{OverCredit, OverSize}
 use Rattle.input_channel.specs.Answers.{kind_refused}
@@ -87,6 +87,9 @@ due-first p ps rest split calm =
 pub same_state : (s : ChannelState) (q r : List Parcel) (c d : Counts) (m n : ℕ) → q ≡ r → c ≡ d → m ≡ n → ◌≡◌ {A = ChannelState} (record s { queue = q; counts = c; owed = m }) (record s { queue = r; counts = d; owed = n })
 same_state s q r c d m n e f g = cc
 
+same_credit : (s : ChannelState) (p q m n a b : ℕ) → p ≡ q → m ≡ n → a ≡ b → ◌≡◌ {A = ChannelState} (record s { counts = record s.counts { pending = p }; credit = m; announced = a }) (record s { counts = record s.counts { pending = q }; credit = n; announced = b })
+same_credit s p q m n a b e f g = cc
+
 module _ (s : ChannelState) where
   -- nothing is given
   pub polled_none : (hold : Bool) → poll_gives hold s.queue ≡ None → poll_leaves hold s.queue ≡ s.queue → after s (Poll hold NoBuffer) ≡ s
@@ -109,6 +112,17 @@ gives_due hold ps p e free =
 
 pub holds_back : (ps : List Parcel) → is_barrier (due ps) ≡ true → (poll_gives true ps ≡ None) × (poll_leaves true ps ≡ ps)
 holds_back ps is = (ap (λ b. cond b None (due ps)) is, ap (λ b. cond b ps (undue ps)) is)
+
+-- ---- the credit of a channel that was shut
+
+-- none is told, and the channel stays
+pub tells_nothing : (s : ChannelState) → s.counts.shut ≡ true → s.announced < 2 ^ 64 → after s (Credit 0) ≡ s
+tells_nothing s shut small =
+    let none : told s.counts ≡ 0 = ap (λ b. cond b 0 s.counts.pending) shut in
+    let left : s.counts.pending - told s.counts ≡ s.counts.pending = omega (arith, none) in
+    let credit : s.credit + told s.counts ≡ s.credit = omega (arith, none) in
+    let same : (s.announced + told s.counts) % 2 ^ 64 ≡ s.announced = omega (arith, none, small) in
+    same_credit s _ _ _ _ _ _ left credit same
 
 -- ---- data within the credit and the size
 

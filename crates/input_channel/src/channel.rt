@@ -5,6 +5,7 @@ ghost use Rattle.input_channel.specs.declared.entry.ReceiveEntry.TheVariants as 
 ghost use Rattle.input_channel.specs.Inboxes.{front_waits};
 ghost use Rattle.input_channel.specs.Counts.{free, floating_held, wants, told, lets_go};
 ghost use Rattle.input_channel.specs.Legal.{owes};
+ghost use Rattle.input_channel.specs.Kept.{empty_parts};
 ghost use Rattle.input_channel.specs.States.{opening, after, exclusive_here, segments_here};
 ghost use Rattle.input_channel.specs.declared.arrival.ArrivalKind.TheVariants as kinds;
 ghost use Rattle.input_channel.specs.Answers.{parcel_in, kind_refused, refused, IsFault, gave_of, IsAnswer, IsAnswerable};
@@ -14,6 +15,7 @@ use crate::arrival::{Arrival, ArrivalKind};
 use crate::entry::ReceiveEntry;
 use crate::fault::AcceptFault;
 use crate::held::HeldBuf;
+use crate::parts::Parts;
 use crate::polled::Polled;
 use crate::queue::Queue;
 use crate::segments::Segments;
@@ -44,63 +46,48 @@ pub struct NoRoom {
 /// calls. A front barrier is found without a walk past the data before it.
 #[derive(Drop)]
 pub struct InputChannel {
-    queue: Queue,
-    // The free buffers.
-    exclusive: HeapCircularBuffer<Segment>,
-    floating: HeapCircularBuffer<Segment>,
-    pending: u32,
-    required: u32,
-    is_shut: bool,
-    // The credit that is open: what was announced less what was received. It is at most the number of
-    // the channel's buffers, and kept exactly.
-    credit: u32,
-    // The two totals have no end in the definitions. They are kept modulo 2^64, as answers carry them,
-    // and nothing is decided by them.
-    announced: u64,
-    received: u64,
-    // The sequence number that comes next, and the number of the last barrier.
-    next: u32,
-    last: u64,
-    // Whether the end came, and whether it still waits, behind all else.
-    ended: bool,
-    end_waits: bool,
-    // The resumptions owed for inline barriers that were polled, and those asked for and not taken.
-    owed: u64,
-    asked: u64,
-    size: u32,
-    room: u32,
+    parts: Box<Parts>,
 }
 
 impl Model for InputChannel {
     ghost use Rattle.input_channel.specs.States.{ChannelState};
-    ghost use Rattle.input_channel.specs.Kept.{queue_of, counts_of, IsKept};
+    ghost use Rattle.input_channel.specs.Kept.{state_of, IsKept};
 
     ghost Value = { ChannelState };
 
-    ghost view = { λ c. record { queue = queue_of c.queue c.end_waits; counts = counts_of c.exclusive.items c.floating.items c.queue c.pending c.required c.is_shut; credit = c.credit; announced = c.announced; received = c.received; next = c.next; last = c.last; ended = c.ended; owed = c.owed; asked = c.asked; size = c.size; room = c.room } };
+    ghost view = { λ c. state_of c.parts.value };
 
-    ghost invariant = { λ c. IsKept c };
+    ghost invariant = { λ c. IsKept c.parts.value };
 }
 
-// The rings of a channel.
-fn places(
-    alloc: Global,
-    room: u32,
-) -> Result<
-    (
-        Queue,
-        HeapCircularBuffer<Segment>,
-        HeapCircularBuffer<Segment>,
-    ),
-    AllocError,
->
+// The fields of a channel that has no buffer yet. They have the two credits of the buffers that come.
+fn empty_parts(alloc: Global, size: u32, room: u32) -> Result<Box<Parts>, AllocError>
     requires { room < 2 ^ 31 }
-    ensures { IfOk result (λ p. (p.0 ≡ record { parcels = []; buffers = []; room = room }) × (p.1 ≡ buffer [] 2) × (p.2 ≡ buffer [] room)) }
+    ensures { IfOk result (λ parts. parts.value ≡ empty_parts size room) }
 {
     let queue = Queue::new(alloc, room)?;
     let exclusive = HeapCircularBuffer::with_capacity(alloc, 2)?;
     let floating = HeapCircularBuffer::with_capacity(alloc, room as usize)?;
-    Ok((queue, exclusive, floating))
+    let parts = Parts {
+        queue,
+        exclusive,
+        floating,
+        pending: 0,
+        required: 2,
+        is_shut: false,
+        credit: 2,
+        announced: 2,
+        received: 0,
+        next: 0,
+        last: 0,
+        ended: false,
+        end_waits: false,
+        owed: 0,
+        asked: 0,
+        size,
+        room,
+    };
+    Ok(Box::new(alloc, parts)?)
 }
 
 // How many resumptions a barrier asks for, once it is polled.
@@ -146,31 +133,13 @@ impl InputChannel {
         ensures made { IfOk result (λ channel. channel ≡ opening (length first) room) }
         ensures refused { IfErr result (λ r. (r.first ≡ first) × (r.second ≡ second)) }
     {
-        let Ok((queue, mut exclusive, floating)) = places(alloc, room) else {
+        let size = first.bytes().len() as u32;
+        let Ok(mut parts) = empty_parts(alloc, size, room) else {
             return Err(NoRoom { first, second });
         };
-        let size = first.bytes().len() as u32;
-        exclusive.push_back(first);
-        exclusive.push_back(second);
-        Ok(InputChannel {
-            queue,
-            exclusive,
-            floating,
-            pending: 0,
-            required: 2,
-            is_shut: false,
-            credit: 2,
-            announced: 2,
-            received: 0,
-            next: 0,
-            last: 0,
-            ended: false,
-            end_waits: false,
-            owed: 0,
-            asked: 0,
-            size,
-            room,
-        })
+        parts.exclusive.push_back(first);
+        parts.exclusive.push_back(second);
+        Ok(InputChannel { parts })
     }
 
     /// Takes what a buffer response brought. The bytes are the content of a buffer, and count for
@@ -180,25 +149,25 @@ impl InputChannel {
         ensures accepted { OnOk result ((refused self.old a bytes.now ≡ None) × (self.new ≡ after self.old (entries.Push (parcel_in a.what bytes.now) a.backlog))) }
         ensures refused { IfErr result (λ fault. (self.new ≡ self.old) × IsFault self.old a bytes.now fault) }
     {
-        if a.sequence != self.next {
+        if a.sequence != self.parts.next {
             return Err(AcceptFault::WrongSequence {
-                want: self.next,
+                want: self.parts.next,
                 got: a.sequence,
             });
         }
-        if self.ended {
+        if self.parts.ended {
             return Err(AcceptFault::AfterEnd);
         }
         match a.what {
             ArrivalKind::Buffer => self.accept_data(bytes)?,
             ArrivalKind::Barrier { k, kind } => self.accept_barrier(k, kind)?,
             ArrivalKind::End => {
-                self.ended = true;
-                self.end_waits = true;
+                self.parts.ended = true;
+                self.parts.end_waits = true;
             }
         }
-        self.next = self.next.wrapping_add(1);
-        self.required = a.backlog + 2;
+        self.parts.next = self.parts.next.wrapping_add(1);
+        self.parts.required = a.backlog + 2;
         Ok(())
     }
 
@@ -207,23 +176,25 @@ impl InputChannel {
         ensures accepted { OnOk result ((kind_refused self.old kinds.Buffer bytes.now ≡ None) × (self.new ≡ with_data_in self.old bytes.now)) }
         ensures refused { IfErr result (λ fault. (self.new ≡ self.old) × (kind_refused self.old kinds.Buffer bytes.now ≡ Some fault)) }
     {
-        if self.credit == 0 {
+        let parts = &mut *self.parts;
+        if parts.credit == 0 {
             return Err(AcceptFault::OverCredit {
-                received: self.received.wrapping_add(1),
-                announced: self.announced,
+                received: parts.received.wrapping_add(1),
+                announced: parts.announced,
             });
         }
-        if bytes.len() > self.size as usize {
+        if bytes.len() > parts.size as usize {
             return Err(AcceptFault::OverSize {
                 got: bytes.len(),
-                size: self.size,
+                size: parts.size,
             });
         }
-        let (segment, exclusive) = take_free(&mut self.floating, &mut self.exclusive);
-        self.queue
+        let (segment, exclusive) = take_free(&mut parts.floating, &mut parts.exclusive);
+        parts
+            .queue
             .push_data(HeldBuf::filled(segment, exclusive, bytes));
-        self.credit -= 1;
-        self.received = self.received.wrapping_add(1);
+        parts.credit -= 1;
+        parts.received = parts.received.wrapping_add(1);
         Ok(())
     }
 
@@ -232,14 +203,15 @@ impl InputChannel {
         ensures accepted { OnOk result ((k ≡ suc self.old.last) × (self.new ≡ with_barrier_in self.old k kind)) }
         ensures refused { IfErr result (λ fault. (self.new ≡ self.old) × IsBarrierFault self.old k kind fault) }
     {
-        if k.checked_sub(1) != Some(self.last) {
+        let parts = &mut *self.parts;
+        if k.checked_sub(1) != Some(parts.last) {
             return Err(AcceptFault::WrongBarrier {
-                want: self.last.wrapping_add(1),
+                want: parts.last.wrapping_add(1),
                 got: k,
             });
         }
-        self.queue.push_barrier(k, kind)?;
-        self.last = k;
+        parts.queue.push_barrier(k, kind)?;
+        parts.last = k;
         Ok(())
     }
 
@@ -248,18 +220,21 @@ impl InputChannel {
         requires { n < 2 ^ 31 }
         ensures { self.new ≡ after self.old (entries.Backlog n) }
     {
-        self.required = n + 2;
+        let parts = &mut *self.parts;
+        parts.required = n + 2;
     }
 
     /// How many floating segments it asks of its gate's pool.
     pub fn wants(&self) -> u32
         ensures { result ≡ wants self.now.room self.now.counts }
     {
-        let free = (self.exclusive.len() + self.floating.len()) as u32;
-        let floating = self.floating.len() as u32 + self.queue.floating();
-        self.required
+        let parts = &*self.parts;
+        let free = (parts.exclusive.len() + parts.floating.len()) as u32;
+        let floating = parts.floating.len() as u32 + parts.queue.floating();
+        parts
+            .required
             .saturating_sub(free)
-            .min(self.room - 2 - floating)
+            .min(parts.room - 2 - floating)
     }
 
     /// Takes a floating segment from its gate's pool, and with it credit to announce.
@@ -268,8 +243,9 @@ impl InputChannel {
         requires size { length segment ≡ self.old.size }
         ensures { self.new ≡ after self.old entries.Added }
     {
-        self.floating.push_back(segment);
-        self.pending += 1;
+        let parts = &mut *self.parts;
+        parts.floating.push_back(segment);
+        parts.pending += 1;
     }
 
     /// Gives what is due: the first barrier where that is front, and else what came first. With `hold`
@@ -280,19 +256,20 @@ impl InputChannel {
         ensures answerable { IfOk result (λ polled. IsAnswerable polled self.new) }
         ensures channel { IfOk result (λ polled. self.new ≡ after self.old (entries.Poll hold (gave_of polled))) }
     {
-        if let Some((k, kind)) = self.queue.due_barrier() {
+        let parts = &mut *self.parts;
+        if let Some((k, kind)) = parts.queue.due_barrier() {
             if hold {
                 return Ok(Polled::Held);
             }
-            self.queue.pop_barrier();
-            self.owed += owes(kind);
+            parts.queue.pop_barrier();
+            parts.owed += owes(kind);
             return Ok(Polled::Barrier { k, kind });
         }
-        if let Some(buf) = self.queue.pop_data() {
+        if let Some(buf) = parts.queue.pop_data() {
             return Ok(Polled::Buffer(buf));
         }
-        if self.end_waits {
-            self.end_waits = false;
+        if parts.end_waits {
+            parts.end_waits = false;
             return Ok(Polled::End);
         }
         Ok(Polled::Empty)
@@ -302,14 +279,15 @@ impl InputChannel {
     pub fn front_waits(&self) -> bool
         ensures { result ≡ front_waits self.now.queue }
     {
-        self.queue.front_waits()
+        let parts = &*self.parts;
+        parts.queue.front_waits()
     }
 
     /// The length of the channel's segments, in bytes.
     pub fn size(&self) -> u32
         ensures { result ≡ self.now.size }
     {
-        self.size
+        self.parts.size
     }
 
     /// Takes a buffer back that it gave. What it answers goes to the gate's pool.
@@ -321,6 +299,7 @@ impl InputChannel {
         ensures floating { buf.exclusive ≡ false → result ≡ Some buf.segment }
         ensures exclusive { buf.exclusive ≡ true → (IsSome result ↔ (lets_go self.old.counts ≡ true)) }
     {
+        let parts = &mut *self.parts;
         let HeldBuf {
             segment,
             exclusive,
@@ -329,13 +308,13 @@ impl InputChannel {
         if !exclusive {
             return Some(segment);
         }
-        let floating = self.floating.len();
-        let free = self.exclusive.len() + floating;
-        self.exclusive.push_back(segment);
-        if free >= self.required as usize && floating > 0 {
-            return self.floating.pop_front();
+        let floating = parts.floating.len();
+        let free = parts.exclusive.len() + floating;
+        parts.exclusive.push_back(segment);
+        if free >= parts.required as usize && floating > 0 {
+            return parts.floating.pop_front();
         }
-        self.pending += 1;
+        parts.pending += 1;
         None
     }
 
@@ -346,13 +325,14 @@ impl InputChannel {
         ensures channel { self.new ≡ after self.old (entries.Credit result) }
         ensures none { result ≡ 0 → self.new ≡ self.old }
     {
-        if self.is_shut {
+        let parts = &mut *self.parts;
+        if parts.is_shut {
             return 0;
         }
-        let told = self.pending;
-        self.pending = 0;
-        self.credit += told;
-        self.announced = self.announced.wrapping_add(told as u64);
+        let told = parts.pending;
+        parts.pending = 0;
+        parts.credit += told;
+        parts.announced = parts.announced.wrapping_add(told as u64);
         told
     }
 
@@ -361,14 +341,15 @@ impl InputChannel {
         requires { self.old.credit ≡ 0 }
         ensures { self.new ≡ after self.old entries.Shut }
     {
-        self.is_shut = true;
+        let parts = &mut *self.parts;
+        parts.is_shut = true;
     }
 
     /// Whether the end was accepted.
     pub fn ended(&self) -> bool
         ensures { result ≡ self.now.ended }
     {
-        self.ended
+        self.parts.ended
     }
 
     /// Asks for one resumption, for an inline barrier that was polled.
@@ -376,8 +357,9 @@ impl InputChannel {
         requires { 0 < self.old.owed }
         ensures { self.new ≡ after self.old entries.Ask }
     {
-        self.owed -= 1;
-        self.asked += 1;
+        let parts = &mut *self.parts;
+        parts.owed -= 1;
+        parts.asked += 1;
     }
 
     /// Takes a resumption, to tell the sender, if one was asked for.
@@ -385,10 +367,11 @@ impl InputChannel {
         ensures taken { result ≡ nat_lt 0 self.old.asked }
         ensures channel { self.new ≡ after self.old entries.Resume }
     {
-        if self.asked == 0 {
+        let parts = &mut *self.parts;
+        if parts.asked == 0 {
             return false;
         }
-        self.asked -= 1;
+        parts.asked -= 1;
         true
     }
 
@@ -399,20 +382,21 @@ impl InputChannel {
         ensures room { 2 + self.now.counts.floating + floating_held self.now.counts ≤ self.now.room }
         ensures exclusive { exclusive_here self.now ≤ 2 }
     {
-        let _credit = self.credit;
+        let _credit = self.parts.credit;
     }
 
     /// Ends the channel. What waits there is lost, and its segments can go back to their pool.
     pub fn into_segments(self) -> Segments
         ensures { result ≡ record { left = segments_here self; size = self.size } }
     {
-        let InputChannel {
+        let InputChannel { parts } = self;
+        let Parts {
             queue,
             exclusive,
             floating,
             size,
             ..
-        } = self;
+        } = Box::into_inner(parts);
         Segments {
             exclusive,
             floating,

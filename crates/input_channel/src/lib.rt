@@ -13,6 +13,7 @@ mod entry;
 mod fault;
 mod held;
 pub mod laws;
+mod parts;
 mod polled;
 mod queue;
 mod segments;

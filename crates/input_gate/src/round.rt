@@ -17,7 +17,7 @@ use std::alloc::AllocError;
 use std::collections::VecDeque;
 use std::sync::Wait;
 
-/// Reads the buffer that a channel has still, and gives it back.
+/// Reads the buffer that a channel has still, and gives it back. Without one it only looks.
 pub(crate) fn refill_at<R: Wait>(
     rt: &R,
     lanes: &mut VecDeque<Lane<'_>>,
@@ -33,6 +33,9 @@ pub(crate) fn refill_at<R: Wait>(
     ensures here { OnOk result (at_of (λ lane. lane.spare) None lanes.new.items at ≡ None) }
     ensures others { (d : ℕ) → d ≢ at → at_of (λ lane. lane.spare) None lanes.new.items d ≡ at_of (λ lane. lane.spare) None lanes.old.items d }
 {
+    if lanes[at].spare.is_none() {
+        return Ok(());
+    }
     refill(rt, &mut lanes[at], lender)
 }
 
@@ -125,13 +128,14 @@ pub(crate) fn look_at<R: Wait>(
     ensures others { (d : ℕ) → d ≢ at → (seen_in lanes.new.items d ≡ seen_in lanes.old.items d) × (at_of (λ lane. lane.ended) false lanes.new.items d ≡ at_of (λ lane. lane.ended) false lanes.old.items d) }
     ensures spare { HaveNoSpare lanes.new.items }
 {
-    if lanes[at].blocked {
+    let lane = &lanes[at];
+    if lane.blocked {
         return None;
     }
-    if lanes[at].ended {
+    if lane.ended {
         return None;
     }
-    if is_held(hold, lanes[at].barriers, most) {
+    if is_held(hold, lane.barriers, most) {
         return None;
     }
     look(rt, &mut lanes[at])

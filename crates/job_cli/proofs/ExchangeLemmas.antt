@@ -4,6 +4,7 @@ use Rattle.std.specs.Prelude.{⊤}
 use Rattle.std.proofs.lemmas.Option.{slice_get_within}
 use Rattle.flow_defs.specs.declared.cause.Cause.{Cause}
 use Rattle.flow_defs.specs.declared.cause.Cause.TheVariants as causes
+use Rattle.flow_defs.specs.declared.cause.PeerFault.{PeerFault}
 use Rattle.flow_defs.specs.declared.job.Job.{Job}
 use Rattle.flow_defs.specs.Jobs.{tasks}
 use Rattle.flow_defs.specs.Lines.{lines}
@@ -11,6 +12,7 @@ use Rattle.outside.specs.Faults.{HasRisen}
 use Rattle.job_plan.specs.declared.limits.TheConstants.{SOURCE_MAX}
 use Rattle.job_plan.specs.Limits.{HasLongLine}
 use Rattle.job_outcome.specs.Outcomes.{AreTold, IsRunCause, IsOfInput}
+use Rattle.job_run.specs.Wires.{IsLinkGround}
 use Rattle.job_cli.specs.Causes.{of_cause, status_of}
 use Rattle.job_text.specs.declared.words.RunOptions.{RunOptions}
 use Rattle.job_cli.specs.declared.fault.Fault.{Fault}
@@ -28,17 +30,18 @@ whatever None = tt
 whatever (Some bytes) = tt
 
 module _ {S : Type 0} (left : S → Option (List ℕ)) (faults : S → ℕ) (before after : List S) where
-  -- whatever the grounds of a link's fault
-  pub link_aside : (link : Type 0) (cause : Cause) → IsRunCause left faults before after link cause → IsRunCause left faults before after ⊤ cause
-  link_aside link causes.Done is = is
-  link_aside link causes.Stopped is = is
-  link_aside link (causes.Input a) is = is
-  link_aside link causes.Link is = tt
-  link_aside link (causes.LongLine a) is = is
-  link_aside link (causes.BigSource a) is = is
-  link_aside link (causes.OverCredit channel received announced) is = tt
-  link_aside link (causes.Peer fault) is = tt
-  link_aside link causes.Memory is = tt
+  -- over links of which no call is to fail there is no fault of a link
+  pub no_link : (never_fails : Type 0) (fell rose : ℕ) (peer : PeerFault → Type 0) (cause : Cause) → never_fails →
+      IsRunCause left faults before after (IsLinkGround never_fails fell rose) peer cause → IsRunCause left faults before after ⊥ (λ _. ⊤) cause
+  no_link never_fails fell rose peer causes.Done sure is = is
+  no_link never_fails fell rose peer causes.Stopped sure is = is
+  no_link never_fails fell rose peer (causes.Input a) sure is = is
+  no_link never_fails fell rose peer causes.Link sure is = is.may_fail sure
+  no_link never_fails fell rose peer (causes.LongLine a) sure is = is
+  no_link never_fails fell rose peer (causes.BigSource a) sure is = is
+  no_link never_fails fell rose peer (causes.OverCredit channel received announced) sure is = is
+  no_link never_fails fell rose peer (causes.Peer fault) sure is = tt
+  no_link never_fails fell rose peer causes.Memory sure is = tt
 
   module _ (job : Job) (contents : List ℕ → Option (List ℕ)) (told : AreInputsOf left faults job contents before) (many : length before ≡ tasks job 0) where
     -- what the sources are told to be their inputs are
@@ -49,19 +52,19 @@ module _ {S : Type 0} (left : S → Option (List ℕ)) (faults : S → ℕ) (bef
     is_source a P is = (let inside = slice_get_within before a is.old is.was in omega (arith, many, inside), subst (λ o. IfSome o P) (told a is.old is.was).0 is.holds)
 
     -- the cause of a run is a fault of its job
-    pub fault_of_run : (cause : Cause) → IsRunCause left faults before after ⊤ cause → IsRunFault job contents (of_cause cause)
+    pub fault_of_run : (cause : Cause) → IsRunCause left faults before after ⊥ (λ _. ⊤) cause → IsRunFault job contents (of_cause cause)
     fault_of_run causes.Done is = absurd is
     fault_of_run causes.Stopped is = absurd is
     fault_of_run (causes.Input a) is = (let inside = slice_get_within before a is.old is.was in omega (arith, many, inside), whatever (contents (source_name job a)))
-    fault_of_run causes.Link is = tt
+    fault_of_run causes.Link is = absurd is
     fault_of_run (causes.LongLine a) is = is_source a (λ bytes. HasLongLine (lines bytes)) is
     fault_of_run (causes.BigSource a) is = is_source a (λ bytes. SOURCE_MAX < length bytes) is
-    fault_of_run (causes.OverCredit channel received announced) is = tt
+    fault_of_run (causes.OverCredit channel received announced) is = is
     fault_of_run (causes.Peer fault) is = tt
     fault_of_run causes.Memory is = tt
 
     -- with an input fault one of the inputs that come back has a fault
-    pub faulty_input : (cause : Cause) → IsRunCause left faults before after ⊤ cause → status_of (of_cause cause) ≡ 4 → HasFaulty faults after
+    pub faulty_input : (cause : Cause) → IsRunCause left faults before after ⊥ (λ _. ⊤) cause → status_of (of_cause cause) ≡ 4 → HasFaulty faults after
     faulty_input causes.Done is four = absurd is
     faulty_input causes.Stopped is four = absurd is
     faulty_input (causes.Input a) is four = (a, is.new, is.is, above (faults is.old) (faults is.new) (told a is.old is.was).1 is.holds)
@@ -89,7 +92,7 @@ pub run_is_exchange : (options : RunOptions) (job : Job) (contents : List ℕ �
 run_is_exchange options job contents (SourceInput a) enough is = (enough, is)
 run_is_exchange options job contents (LongLine a) enough is = (enough, is)
 run_is_exchange options job contents (BigSource a) enough is = (enough, is)
-run_is_exchange options job contents Link enough is = (enough, is)
+run_is_exchange options job contents Link enough is = absurd is
 run_is_exchange options job contents (OverCredit channel received announced) enough is = (enough, is)
 run_is_exchange options job contents (Peer peer) enough is = (enough, is)
 run_is_exchange options job contents Memory enough is = tt

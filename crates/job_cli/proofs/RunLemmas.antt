@@ -115,8 +115,8 @@ module _ (words : List (List ℕ)) (functions : Functions) (contents : List ℕ 
   of_exchange text job (SourceInput a) told fits none is fault = of_job_read text job (λ o j. HasPool o j × IsRunFault j contents (SourceInput a)) told fits none is fault
   of_exchange text job (LongLine a) told fits none is fault = of_job_read text job (λ o j. HasPool o j × IsRunFault j contents (LongLine a)) told fits none is fault
   of_exchange text job (BigSource a) told fits none is fault = of_job_read text job (λ o j. HasPool o j × IsRunFault j contents (BigSource a)) told fits none is fault
-  of_exchange text job Link told fits none is fault = of_job_read text job (λ o j. HasPool o j × ⊤) told fits none is fault
-  of_exchange text job (OverCredit channel received announced) told fits none is fault = of_job_read text job (λ o j. HasPool o j × ⊤) told fits none is fault
+  of_exchange text job Link told fits none is fault = absurd fault.1
+  of_exchange text job (OverCredit channel received announced) told fits none is fault = (of_job_read text job (λ o j. HasPool o j × ⊤) told fits none is (fault.0, tt), fault.1)
   of_exchange text job (Peer peer) told fits none is fault = of_job_read text job (λ o j. HasPool o j × ⊤) told fits none is fault
   of_exchange text job Memory told fits none is fault = inl (name, options, is_run)
   of_exchange text job (Usage kind) told fits none is fault = absurd fault.1
@@ -150,7 +150,7 @@ of_script words functions contents name is_script ScriptInput is = (name, is_scr
 of_script words functions contents name is_script LongScript is = (name, is_script, is)
 of_script words functions contents name is_script (ScriptLine line) is = (name, is_script, is)
 of_script words functions contents name is_script (TooFewSegments have need) is = inr (name, is_script, is)
-of_script words functions contents name is_script Memory is = inr (name, is_script)
+of_script words functions contents name is_script Memory is = inr (inl (name, is_script))
 of_script words functions contents name is_script (Usage kind) is = absurd is
 of_script words functions contents name is_script (JobLine line kind) is = absurd is
 of_script words functions contents name is_script JobInput is = absurd is
@@ -174,7 +174,8 @@ script_runs_on words contents P Q leads run = (run.0, run.1, on (contents run.0)
 -- what is printed leads to what holds of it
 pub prints_on : (words : List (List ℕ)) (functions : Functions) (contents : List ℕ → Option (List ℕ)) (P Q : List ℕ → Type 0) → ((text : List ℕ) → P text → Q text) → Prints words functions contents P → Prints words functions contents Q
 prints_on words functions contents P Q leads (inl run) = inl (runs_on words functions contents P Q leads run)
-prints_on words functions contents P Q leads (inr run) = inr (script_runs_on words contents P Q leads run)
+prints_on words functions contents P Q leads (inr (inl run)) = inr (inl (script_runs_on words contents P Q leads run))
+prints_on words functions contents P Q leads (inr (inr gen)) = inr (inr (gen.0, gen.1, gen.2, leads _ gen.3))
 
 -- what holds of a text that was read holds of the bytes that are told
 pub held_too : (o : Option (List ℕ)) (text : List ℕ) (P : List ℕ → Type 0) → IfSome o (λ held. text ≡ held) → P text → IfSome o P

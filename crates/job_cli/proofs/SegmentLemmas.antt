@@ -13,7 +13,7 @@ use Rattle.flow_defs.specs.declared.job.Stage.{Stage}
 use Rattle.flow_defs.specs.declared.job.StageKind.{StageKind}
 use Rattle.flow_defs.specs.declared.job.StageKind.TheVariants.{Words, Upper, Keep, Field}
 use Rattle.flow_defs.specs.declared.job.AggKind.{AggKind}
-use Rattle.flow_defs.specs.declared.job.AggKind.TheVariants.{Count}
+use Rattle.flow_defs.specs.declared.job.AggKind.TheVariants.{Count, Sum, Max}
 use Rattle.flow_defs.specs.declared.job.Exchange.{Exchange}
 use Rattle.flow_defs.specs.declared.job.Exchange.TheVariants.{Hash, Rebalance, Forward}
 use Rattle.flow_defs.specs.declared.job.TheConstants.{TASKS_MAX}
@@ -59,6 +59,8 @@ exchange_no_space Forward = refl
 
 agg_no_space : (kind : AggKind) → has_no_space (agg_word kind) ≡ true
 agg_no_space Count = refl
+agg_no_space Sum = refl
+agg_no_space Max = refl
 
 -- ---- what lines say
 

@@ -1,19 +1,19 @@
 -- From what is known of a fault to what its status says.
-use Rattle.std.proofs.Common.{◌≡◌, ℕ, zero, suc, ◌≤◌, ◌<◌, List, [], ◌∷◌, length, map, get_or, Option, Some, None, Contains, IfSome, refl, sym, ap, subst, ◌∙◌, arith, inl, inr, ◌⊎◌}
+use Rattle.std.proofs.Common.{◌≡◌, ℕ, zero, suc, ◌≤◌, ◌<◌, List, [], ◌∷◌, ◌++◌, length, map, get_or, Option, Some, None, Contains, IfSome, refl, sym, ap, subst, ◌∙◌, arith, inl, inr, ◌⊎◌}
 use Rattle.std.specs.Prelude.{⊤, slice_get}
 use Rattle.std.specs.Option.{option_map_or}
 use Rattle.std.proofs.lemmas.List.{length-map}
 use Rattle.flow_defs.specs.Items.{Items}
 use Rattle.flow_defs.specs.Tables.{table_text}
 use Rattle.plain_machine.specs.Worth.{tally}
-use Rattle.job_text.specs.declared.words.Command.TheVariants.{Run as RunCommand, Script as ScriptCommand}
+use Rattle.job_text.specs.declared.words.Command.TheVariants.{Run as RunCommand, Script as ScriptCommand, Gen as GenCommand}
 use Rattle.job_text.specs.declared.words.RunOptions.{RunOptions}
 use Rattle.job_text.specs.Laws.{JobTextHasNoFault, JobTextNamesItsFiles, CommandHasNoFault, WordsAreOneCommand, source_files}
 use Rattle.flow_defs.specs.declared.job.Job.{Job}
 use Rattle.flow_defs.specs.Jobs.{segments_needed, tasks}
 use Rattle.flow_defs.specs.Lines.{lines}
 use Rattle.stage_fns.specs.Functions.{Functions}
-use Rattle.job_text.specs.Words.{IsRun, IsScript, usage_fault}
+use Rattle.job_text.specs.Words.{IsRun, IsScript, IsGen, usage_fault}
 use Rattle.job_text.specs.JobText.{IsJobText}
 use Rattle.job_text.specs.JobFaults.{first_fault}
 use Rattle.job_cli.specs.declared.run.TheConstants.{JOB_MAX}
@@ -21,6 +21,8 @@ use Rattle.job_plan.specs.declared.limits.TheConstants.{SOURCE_MAX}
 use Rattle.job_cli.specs.declared.fault.Fault.{Fault}
 use Rattle.job_cli.specs.declared.fault.Fault.TheVariants.{Usage, JobLine, ScriptLine, JobInput, ScriptInput, SourceInput, Output, LongJob, LongScript, LongLine, BigSource, TooFewSegments, Link, OverCredit, Peer, Memory}
 use Rattle.job_cli.specs.Causes.{status_of}
+use Rattle.job_cli.specs.FaultTexts.{fault_line}
+use Rattle.job_cli.specs.Front.{GotFront}
 use Rattle.job_plan.specs.Limits.{HasLongLine, IsOverLimit}
 use Rattle.job_cli.specs.Sources.{source_name, IsOfSource}
 use Rattle.job_cli.proofs.SegmentLemmas.{needs_same}
@@ -28,25 +30,7 @@ use Rattle.job_cli.specs.declared.script.TheConstants.{SCRIPT_MAX}
 use Rattle.job_cli.specs.Scripts.{NamesScript, Replies, IsScriptWith, HasEnough, HasTooFew, HasBadLine, IsNoScript, PassesScriptLimit, TellsScript, printed_replies}
 use Rattle.script_text.specs.declared.event.Script.{Script}
 use Rattle.script_text.specs.Laws.{ScriptTextHasNoBadLine, ScriptTextIsOfOneScript}
-use Rattle.job_cli.specs.Run.{NamesCommand, NamesRun, NamesJob, NamesGoodJob, NamesReadyJob, IsGoodText, HasPool, HasSmallPool, Prints, IsFaultOf, IsNoJob, IsOverLimits, PassesLimit, TellsJob, TellsRun, TellsSources, AreWithinLimits}
-
-pub known_status : (fault : Fault) → Contains (0 ∷ 2 ∷ 3 ∷ 4 ∷ 6 ∷ 7 ∷ 10 ∷ 11 ∷ 12 ∷ 70 ∷ []) (status_of fault)
-known_status (Usage kind) = (1, omega arith, refl)
-known_status (JobLine line kind) = (2, omega arith, refl)
-known_status (ScriptLine line) = (2, omega arith, refl)
-known_status JobInput = (3, omega arith, refl)
-known_status ScriptInput = (3, omega arith, refl)
-known_status (SourceInput a) = (3, omega arith, refl)
-known_status Link = (4, omega arith, refl)
-known_status Output = (5, omega arith, refl)
-known_status LongJob = (6, omega arith, refl)
-known_status LongScript = (6, omega arith, refl)
-known_status (LongLine a) = (6, omega arith, refl)
-known_status (BigSource a) = (6, omega arith, refl)
-known_status (TooFewSegments have need) = (6, omega arith, refl)
-known_status (OverCredit channel received announced) = (7, omega arith, refl)
-known_status (Peer fault) = (8, omega arith, refl)
-known_status Memory = (9, omega arith, refl)
+use Rattle.job_cli.specs.Run.{NamesCommand, NamesRun, NamesJob, NamesGoodJob, NamesReadyJob, IsGoodText, HasPool, HasSmallPool, Prints, IsFaultOf, HasToldOverCredit, IsNoJob, IsOverLimits, PassesLimit, TellsJob, TellsRun, TellsSources, AreWithinLimits}
 
 abbrev file_name : Items ℕ → List ℕ
 file_name file = file.items
@@ -58,6 +42,66 @@ name_in (file ∷ sources) zero = refl
 name_in (file ∷ sources) (suc a) = name_in sources a
 
 module _ (words : List (List ℕ)) (functions : Functions) (contents : List ℕ → Option (List ℕ)) where
+  -- ---- of the statuses
+
+  -- which statuses there are
+  pub known_status : (fault : Fault) → IsFaultOf words functions contents fault → Contains (0 ∷ 2 ∷ 3 ∷ 4 ∷ 7 ∷ 10 ∷ 11 ∷ 12 ∷ 70 ∷ []) (status_of fault)
+  known_status (Usage kind) is = (1, omega arith, refl)
+  known_status (JobLine line kind) is = (2, omega arith, refl)
+  known_status (ScriptLine line) is = (2, omega arith, refl)
+  known_status JobInput is = (3, omega arith, refl)
+  known_status ScriptInput is = (3, omega arith, refl)
+  known_status (SourceInput a) is = (3, omega arith, refl)
+  known_status Link is = absurd is
+  known_status Output is = (4, omega arith, refl)
+  known_status LongJob is = (5, omega arith, refl)
+  known_status LongScript is = (5, omega arith, refl)
+  known_status (LongLine a) is = (5, omega arith, refl)
+  known_status (BigSource a) is = (5, omega arith, refl)
+  known_status (TooFewSegments have need) is = (5, omega arith, refl)
+  known_status (OverCredit channel received announced) is = (6, omega arith, refl)
+  known_status (Peer peer) is = (7, omega arith, refl)
+  known_status Memory is = (8, omega arith, refl)
+
+  pub no_link : (fault : Fault) → IsFaultOf words functions contents fault → status_of fault ≡ 6 → ⊥
+  no_link (Usage kind) is six = cc
+  no_link (JobLine line kind) is six = cc
+  no_link (ScriptLine line) is six = cc
+  no_link JobInput is six = cc
+  no_link ScriptInput is six = cc
+  no_link (SourceInput a) is six = cc
+  no_link Link is six = is
+  no_link Output is six = cc
+  no_link LongJob is six = cc
+  no_link LongScript is six = cc
+  no_link (LongLine a) is six = cc
+  no_link (BigSource a) is six = cc
+  no_link (TooFewSegments have need) is six = cc
+  no_link (OverCredit channel received announced) is six = cc
+  no_link (Peer peer) is six = cc
+  no_link Memory is six = cc
+
+  -- with the status of data over the credit the line tells of one more than was announced
+  pub told_over : (before after : Option (List ℕ)) (risen : Type 0) (fault : Fault) → status_of fault ≡ 11 → IsFaultOf words functions contents fault →
+      IfSome before (λ had. GotFront had (fault_line fault) after) → ((risen → ⊥) → IfSome before (λ had. after ≡ Some (had ++ fault_line fault))) →
+      HasToldOverCredit before after risen
+  told_over before after risen (Usage kind) eleven is front all = absurd (cc)
+  told_over before after risen (JobLine line kind) eleven is front all = absurd (cc)
+  told_over before after risen (ScriptLine line) eleven is front all = absurd (cc)
+  told_over before after risen JobInput eleven is front all = absurd (cc)
+  told_over before after risen ScriptInput eleven is front all = absurd (cc)
+  told_over before after risen (SourceInput a) eleven is front all = absurd (cc)
+  told_over before after risen Link eleven is front all = absurd (cc)
+  told_over before after risen Output eleven is front all = absurd (cc)
+  told_over before after risen LongJob eleven is front all = absurd (cc)
+  told_over before after risen LongScript eleven is front all = absurd (cc)
+  told_over before after risen (LongLine a) eleven is front all = absurd (cc)
+  told_over before after risen (BigSource a) eleven is front all = absurd (cc)
+  told_over before after risen (TooFewSegments have need) eleven is front all = absurd (cc)
+  told_over before after risen (OverCredit channel received announced) eleven is front all = (channel, received, announced, is.1, front, all)
+  told_over before after risen (Peer peer) eleven is front all = absurd (cc)
+  told_over before after risen Memory eleven is front all = absurd (cc)
+
   -- ---- of the words
 
   is_named : (P : RunOptions → List ℕ → Type 0) → NamesRun words contents P → NamesCommand words
@@ -68,16 +112,17 @@ module _ (words : List (List ℕ)) (functions : Functions) (contents : List ℕ 
   names_command (JobLine line kind) other is = inl (is.job, is.options, is.is_run)
   names_command JobInput other is = inl (is.job, is.options, is.is_run)
   names_command (SourceInput a) other is = inl (is.job, is.options, is.is_run)
-  names_command Link other is = inl (is.job, is.options, is.is_run)
-  names_command (OverCredit channel received announced) other is = inl (is.job, is.options, is.is_run)
+  names_command Link other is = absurd is
+  names_command (OverCredit channel received announced) other is = inl (is.0.job, is.0.options, is.0.is_run)
   names_command (Peer peer) other is = inl (is.job, is.options, is.is_run)
   names_command Output other (inl run) = inl (run.job, run.options, run.is_run)
-  names_command Output other (inr run) = inr (run.0, run.1)
-  names_command (ScriptLine line) other is = inr (is.0, is.1)
-  names_command ScriptInput other is = inr (is.0, is.1)
-  names_command LongScript other is = inr (is.0, is.1)
+  names_command Output other (inr (inl run)) = inr (inl (run.0, run.1))
+  names_command Output other (inr (inr gen)) = inr (inr (gen.0, gen.1, gen.2))
+  names_command (ScriptLine line) other is = inr (inl (is.0, is.1))
+  names_command ScriptInput other is = inr (inl (is.0, is.1))
+  names_command LongScript other is = inr (inl (is.0, is.1))
   names_command (TooFewSegments have need) other (inl run) = inl (run.job, run.options, run.is_run)
-  names_command (TooFewSegments have need) other (inr is) = inr (is.0, is.1)
+  names_command (TooFewSegments have need) other (inr is) = inr (inl (is.0, is.1))
   names_command LongJob other is = inl (is.job, is.options, is.is_run)
   names_command (LongLine a) other is = inl (is.job, is.options, is.is_run)
   names_command (BigSource a) other is = inl (is.job, is.options, is.is_run)
@@ -168,6 +213,12 @@ module _ (words : List (List ℕ)) (functions : Functions) (contents : List ℕ 
   not_both : (job file : List ℕ) (options : RunOptions) → IsRun words job options → IsScript words file → ⊥
   not_both job file options run script = let same = one_command words (RunCommand job options) (ScriptCommand file) run script in cc
 
+  no_gen : (job : List ℕ) (options : RunOptions) (lines seed : ℕ) → IsRun words job options → IsGen words lines seed → ⊥
+  no_gen job options lines seed run gen = let same = one_command words (RunCommand job options) (GenCommand lines seed) run gen in cc
+
+  no_lines : (file : List ℕ) (lines seed : ℕ) → IsScript words file → IsGen words lines seed → ⊥
+  no_lines file lines seed script gen = let same = one_command words (ScriptCommand file) (GenCommand lines seed) script gen in cc
+
   same_run : (a b : List ℕ) (p q : RunOptions) → IsRun words a p → IsRun words b q → (a ≡ b) × (p ≡ q)
   same_run a b p q first second = let same = one_command words (RunCommand a p) (RunCommand b q) first second in ((cc), (cc))
 
@@ -188,7 +239,8 @@ module _ (words : List (List ℕ)) (functions : Functions) (contents : List ℕ 
 
   pub no_command : (fault : Fault) → status_of fault ≡ 2 → IsFaultOf words functions contents fault → NamesCommand words → ⊥
   no_command (Usage kind) two is (inl run) = usage_not kind run.0 run.1 run.2 is
-  no_command (Usage kind) two is (inr script) = let none = no_usage_fault words (ScriptCommand script.0) script.1 in cc
+  no_command (Usage kind) two is (inr (inl script)) = let none = no_usage_fault words (ScriptCommand script.0) script.1 in cc
+  no_command (Usage kind) two is (inr (inr gen)) = let none = no_usage_fault words (GenCommand gen.0 gen.1) gen.2 in cc
   no_command (JobLine line kind) two is named = absurd (cc)
   no_command JobInput two is named = absurd (cc)
   no_command (SourceInput a) two is named = absurd (cc)
@@ -220,11 +272,12 @@ module _ (words : List (List ℕ)) (functions : Functions) (contents : List ℕ 
     text_refused bad (JobLine line kind) is = (0, omega arith, refl)
     text_refused bad JobInput is = (1, omega arith, refl)
     text_refused bad (SourceInput a) is = (1, omega arith, refl)
-    text_refused bad Link is = absurd (no_good_text options text tells _ bad is)
-    text_refused bad (OverCredit channel received announced) is = absurd (no_good_text options text tells _ bad is)
+    text_refused bad Link is = absurd is
+    text_refused bad (OverCredit channel received announced) is = absurd (no_good_text options text tells _ bad is.0)
     text_refused bad (Peer peer) is = absurd (no_good_text options text tells _ bad is)
     text_refused bad Output (inl run) = absurd (no_good_text options text tells _ bad run)
-    text_refused bad Output (inr run) = absurd (no_script run.0 run.1)
+    text_refused bad Output (inr (inl run)) = absurd (no_script run.0 run.1)
+    text_refused bad Output (inr (inr gen)) = absurd (no_gen tells.job options gen.0 gen.1 tells.is_run gen.2)
     text_refused bad LongJob is = let long = told_of options text tells (λ o t. JOB_MAX < length t) is in absurd (let fits = bad.0 in omega (arith, fits, long))
     text_refused bad (LongLine a) is = absurd (no_good_text options text tells _ bad is)
     text_refused bad (BigSource a) is = absurd (no_good_text options text tells _ bad is)
@@ -240,11 +293,12 @@ module _ (words : List (List ℕ)) (functions : Functions) (contents : List ℕ 
     job_refused long (JobLine line kind) is = let fits = (told_of options text tells (λ o t. (length t ≤ JOB_MAX) × (first_fault functions t ≡ Some (line, kind))) is).0 in absurd (omega (arith, fits, long))
     job_refused long JobInput is = (1, omega arith, refl)
     job_refused long (SourceInput a) is = (1, omega arith, refl)
-    job_refused long Link is = absurd (no_long_text options text tells _ long is)
-    job_refused long (OverCredit channel received announced) is = absurd (no_long_text options text tells _ long is)
+    job_refused long Link is = absurd is
+    job_refused long (OverCredit channel received announced) is = absurd (no_long_text options text tells _ long is.0)
     job_refused long (Peer peer) is = absurd (no_long_text options text tells _ long is)
     job_refused long Output (inl run) = absurd (no_long_text options text tells _ long run)
-    job_refused long Output (inr run) = absurd (no_script run.0 run.1)
+    job_refused long Output (inr (inl run)) = absurd (no_script run.0 run.1)
+    job_refused long Output (inr (inr gen)) = absurd (no_gen tells.job options gen.0 gen.1 tells.is_run gen.2)
     job_refused long LongJob is = (0, omega arith, refl)
     job_refused long (LongLine a) is = (0, omega arith, refl)
     job_refused long (BigSource a) is = (0, omega arith, refl)
@@ -287,15 +341,16 @@ module _ (words : List (List ℕ)) (functions : Functions) (contents : List ℕ 
     -- where the pool is too small no work is done
     pub pool_not_done : (P : List ℕ → Type 0) → options.pool < segments_needed job → Prints words functions contents P → ⊥
     pool_not_done P few (inl named) = not_ready _ few named
-    pool_not_done P few (inr script) = names_script script.0 script.1
+    pool_not_done P few (inr (inl script)) = names_script script.0 script.1
+    pool_not_done P few (inr (inr gen)) = no_gen run.tells.job options gen.0 gen.1 run.tells.is_run gen.2
 
     pub pool_refused : options.pool < segments_needed job → (fault : Fault) → IsFaultOf words functions contents fault → Contains (10 ∷ 4 ∷ 70 ∷ []) (status_of fault)
     pool_refused few (Usage kind) is = absurd (usage_no kind is)
     pool_refused few (JobLine line kind) is = absurd (no_line line kind is)
     pool_refused few JobInput is = (1, omega arith, refl)
     pool_refused few (SourceInput b) is = (1, omega arith, refl)
-    pool_refused few Link is = absurd (not_ready _ few is)
-    pool_refused few (OverCredit channel received announced) is = absurd (not_ready _ few is)
+    pool_refused few Link is = absurd is
+    pool_refused few (OverCredit channel received announced) is = absurd (not_ready _ few is.0)
     pool_refused few (Peer peer) is = absurd (not_ready _ few is)
     pool_refused few Output is = absurd (pool_not_done (λ text. ⊤) few is)
     pool_refused few LongJob is = (0, omega arith, refl)
@@ -335,25 +390,26 @@ module _ (words : List (List ℕ)) (functions : Functions) (contents : List ℕ 
 
       -- no run is done where a source is over its limit
       pub not_done : (P : List ℕ → Type 0) (a : ℕ) → a < tasks job 0 → IsOverLimit (bytes a) → Prints words functions contents P → ⊥
-      not_done P a inside over (inr script) = names_script script.0 script.1
+      not_done P a inside over (inr (inl script)) = names_script script.0 script.1
+      not_done P a inside over (inr (inr gen)) = no_gen run.tells.job options gen.0 gen.1 run.tells.is_run gen.2
       not_done P a inside over (inl runs) =
           let it = good options run.text run.tells (λ o j. HasPool o j × ((bs : ℕ → List ℕ) → TellsSources j contents bs → AreWithinLimits j bs × P (table_text (tally j (λ b. lines (bs b)))))) runs in
           let many = same_many it.2.0 it.2.1 in
           (it.2.2.1 bytes (tells_too it.2.0 it.2.1)).0 a (omega (arith, many, inside)) over
 
-      pub source_refused : (a : ℕ) → a < tasks job 0 → IsOverLimit (bytes a) → (fault : Fault) → IsFaultOf words functions contents fault → Contains (10 ∷ 4 ∷ 6 ∷ 11 ∷ 12 ∷ 70 ∷ []) (status_of fault)
+      pub source_refused : (a : ℕ) → a < tasks job 0 → IsOverLimit (bytes a) → (fault : Fault) → IsFaultOf words functions contents fault → Contains (10 ∷ 4 ∷ 11 ∷ 12 ∷ 70 ∷ []) (status_of fault)
       source_refused a inside over (Usage kind) is = absurd (usage_no kind is)
       source_refused a inside over (JobLine line kind) is = absurd (no_line line kind is)
       source_refused a inside over JobInput is = (1, omega arith, refl)
       source_refused a inside over (SourceInput b) is = (1, omega arith, refl)
-      source_refused a inside over Link is = (2, omega arith, refl)
-      source_refused a inside over (OverCredit channel received announced) is = (3, omega arith, refl)
-      source_refused a inside over (Peer peer) is = (4, omega arith, refl)
+      source_refused a inside over Link is = absurd is
+      source_refused a inside over (OverCredit channel received announced) is = (2, omega arith, refl)
+      source_refused a inside over (Peer peer) is = (3, omega arith, refl)
       source_refused a inside over Output is = absurd (not_done (λ text. ⊤) a inside over is)
       source_refused a inside over LongJob is = absurd (no_long_job is)
       source_refused a inside over (LongLine b) is = (0, omega arith, refl)
       source_refused a inside over (BigSource b) is = (0, omega arith, refl)
-      source_refused a inside over Memory is = (5, omega arith, refl)
+      source_refused a inside over Memory is = (4, omega arith, refl)
       source_refused a inside over (ScriptLine line) is = absurd (names_script is.0 is.1)
       source_refused a inside over ScriptInput is = absurd (names_script is.0 is.1)
       source_refused a inside over LongScript is = absurd (names_script is.0 is.1)
@@ -367,19 +423,19 @@ module _ (words : List (List ℕ)) (functions : Functions) (contents : List ℕ 
           let many = same_many it.2.0 it.2.1 in
           within b (omega (arith, many, inside)) (leads (bytes b) (is_told it.2.0 it.2.1 b inside P it.2.2.1.1))
 
-      pub completes : HasPool options job → AreWithinLimits job bytes → (fault : Fault) → (status_of fault ≡ 4 → ⊥) → (status_of fault ≡ 7 → ⊥) → IsFaultOf words functions contents fault → Contains (0 ∷ 6 ∷ 11 ∷ 12 ∷ 70 ∷ []) (status_of fault)
+      pub completes : HasPool options job → AreWithinLimits job bytes → (fault : Fault) → (status_of fault ≡ 4 → ⊥) → (status_of fault ≡ 7 → ⊥) → IsFaultOf words functions contents fault → Contains (0 ∷ 11 ∷ 12 ∷ 70 ∷ []) (status_of fault)
       completes enough within (Usage kind) input output is = absurd (usage_no kind is)
       completes enough within (JobLine line kind) input output is = absurd (no_line line kind is)
       completes enough within JobInput input output is = absurd (input refl)
       completes enough within (SourceInput b) input output is = absurd (input refl)
-      completes enough within Link input output is = (1, omega arith, refl)
-      completes enough within (OverCredit channel received announced) input output is = (2, omega arith, refl)
-      completes enough within (Peer peer) input output is = (3, omega arith, refl)
+      completes enough within Link input output is = absurd is
+      completes enough within (OverCredit channel received announced) input output is = (1, omega arith, refl)
+      completes enough within (Peer peer) input output is = (2, omega arith, refl)
       completes enough within Output input output is = absurd (output refl)
       completes enough within LongJob input output is = absurd (no_long_job is)
       completes enough within (LongLine b) input output is = absurd (no_source b (λ bs. HasLongLine (lines bs)) (λ bs long. inr long) within is)
       completes enough within (BigSource b) input output is = absurd (no_source b (λ bs. SOURCE_MAX < length bs) (λ bs big. inl big) within is)
-      completes enough within Memory input output is = (4, omega arith, refl)
+      completes enough within Memory input output is = (3, omega arith, refl)
       completes enough within (ScriptLine line) input output is = absurd (names_script is.0 is.1)
       completes enough within ScriptInput input output is = absurd (names_script is.0 is.1)
       completes enough within LongScript input output is = absurd (names_script is.0 is.1)
@@ -404,7 +460,8 @@ module _ (words : List (List ℕ)) (functions : Functions) (contents : List ℕ 
     -- what is printed is replied to a script of the text
     pub script_printed : (P : List ℕ → Type 0) → Prints words functions contents P → Replies P text
     script_printed P (inl run) = absurd (no_job_too _ run)
-    script_printed P (inr run) = told_script (Replies P) run
+    script_printed P (inr (inl run)) = told_script (Replies P) run
+    script_printed P (inr (inr gen)) = absurd (no_lines tells.file gen.0 gen.1 tells.is_script gen.2)
 
     module _ (clear : ScriptTextHasNoBadLine) (one : ScriptTextIsOfOneScript) where
       pub no_bad_too : (P : Script → Type 0) → IsNoScript text → IsScriptWith P text → ⊥
@@ -437,8 +494,8 @@ module _ (words : List (List ℕ)) (functions : Functions) (contents : List ℕ 
       script_refused bad LongJob is = absurd (no_job_too _ is)
       script_refused bad (LongLine a) is = absurd (no_job_too _ is)
       script_refused bad (BigSource a) is = absurd (no_job_too _ is)
-      script_refused bad Link is = absurd (no_job_too _ is)
-      script_refused bad (OverCredit channel received announced) is = absurd (no_job_too _ is)
+      script_refused bad Link is = absurd is
+      script_refused bad (OverCredit channel received announced) is = absurd (no_job_too _ is.0)
       script_refused bad (Peer peer) is = absurd (no_job_too _ is)
 
       pub over_refused : PassesScriptLimit text → (fault : Fault) → IsFaultOf words functions contents fault → Contains (10 ∷ 4 ∷ 70 ∷ []) (status_of fault)
@@ -455,8 +512,8 @@ module _ (words : List (List ℕ)) (functions : Functions) (contents : List ℕ 
       over_refused over LongJob is = absurd (no_job_too _ is)
       over_refused over (LongLine a) is = absurd (no_job_too _ is)
       over_refused over (BigSource a) is = absurd (no_job_too _ is)
-      over_refused over Link is = absurd (no_job_too _ is)
-      over_refused over (OverCredit channel received announced) is = absurd (no_job_too _ is)
+      over_refused over Link is = absurd is
+      over_refused over (OverCredit channel received announced) is = absurd (no_job_too _ is.0)
       over_refused over (Peer peer) is = absurd (no_job_too _ is)
 
       -- no work is done where the text is over its limit, or of a script with too few segments
@@ -481,6 +538,34 @@ module _ (words : List (List ℕ)) (functions : Functions) (contents : List ℕ 
       script_completes good LongJob input output is = absurd (no_job_too _ is)
       script_completes good (LongLine a) input output is = absurd (no_job_too _ is)
       script_completes good (BigSource a) input output is = absurd (no_job_too _ is)
-      script_completes good Link input output is = absurd (no_job_too _ is)
-      script_completes good (OverCredit channel received announced) input output is = absurd (no_job_too _ is)
+      script_completes good Link input output is = absurd is
+      script_completes good (OverCredit channel received announced) input output is = absurd (no_job_too _ is.0)
       script_completes good (Peer peer) input output is = absurd (no_job_too _ is)
+
+  -- ---- lines of a seed
+
+  module _ (lines seed : ℕ) (gen : IsGen words lines seed) where
+    names_no_job : (P : RunOptions → List ℕ → Type 0) → NamesRun words contents P → ⊥
+    names_no_job P run = no_gen run.job run.options lines seed run.is_run gen
+
+    names_no_script : (P : List ℕ → Type 0) → NamesScript words contents P → ⊥
+    names_no_script P script = no_lines script.0 lines seed script.1 gen
+
+    pub gen_completes : (fault : Fault) → (status_of fault ≡ 7 → ⊥) → IsFaultOf words functions contents fault → Contains (0 ∷ 70 ∷ []) (status_of fault)
+    gen_completes (Usage kind) output is = absurd (let none = no_usage_fault words (GenCommand lines seed) gen in cc)
+    gen_completes Memory output is = (1, omega arith, refl)
+    gen_completes Output output is = absurd (output refl)
+    gen_completes (ScriptLine line) output is = absurd (names_no_script _ is)
+    gen_completes ScriptInput output is = absurd (names_no_script _ is)
+    gen_completes LongScript output is = absurd (names_no_script _ is)
+    gen_completes (TooFewSegments have need) output (inl run) = absurd (names_no_job _ run)
+    gen_completes (TooFewSegments have need) output (inr is) = absurd (names_no_script _ is)
+    gen_completes (JobLine line kind) output is = absurd (names_no_job _ is)
+    gen_completes JobInput output is = absurd (names_no_job _ is)
+    gen_completes (SourceInput a) output is = absurd (names_no_job _ is)
+    gen_completes LongJob output is = absurd (names_no_job _ is)
+    gen_completes (LongLine a) output is = absurd (names_no_job _ is)
+    gen_completes (BigSource a) output is = absurd (names_no_job _ is)
+    gen_completes Link output is = absurd is
+    gen_completes (OverCredit channel received announced) output is = absurd (names_no_job _ is.0)
+    gen_completes (Peer peer) output is = absurd (names_no_job _ is)

@@ -1,6 +1,7 @@
 -- What a command does, and why it is refused.
 use Rattle.std.specs.Prelude.{◌≡◌, ◌⊎◌, ⊤, ◌<◌, ◌≤◌, ℕ, length, List, ◌++◌, Option, Some, None, IfSome}
 use Rattle.flow_defs.specs.declared.job.Job.{Job}
+use Rattle.flow_defs.specs.declared.task.ChannelId.{ChannelId}
 use Rattle.flow_defs.specs.Jobs.{segments_needed, tasks}
 use Rattle.flow_defs.specs.Lines.{lines}
 use Rattle.flow_defs.specs.Tables.{table_text}
@@ -8,7 +9,7 @@ use Rattle.plain_machine.specs.Worth.{tally}
 use Rattle.stage_fns.specs.Functions.{Functions}
 use Rattle.job_text.specs.declared.fault.JobFault.{JobFault}
 use Rattle.job_text.specs.declared.words.RunOptions.{RunOptions}
-use Rattle.job_text.specs.Words.{IsRun, IsScript, usage_fault}
+use Rattle.job_text.specs.Words.{IsRun, IsScript, IsGen, usage_fault}
 use Rattle.job_text.specs.JobText.{IsJobText}
 use Rattle.job_text.specs.JobFaults.{first_fault}
 use Rattle.job_cli.specs.declared.run.TheConstants.{JOB_MAX}
@@ -18,9 +19,11 @@ use Rattle.job_cli.specs.Causes.{status_of}
 use Rattle.job_cli.specs.FaultTexts.{fault_line}
 use Rattle.job_cli.specs.Front.{GotFront}
 use Rattle.job_plan.specs.Limits.{IsOverLimit}
+use Rattle.job_outcome.specs.Grounds.{IsOverByOne}
 use Rattle.job_cli.specs.Sources.{source_name, IsOfSource, IsRunFault}
 use Rattle.job_cli.specs.declared.script.TheConstants.{SCRIPT_MAX}
 use Rattle.job_cli.specs.Scripts.{NamesScript, IsScriptWith, HasTooFew, HasBadLine, ScriptRunsTo, HasScripted, HasScriptedInPart}
+use Rattle.line_generator.specs.Generated.{generated}
 
 -- The job's sources are told to have these bytes.
 abbrev pub TellsSources : Job → (List ℕ → Option (List ℕ)) → (ℕ → List ℕ) → Type 0
@@ -28,7 +31,10 @@ TellsSources job contents bytes = (a : ℕ) → a < tasks job 0 → contents (so
 
 -- The words are a command's.
 abbrev pub NamesCommand : List (List ℕ) → Type 0
-NamesCommand words = ((job : List ℕ) × (options : RunOptions) × IsRun words job options) ⊎ ((file : List ℕ) × IsScript words file)
+NamesCommand words =
+    ((job : List ℕ) × (options : RunOptions) × IsRun words job options)
+    ⊎ ((file : List ℕ) × IsScript words file)
+    ⊎ ((lines : ℕ) × (seed : ℕ) × IsGen words lines seed)
 
 -- None of a job's sources passes a limit.
 abbrev pub AreWithinLimits : Job → (ℕ → List ℕ) → Type 0
@@ -82,19 +88,29 @@ HasRun words functions contents before after = RunsTo words functions contents (
 abbrev pub HasRunInPart : List (List ℕ) → Functions → (List ℕ → Option (List ℕ)) → Option (List ℕ) → Option (List ℕ) → Type 0
 HasRunInPart words functions contents before after = RunsTo words functions contents (λ text. IfSome before (λ had. GotFront had text after))
 
--- The words name a job or a script, and P holds of what is printed of it.
+-- The words ask for lines of a seed, and P holds of the text of these.
+abbrev pub GensTo : List (List ℕ) → (List ℕ → Type 0) → Type 0
+GensTo words P = (lines : ℕ) × (seed : ℕ) × IsGen words lines seed × P (generated seed lines)
+
+-- The words name a job or a script or ask for lines, and P holds of what is printed of it.
 abbrev pub Prints : List (List ℕ) → Functions → (List ℕ → Option (List ℕ)) → (List ℕ → Type 0) → Type 0
-Prints words functions contents P = RunsTo words functions contents P ⊎ ScriptRunsTo words contents P
+Prints words functions contents P = RunsTo words functions contents P ⊎ ScriptRunsTo words contents P ⊎ GensTo words P
 
 -- The output got all that the command is to print, or a front of it, and nothing else.
 abbrev pub HasDone : List (List ℕ) → Functions → (List ℕ → Option (List ℕ)) → Option (List ℕ) → Option (List ℕ) → Type 0
-HasDone words functions contents before after = HasRun words functions contents before after ⊎ HasScripted words contents before after
+HasDone words functions contents before after =
+    HasRun words functions contents before after
+    ⊎ HasScripted words contents before after
+    ⊎ GensTo words (λ text. IfSome before (λ had. after ≡ Some (had ++ text)))
 
 abbrev pub HasDoneInPart : List (List ℕ) → Functions → (List ℕ → Option (List ℕ)) → Option (List ℕ) → Option (List ℕ) → Type 0
-HasDoneInPart words functions contents before after = HasRunInPart words functions contents before after ⊎ HasScriptedInPart words contents before after
+HasDoneInPart words functions contents before after =
+    HasRunInPart words functions contents before after
+    ⊎ HasScriptedInPart words contents before after
+    ⊎ GensTo words (λ text. IfSome before (λ had. GotFront had text after))
 
 -- The fault is the first of the words, or of the text of the job or the script that they name, or else one of that job's pool, its
--- sources or its exchange, or of that script's pool, as far as these are told.
+-- sources or its exchange, or of that script's pool, as far as these are told. It is none of a link: those of a job are in memory.
 abbrev pub IsFaultOf : List (List ℕ) → Functions → (List ℕ → Option (List ℕ)) → Fault → Type 0
 IsFaultOf words functions contents (Usage kind) = usage_fault words ≡ Some kind
 IsFaultOf words functions contents JobInput = NamesJob words contents (λ text. ⊤)
@@ -103,8 +119,8 @@ IsFaultOf words functions contents (JobLine line kind) = NamesJob words contents
 IsFaultOf words functions contents (SourceInput a) = NamesReadyJob words functions contents (λ job. IsRunFault job contents (SourceInput a))
 IsFaultOf words functions contents (LongLine a) = NamesReadyJob words functions contents (λ job. IsRunFault job contents (LongLine a))
 IsFaultOf words functions contents (BigSource a) = NamesReadyJob words functions contents (λ job. IsRunFault job contents (BigSource a))
-IsFaultOf words functions contents Link = NamesReadyJob words functions contents (λ job. ⊤)
-IsFaultOf words functions contents (OverCredit channel received announced) = NamesReadyJob words functions contents (λ job. ⊤)
+IsFaultOf words functions contents Link = ⊥
+IsFaultOf words functions contents (OverCredit channel received announced) = NamesReadyJob words functions contents (λ job. ⊤) × IsOverByOne received announced
 IsFaultOf words functions contents (Peer fault) = NamesReadyJob words functions contents (λ job. ⊤)
 IsFaultOf words functions contents ScriptInput = NamesScript words contents (λ text. ⊤)
 IsFaultOf words functions contents LongScript = NamesScript words contents (λ text. SCRIPT_MAX < length text)
@@ -122,6 +138,13 @@ IsTold words functions contents before after risen status =
     ⊎ ((fault : Fault) × (status ≡ status_of fault) × IsFaultOf words functions contents fault
     × IfSome before (λ had. GotFront had (fault_line fault) after)
     × ((risen → ⊥) → IfSome before (λ had. after ≡ Some (had ++ fault_line fault))))
+
+-- It got the line of data over the credit of a channel, as far as it took it. One more came there than was announced.
+abbrev pub HasToldOverCredit : Option (List ℕ) → Option (List ℕ) → Type 0 → Type 0
+HasToldOverCredit before after risen =
+    (channel : ChannelId) × (received announced : ℕ) × IsOverByOne received announced
+    × IfSome before (λ had. GotFront had (fault_line (OverCredit channel received announced)) after)
+    × ((risen → ⊥) → IfSome before (λ had. after ≡ Some (had ++ fault_line (OverCredit channel received announced))))
 
 -- The text is within its limit, and is no job's.
 abbrev pub IsNoJob : Functions → List ℕ → Type 0

@@ -9,6 +9,7 @@ use Rattle.job_plan.specs.declared.limits.TheConstants.{SOURCE_MAX}
 use Rattle.job_cli.specs.declared.fault.Fault.{Fault}
 use Rattle.job_cli.specs.declared.fault.Fault.TheVariants.{SourceInput, LongLine, BigSource, Link, OverCredit, Peer, Memory}
 use Rattle.job_plan.specs.Limits.{HasLongLine}
+use Rattle.job_outcome.specs.Grounds.{IsOverByOne}
 
 -- The file that a source of a job names.
 abbrev pub source_name : Job → ℕ → List ℕ
@@ -26,10 +27,11 @@ IsSourceFault job contents (BigSource a) = IsOfSource job contents a (λ bytes. 
 IsSourceFault job contents Memory = ⊤
 IsSourceFault job contents fault = ⊥
 
--- A run of the job over the exchange has this fault. Nothing is said of when a link or the other end of a connection has one.
+-- A run of the job over the exchange has this fault. Its links are in memory, and none of their calls is to fail. Nothing is said of when
+-- the other end of a connection has a fault beyond its numbers.
 abbrev pub IsRunFault : Job → (List ℕ → Option (List ℕ)) → Fault → Type 0
-IsRunFault job contents Link = ⊤
-IsRunFault job contents (OverCredit channel received announced) = ⊤
+IsRunFault job contents Link = ⊥
+IsRunFault job contents (OverCredit channel received announced) = IsOverByOne received announced
 IsRunFault job contents (Peer fault) = ⊤
 IsRunFault job contents fault = IsSourceFault job contents fault
 

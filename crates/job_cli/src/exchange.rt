@@ -108,7 +108,7 @@ where
     }
 }
 
-// Runs the job over these inputs.
+// Runs the job over these inputs. Its links are in memory, and none of them fails.
 fn table_of_inputs<R: Threads + Wait + Sync, S: Source + Send + Drop>(
     rt: &R,
     alloc: Global,
@@ -123,7 +123,7 @@ fn table_of_inputs<R: Threads + Wait + Sync, S: Source + Send + Drop>(
     requires inputs { length inputs.old.items ≡ tasks job.now 0 }
     ensures told { IfOk result (λ table. (bytes : ℕ → List ℕ) → AreTold S.left inputs.old.items bytes →
         AreWithin job.now bytes × (table ≡ tally job.now (λ a. lines (bytes a)))) }
-    ensures cause { IfErr result (IsRunCause S.left S.faults inputs.old.items inputs.new.items ⊤) }
+    ensures cause { IfErr result (IsRunCause S.left S.faults inputs.old.items inputs.new.items ⊥ (λ _. ⊤)) }
     ensures inputs { ComeBack S.faults inputs.old.items inputs.new.items }
 {
     let mut net = MemoryLinks::new(

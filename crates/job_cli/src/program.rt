@@ -6,12 +6,12 @@ use crate::output::tell;
 use crate::top::top;
 use flow_defs::{AggKind, Bytes, ListOf, StageKind, Word};
 use outside::{Files, Sink};
-use stage_fns::{AggFn, FnTable, StageFn, count, field, keep, upper, words};
+use stage_fns::{AggFn, FnTable, StageFn, count, field, keep, max, sum, upper, words};
 use std::alloc::{AllocError, Global};
 use std::sync::Wait;
 use std::thread::Threads;
 
-/// Calls `top` with the four functions of stages and that of the aggregate.
+/// Calls `top` with the four functions of stages and the three of aggregates.
 pub fn run_program<R: Threads + Wait + Sync, F: Files, O: Sink, E: Sink>(
     rt: &R,
     alloc: Global,
@@ -87,5 +87,9 @@ where
     functions
         .add_agg(AggKind::Count, f)
         .map_err(|_| AllocError)?;
+    let f: AggFn = Box::new(alloc, |record: &[u8], old: u64| sum(record, old))?;
+    functions.add_agg(AggKind::Sum, f).map_err(|_| AllocError)?;
+    let f: AggFn = Box::new(alloc, |record: &[u8], old: u64| max(record, old))?;
+    functions.add_agg(AggKind::Max, f).map_err(|_| AllocError)?;
     Ok(top(rt, alloc, command, &functions, files, out, err))
 }

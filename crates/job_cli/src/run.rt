@@ -19,6 +19,7 @@ use crate::script::replies_of_file;
 use flow_defs::{Bytes, Job, ListOf, Word};
 use job_text::laws::job_texts_are_clear;
 use job_text::{Command, JobReadFault, RunOptions, WordFault, read_job, read_words};
+use line_generator::generate;
 use outside::{Files, Sink};
 use stage_fns::FnTable;
 use std::alloc::{AllocError, Global};
@@ -97,6 +98,7 @@ where
             tally_text(rt, alloc, job.text(), options, functions, files)
         }
         Command::Script { file } => replies_of_file(rt, alloc, file.text(), files),
+        Command::Gen { lines, seed } => Ok(generate(alloc, lines, seed)?),
     }
 }
 

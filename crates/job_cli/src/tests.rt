@@ -125,6 +125,18 @@ fn a_run_prints_the_tally_of_its_sources(rt: HostRuntime) -> Result<(), Fail> {
             "a\t2\nb\t1\n",
         ),
         (
+            "source in\naggregate sum 1\n",
+            "k=18446744073709551615\nk=2\n",
+            "",
+            "k\t1\n",
+        ),
+        (
+            "source in\naggregate max 1\n",
+            "k=7\nk=x\nm\n",
+            "",
+            "k\t7\nm\t0\n",
+        ),
+        (
             "source in\nstage field:2 1 rebalance\naggregate count 1\n",
             "a,b,c\na\na,\n",
             "",
@@ -176,6 +188,23 @@ fn a_script_prints_the_replies_to_its_events(rt: HostRuntime) -> Result<(), Fail
         assert_eq!(rt; left.status, 0, "`{script}`");
         assert_eq!(rt; left.out.bytes(), replies.as_bytes(), "`{script}`");
         assert_eq!(rt; left.err.bytes(), b"".as_slice());
+    }
+    Ok(())
+}
+
+#[test]
+fn lines_are_made_of_a_seed(rt: HostRuntime) -> Result<(), Fail> {
+    let alloc = rt.alloc();
+    for (words, room, status, text) in [
+        ("gen 0 9", 0, 0, ""),
+        ("gen 1 0", 9, 0, "w807 w25\n"),
+        ("gen 1 1", 100, 0, "w774 w35\n"),
+        ("gen 2 1", 9, 7, "w774 w35\n"),
+    ] {
+        let files = files(alloc, COUNT, b"", "", 9, 0)?;
+        let left = left_by(&rt, alloc, words, files, room, 100)?;
+        assert_eq!(rt; left.status, status, "`{words}`");
+        assert_eq!(rt; left.out.bytes(), text.as_bytes(), "`{words}`");
     }
     Ok(())
 }

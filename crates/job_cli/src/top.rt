@@ -5,8 +5,9 @@ ghost use Rattle.flow_defs.specs.declared.job.Job.{Job};
 ghost use Rattle.outside.specs.Faults.{HasRisen};
 ghost use Rattle.stage_fns.specs.Kinds.{kinds};
 ghost use Rattle.job_plan.specs.Limits.{IsOverLimit};
+ghost use Rattle.job_text.specs.Words.{IsGen};
 ghost use Rattle.job_text.specs.declared.words.RunOptions.{RunOptions};
-ghost use Rattle.job_cli.specs.Run.{NamesCommand, NamesJob, HasDone, HasDoneInPart, HasPool, IsNoJob, IsTold, PassesLimit, TellsJob, TellsRun, TellsSources, AreWithinLimits};
+ghost use Rattle.job_cli.specs.Run.{NamesCommand, NamesJob, HasDone, HasDoneInPart, HasPool, HasToldOverCredit, IsNoJob, IsTold, PassesLimit, TellsJob, TellsRun, TellsSources, AreWithinLimits};
 ghost use Rattle.job_cli.specs.Scripts.{NamesScript, HasEnough, IsNoScript, IsScriptWith, PassesScriptLimit, TellsScript};
 ghost use Rattle.job_cli.specs.declared.run.TheConstants.{JOB_MAX};
 
@@ -22,15 +23,16 @@ use std::sync::Wait;
 use std::thread::Threads;
 
 /// Does the command that the words are, and answers the status with which the program ends: 0 done,
-/// 2 the words are no command, 3 the text is no job's or no script's, 4 a fault of an input, 6 one of a link,
-/// 7 one of the output, 10 a limit is passed, 11 more came on a channel than its credit allows, 12 another fault of
+/// 2 the words are no command, 3 the text is no job's or no script's, 4 a fault of an input, 6 one of a link, which
+/// never comes over links in memory, 7 one of the output, 10 a limit is passed, 11 more came on a channel than its credit allows, 12 another fault of
 /// a connection's other end, 70 want of memory. With another status than 0, `err` gets one line that tells of the
 /// fault.
 ///
 /// A run does all tasks of its job at once, each in a thread of its own where threads can be made, and reads its
 /// sources at once, in pieces. The tasks are joined by links in memory. Its memory grows with the keys, the longest
 /// line and what the stages give for it, and with the pool of segments; the order in which tasks come to their turns
-/// changes nothing in what is printed. A script is held whole, with all replies to it.
+/// changes nothing in what is printed. A script is held whole, with all replies to it, and so are the lines that are
+/// made of a seed.
 pub fn top<R: Threads + Wait + Sync, F: Files, O: Sink, E: Sink>(
     rt: &R,
     alloc: Global,
@@ -43,7 +45,7 @@ pub fn top<R: Threads + Wait + Sync, F: Files, O: Sink, E: Sink>(
 where
     F::Input: Drop,
     // Status 0 comes only where all work was done: the pool was large enough, no source was over a limit, and the output got
-    // the text of the tally, or the replies to all events of the script, and nothing else.
+    // the text of the tally, the replies to all events of the script or the lines of the seed, and nothing else.
     ensures done { result ≡ 0 → HasDone words.now.items (kinds functions.now) (F.contents files.old) (O.got out.old) (O.got out.new) }
 
     // Which status comes where the words are no command, the text is no job's or no script's, or a limit is passed.
@@ -64,7 +66,7 @@ where
         Contains (10 ∷ 4 ∷ 70 ∷ []) result }
     ensures source_refused { (options : RunOptions) (job : Job) (bytes : ℕ → List ℕ) (a : ℕ) →
         TellsRun words.now.items (kinds functions.now) (F.contents files.old) options job → TellsSources job (F.contents files.old) bytes →
-        a < tasks job 0 → IsOverLimit (bytes a) → Contains (10 ∷ 4 ∷ 6 ∷ 11 ∷ 12 ∷ 70 ∷ []) result }
+        a < tasks job 0 → IsOverLimit (bytes a) → Contains (10 ∷ 4 ∷ 11 ∷ 12 ∷ 70 ∷ []) result }
     ensures over_refused { (text : List ℕ) → TellsScript words.now.items (F.contents files.old) text → PassesScriptLimit text →
         Contains (10 ∷ 4 ∷ 70 ∷ []) result }
 
@@ -72,17 +74,23 @@ where
     ensures input { result ≡ 4 → HasRisen (F.faults files.old) (F.faults files.new) }
     ensures output { result ≡ 7 → HasRisen (O.faults out.old) (O.faults out.new) }
 
+    // A job's links are in memory, where none fails. Where data came over the credit, the line that is told says by how much.
+    ensures no_link { result ≢ 6 }
+    ensures over_credit { result ≡ 11 → HasToldOverCredit (E.got err.old) (E.got err.new) (HasRisen (E.faults err.old) (E.faults err.new)) }
+
     // Where the words and the texts are good, no limit is passed and no count rises, all work is done unless memory runs out. That no
-    // link and no other end of a connection has a fault is not said here.
+    // other end of a connection has a fault is not said here.
     ensures complete { (options : RunOptions) (job : Job) (bytes : ℕ → List ℕ) →
         TellsRun words.now.items (kinds functions.now) (F.contents files.old) options job → TellsSources job (F.contents files.old) bytes →
         HasPool options job → AreWithinLimits job bytes →
         (HasRisen (F.faults files.old) (F.faults files.new) → ⊥) → (HasRisen (O.faults out.old) (O.faults out.new) → ⊥) →
-        Contains (0 ∷ 6 ∷ 11 ∷ 12 ∷ 70 ∷ []) result }
+        Contains (0 ∷ 11 ∷ 12 ∷ 70 ∷ []) result }
+    ensures complete_gen { (lines seed : ℕ) → IsGen words.now.items lines seed → (HasRisen (O.faults out.old) (O.faults out.new) → ⊥) →
+        Contains (0 ∷ 70 ∷ []) result }
     ensures complete_script { (text : List ℕ) → TellsScript words.now.items (F.contents files.old) text → IsScriptWith HasEnough text →
         (HasRisen (F.faults files.old) (F.faults files.new) → ⊥) → (HasRisen (O.faults out.old) (O.faults out.new) → ⊥) →
         Contains (0 ∷ 70 ∷ []) result }
-    ensures known { Contains (0 ∷ 2 ∷ 3 ∷ 4 ∷ 6 ∷ 7 ∷ 10 ∷ 11 ∷ 12 ∷ 70 ∷ []) result }
+    ensures known { Contains (0 ∷ 2 ∷ 3 ∷ 4 ∷ 7 ∷ 10 ∷ 11 ∷ 12 ∷ 70 ∷ []) result }
 
     // With another status than 0 and 7 the output got nothing, and with 7 a front of what status 0 writes.
     ensures silent { result ≢ 0 → result ≢ 7 → O.got out.new ≡ O.got out.old }

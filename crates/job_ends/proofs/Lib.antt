@@ -4,4 +4,5 @@ pub mod Carrying
 pub mod Rows
 pub mod Leavings
 pub mod Endings
+pub mod Returns
 pub mod FourEnds

@@ -6,6 +6,7 @@ ghost use Rattle.conn_parts.specs.Shares.{AreOwn};
 ghost use Rattle.job_laws.specs.Ends.{EdgeCarries};
 ghost use Rattle.job_ends.specs.Ended.{AreEnded, AreLoopsEnded, AreSettled, HasLinkFault, LinksTell, faults_in, gate_at, own_at};
 ghost use Rattle.job_ends.specs.Leaving.{HasArrived, HasEdge, RowsGoOn};
+ghost use Rattle.job_ends.specs.Returning.{RowCameBack, RowsCameBack};
 
 use crate::laws::edges_carry;
 use crate::left::{EdgeLeft, take_edge};
@@ -65,6 +66,7 @@ fn settle_edge<'a, 'p, S, N: Links, R: Wait>(
     ensures carry { LinksTell N.Out.sent N.In.got → EdgeCarries job.now number (own_at rows.old number) (gate_at rows.old number) }
     ensures lent { suc (N.lent net.new) ≡ N.lent net.old }
     ensures never_falls { N.faults net.old ≤ N.faults net.new }
+    ensures wires { RowCameBack N.In.got N.In.ended (N.wires net.old) (N.wires net.new) row.old.items }
     ensures fault { (i : ℕ) (place : _) → slice_get row.old.items i ≡ Some place → 0 < faults_in N.Out.faults N.In.faults place → HasRisen (N.faults net.old) (N.faults net.new) }
 {
     let left = take_edge(row);
@@ -96,6 +98,7 @@ pub fn settle_edges<'a, 'p, S, N: Links, R: Wait>(
     ensures rest { AreSettled rows.old rows.new }
     ensures lent { N.lent net.new + suc (last_edge job.now) ≡ N.lent net.old }
     ensures never_falls { N.faults net.old ≤ N.faults net.new }
+    ensures wires { RowsCameBack N.In.got N.In.ended (N.wires net.old) (N.wires net.new) loops.old (suc (last_edge job.now)) }
     ensures fault { HasLinkFault N.Out.faults N.In.faults loops.old → HasRisen (N.faults net.old) (N.faults net.new) }
 {
     for number in 0..edges.len() {

@@ -1,10 +1,12 @@
 -- A cause with which a worker ended has its grounds, and each input comes back.
-use Rattle.std.proofs.Common.{◌≡◌, ◌≢◌, ℕ, zero, suc, ◌<◌, ◌≤◌, List, Option, Some, slice_get, refl, sym, ap, subst, ◌∙◌, arith, inl, inr}
-use Rattle.std.specs.Prelude.{Bool}
+use Rattle.std.proofs.Common.{◌≡◌, ◌≢◌, ℕ, zero, suc, ◌<◌, ◌≤◌, List, [], ◌++◌, Option, Some, slice_get, refl, sym, ap, subst, ◌∙◌, arith, inl, inr}
+use Rattle.std.specs.Prelude.{Bool, IfSome}
 use Rattle.std.proofs.lemmas.Bool.{cases_lt}
 use Rattle.flow_defs.specs.Items.{Items}
 use Rattle.flow_defs.specs.declared.cause.Cause.{Cause}
 use Rattle.flow_defs.specs.declared.cause.Cause.TheVariants as causes
+use Rattle.flow_defs.specs.declared.cause.PeerFault.{PeerFault}
+use Rattle.flow_defs.specs.declared.cause.PeerFault.TheVariants as peers
 use Rattle.flow_defs.specs.declared.job.Job.{Job}
 use Rattle.flow_defs.specs.Jobs.{last_edge, tasks}
 use Rattle.outside.specs.declared.wires.Wire.{Wire}
@@ -12,18 +14,23 @@ use Rattle.outside.specs.Faults.{HasRisen}
 use Rattle.conn_parts.specs.declared.share.ConnShare.{ConnShare}
 use Rattle.conn_parts.specs.declared.share.SharePasses.{SharePasses}
 use Rattle.conn_send.specs.Sending.{IsSendCause as IsSendItemsCause}
-use Rattle.conn_grant.specs.Granting.{EndedBy as ControlEndedBy}
-use Rattle.conn_receive.specs.Receiving.{EndedBy as ItemsEndedBy}
+use Rattle.net_frames.specs.Frames.{all_spelled}
+use Rattle.conn_grant.specs.Granting.{EndedBy as ControlEndedBy, MetPeer as MetAtControl}
+use Rattle.conn_receive.specs.Receiving.{EndedBy as ItemsEndedBy, MetPeer as MetAtItems, arrival_with}
 use Rattle.conn_announce.specs.Announcing.{IsSendCause as IsAnnounceCause}
 use Rattle.task_run.specs.Tasks.{IsSourceCause}
 use Rattle.job_cells.specs.declared.edge.Edge.{Edge}
+use Rattle.job_cells.specs.Edges.{channels_on}
 use Rattle.job_workers.specs.declared.connection.LoopLeft.TheVariants as did
 use Rattle.job_workers.specs.declared.place.Place.TheVariants.{Ended}
 use Rattle.job_workers.specs.Tasks.{IsTakerEnd}
 use Rattle.job_ends.specs.Ended.{TaskPlace, LoopPlace, HasLinkFault, faults_in}
+use Rattle.job_outcome.specs.Grounds.{IsTaskFault, HasPeerFault}
 use Rattle.job_outcome.specs.Outcomes.{HasEnded, StandsAt, IsRunCause, cause_of_task, cause_of_loop}
 use Rattle.job_outcome.specs.Theorems.{HaveRun, IsNewWire, AreLeftIn, InputsComeBack, CausesHaveGrounds}
 use Rattle.job_outcome.proofs.Places.{same_some, some_same, at_place, place_low, all_at, one_of_four}
+use Rattle.job_outcome.proofs.OverCredits.{is_over_by_one}
+use Rattle.job_outcome.proofs.PeerGrounds.{all_came, control_begins, has_ended, items_begin}
 use Rattle.job_outcome.proofs.Running.{EndAt, is_left, row_many, source_at, stage_at, aggregate_at, LoopsEnd, loops_at}
 
 -- A count that rose from nothing is above it.
@@ -33,9 +40,9 @@ risen_above fell rose none (inr full) = omega (arith, full)
 
 -- ---- causes
 
-module _ {S : Type 0} (left : S → Option (List ℕ)) (faults : S → ℕ) (before after : List S) (link : Type 0) where
+module _ {S : Type 0} (left : S → Option (List ℕ)) (faults : S → ℕ) (before after : List S) (link : Type 0) (peer : PeerFault → Type 0) where
   abbrev Ground : Cause → Type 0
-  Ground cause = cause ≢ causes.Done → cause ≢ causes.Stopped → IsRunCause left faults before after link cause
+  Ground cause = cause ≢ causes.Done → cause ≢ causes.Stopped → IsRunCause left faults before after link peer cause
 
   of_source : (a b : ℕ) (old new : S) (cause : Cause) → b ≡ a → slice_get before a ≡ Some old → slice_get after a ≡ Some new →
       IsSourceCause b (left old) (faults old) (faults new) cause → Ground cause
@@ -55,16 +62,26 @@ module _ {S : Type 0} (left : S → Option (List ℕ)) (faults : S → ℕ) (bef
   of_source a b old new (causes.Peer fault) same was is h d s = absurd h
   of_source a b old new causes.Memory same was is h d s = tt
 
-  of_taker : (cause : Cause) → IsTakerEnd cause → Ground cause
-  of_taker causes.Done h d s = absurd (d refl)
-  of_taker causes.Stopped h d s = absurd (s refl)
-  of_taker (causes.Input source) h d s = absurd h
-  of_taker causes.Link h d s = absurd h
-  of_taker (causes.LongLine source) h d s = absurd h
-  of_taker (causes.BigSource source) h d s = absurd h
-  of_taker (causes.OverCredit channel received announced) h d s = tt
-  of_taker (causes.Peer fault) h d s = tt
-  of_taker causes.Memory h d s = tt
+  of_taker : ((fault : PeerFault) → IsTaskFault fault → peer fault) → (cause : Cause) → IsTakerEnd cause → Ground cause
+  of_taker found causes.Done h d s = absurd (d refl)
+  of_taker found causes.Stopped h d s = absurd (s refl)
+  of_taker found (causes.Input source) h d s = absurd h
+  of_taker found causes.Link h d s = absurd h
+  of_taker found (causes.LongLine source) h d s = absurd h
+  of_taker found (causes.BigSource source) h d s = absurd h
+  of_taker found (causes.OverCredit channel received announced) h d s = absurd h
+  of_taker found (causes.Peer peers.Left) h d s = found peers.Left tt
+  of_taker found (causes.Peer peers.Barrier) h d s = found peers.Barrier tt
+  of_taker found (causes.Peer peers.BadFrame) h d s = absurd h
+  of_taker found (causes.Peer peers.Sequence) h d s = absurd h
+  of_taker found (causes.Peer peers.Size) h d s = absurd h
+  of_taker found (causes.Peer peers.AfterEnd) h d s = absurd h
+  of_taker found (causes.Peer peers.Channel) h d s = absurd h
+  of_taker found (causes.Peer peers.Credit) h d s = absurd h
+  of_taker found (causes.Peer peers.Resume) h d s = absurd h
+  of_taker found (causes.Peer peers.Cut) h d s = absurd h
+  of_taker found (causes.Peer peers.Refused) h d s = absurd h
+  of_taker found causes.Memory h d s = tt
 
   of_sender : (cause : Cause) → IsSendItemsCause cause → (cause ≡ causes.Link → link) → Ground cause
   of_sender causes.Done h l d s = absurd (d refl)
@@ -73,8 +90,8 @@ module _ {S : Type 0} (left : S → Option (List ℕ)) (faults : S → ℕ) (bef
   of_sender causes.Link h l d s = l refl
   of_sender (causes.LongLine source) h l d s = absurd h
   of_sender (causes.BigSource source) h l d s = absurd h
-  of_sender (causes.OverCredit channel received announced) h l d s = tt
-  of_sender (causes.Peer fault) h l d s = tt
+  of_sender (causes.OverCredit channel received announced) h l d s = absurd h
+  of_sender (causes.Peer fault) h l d s = absurd h
   of_sender causes.Memory h l d s = tt
 
   of_announcer : (cause : Cause) → IsAnnounceCause cause → (cause ≡ causes.Link → link) → Ground cause
@@ -84,33 +101,36 @@ module _ {S : Type 0} (left : S → Option (List ℕ)) (faults : S → ℕ) (bef
   of_announcer causes.Link h l d s = l refl
   of_announcer (causes.LongLine source) h l d s = absurd h
   of_announcer (causes.BigSource source) h l d s = absurd h
-  of_announcer (causes.OverCredit channel received announced) h l d s = tt
-  of_announcer (causes.Peer fault) h l d s = tt
+  of_announcer (causes.OverCredit channel received announced) h l d s = absurd h
+  of_announcer (causes.Peer fault) h l d s = absurd h
   of_announcer causes.Memory h l d s = tt
 
   of_control : (share : ConnShare) (passes : SharePasses) (was_ended ended : Option Bool) (rest : List ℕ) (fell rose : ℕ) (cause : Cause) →
-      ControlEndedBy share passes was_ended ended rest fell rose cause → (HasRisen fell rose → link) → Ground cause
-  of_control share passes was_ended ended rest fell rose causes.Done h l d s = absurd (d refl)
-  of_control share passes was_ended ended rest fell rose causes.Stopped h l d s = absurd (s refl)
-  of_control share passes was_ended ended rest fell rose (causes.Input source) h l d s = absurd h
-  of_control share passes was_ended ended rest fell rose causes.Link h l d s = l h
-  of_control share passes was_ended ended rest fell rose (causes.LongLine source) h l d s = absurd h
-  of_control share passes was_ended ended rest fell rose (causes.BigSource source) h l d s = absurd h
-  of_control share passes was_ended ended rest fell rose (causes.OverCredit channel received announced) h l d s = tt
-  of_control share passes was_ended ended rest fell rose (causes.Peer fault) h l d s = tt
-  of_control share passes was_ended ended rest fell rose causes.Memory h l d s = tt
+      ControlEndedBy share passes was_ended ended rest fell rose cause → (HasRisen fell rose → link) →
+      ((fault : PeerFault) → MetAtControl share passes was_ended ended rest fault → peer fault) → Ground cause
+  of_control share passes was_ended ended rest fell rose causes.Done h l p d s = absurd (d refl)
+  of_control share passes was_ended ended rest fell rose causes.Stopped h l p d s = absurd (s refl)
+  of_control share passes was_ended ended rest fell rose (causes.Input source) h l p d s = absurd h
+  of_control share passes was_ended ended rest fell rose causes.Link h l p d s = l h
+  of_control share passes was_ended ended rest fell rose (causes.LongLine source) h l p d s = absurd h
+  of_control share passes was_ended ended rest fell rose (causes.BigSource source) h l p d s = absurd h
+  of_control share passes was_ended ended rest fell rose (causes.OverCredit channel received announced) h l p d s = absurd h
+  of_control share passes was_ended ended rest fell rose (causes.Peer fault) h l p d s = p fault h
+  of_control share passes was_ended ended rest fell rose causes.Memory h l p d s = tt
 
   of_items : (share : ConnShare) (passes : SharePasses) (was_ended ended : Option Bool) (rest : List ℕ) (fell rose : ℕ) (cause : Cause) →
-      ItemsEndedBy share passes was_ended ended rest fell rose cause → (HasRisen fell rose → link) → Ground cause
-  of_items share passes was_ended ended rest fell rose causes.Done h l d s = absurd (d refl)
-  of_items share passes was_ended ended rest fell rose causes.Stopped h l d s = absurd (s refl)
-  of_items share passes was_ended ended rest fell rose (causes.Input source) h l d s = absurd h
-  of_items share passes was_ended ended rest fell rose causes.Link h l d s = l h
-  of_items share passes was_ended ended rest fell rose (causes.LongLine source) h l d s = absurd h
-  of_items share passes was_ended ended rest fell rose (causes.BigSource source) h l d s = absurd h
-  of_items share passes was_ended ended rest fell rose (causes.OverCredit channel received announced) h l d s = tt
-  of_items share passes was_ended ended rest fell rose (causes.Peer fault) h l d s = tt
-  of_items share passes was_ended ended rest fell rose causes.Memory h l d s = tt
+      ItemsEndedBy share passes was_ended ended rest fell rose cause → (HasRisen fell rose → link) →
+      ((fault : PeerFault) → MetAtItems share passes was_ended ended rest fault → peer fault) → Ground cause
+  of_items share passes was_ended ended rest fell rose causes.Done h l p d s = absurd (d refl)
+  of_items share passes was_ended ended rest fell rose causes.Stopped h l p d s = absurd (s refl)
+  of_items share passes was_ended ended rest fell rose (causes.Input source) h l p d s = absurd h
+  of_items share passes was_ended ended rest fell rose causes.Link h l p d s = l h
+  of_items share passes was_ended ended rest fell rose (causes.LongLine source) h l p d s = absurd h
+  of_items share passes was_ended ended rest fell rose (causes.BigSource source) h l p d s = absurd h
+  of_items share passes was_ended ended rest fell rose (causes.OverCredit channel received announced) h l p d s =
+      let w = h.refused in is_over_by_one w.state h.history (arrival_with w.sequence w.backlog w.what) w.content received announced w.stands w.refused
+  of_items share passes was_ended ended rest fell rose (causes.Peer fault) h l p d s = p fault h
+  of_items share passes was_ended ended rest fell rose causes.Memory h l p d s = tt
 
 -- ---- what ran
 
@@ -128,7 +148,7 @@ module _ {S O I L N : Type 0} (left : S → Option (List ℕ)) (faults : S → �
       (run : HaveRun left faults line sent finished of_out end_line got ended of_in belong job size edges inputs wires rows loops)
       (come : AreLeftIn rows after) where
     abbrev Has : Cause → Type 0
-    Has = Ground left faults inputs after (HasLinkFault of_out of_in loops)
+    Has = Ground left faults inputs after (HasLinkFault of_out of_in loops) (HasPeerFault sent got ended job loops)
 
     -- Where a place is one at which something was left, its cause is that.
     cause_at : (s i : ℕ) (place : TaskPlace S) (cause : Cause) → StandsAt rows s i place → cause_of_task place ≡ Some cause → (end : EndAt rows s i) → end.left.cause ≡ cause
@@ -147,18 +167,18 @@ module _ {S O I L N : Type 0} (left : S → Option (List ℕ)) (faults : S → �
     by_last : (i : ℕ) (place : TaskPlace S) (cause : Cause) → StandsAt rows (suc (last_edge job)) i place → cause_of_task place ≡ Some cause → Has cause
     by_last i place cause stands is =
         let s = aggregate_at left faults line sent finished of_out end_line got ended of_in belong job size edges inputs wires rows loops run i (low_at (suc (last_edge job)) i place stands) in
-        of_taker left faults inputs after (HasLinkFault of_out of_in loops) cause (subst IsTakerEnd (cause_at (suc (last_edge job)) i place cause stands is s.end) s.by.cause_is)
+        of_taker left faults inputs after (HasLinkFault of_out of_in loops) (HasPeerFault sent got ended job loops) (λ fault found. inl found) cause (subst IsTakerEnd (cause_at (suc (last_edge job)) i place cause stands is s.end) s.by.cause_is)
 
     by_task : (s i : ℕ) (place : TaskPlace S) (cause : Cause) → StandsAt rows s i place → cause_of_task place ≡ Some cause → Has cause
     by_task zero i place cause stands is =
         let s = source_at left faults line sent finished of_out end_line got ended of_in belong job size edges inputs wires rows loops run i (low_at 0 i place stands) in
-        of_source left faults inputs after (HasLinkFault of_out of_in loops) i s.task.index s.task.input s.by.input cause s.was.index s.was.input
+        of_source left faults inputs after (HasLinkFault of_out of_in loops) (HasPeerFault sent got ended job loops) i s.task.index s.task.input s.by.input cause s.was.index s.was.input
         (come i s.end.left s.by.input (is_left rows 0 i s.end) s.by.is_there)
         (subst (λ (c : Cause). IsSourceCause s.task.index (left s.task.input) (faults s.task.input) (faults s.by.input) c) (cause_at 0 i place cause stands is s.end) s.by.cause_is)
     by_task (suc e) i place cause stands is = elim (cases_lt e (last_edge job)) [
       | inl before ↦
           let s = stage_at left faults line sent finished of_out end_line got ended of_in belong job size edges inputs wires rows loops run e i before (low_at (suc e) i place stands) in
-          of_taker left faults inputs after (HasLinkFault of_out of_in loops) cause (subst IsTakerEnd (cause_at (suc e) i place cause stands is s.end) s.by.cause_is)
+          of_taker left faults inputs after (HasLinkFault of_out of_in loops) (HasPeerFault sent got ended job loops) (λ fault found. inl found) cause (subst IsTakerEnd (cause_at (suc e) i place cause stands is s.end) s.by.cause_is)
       | inr behind ↦
           let low = place_low rows (suc e) stands.row stands.row_is in
           let is_last : e ≡ last_edge job = omega (arith, low, behind, run.rows_many, run.deployed.rows_many) in
@@ -181,7 +201,7 @@ module _ {S O I L N : Type 0} (left : S → Option (List ℕ)) (faults : S → �
       of_send : Grounded (Ended (did.SentItems l.ends.send))
       of_send at is =
           let same = some_same l.ends.send.cause cause is in
-          of_sender left faults inputs after (HasLinkFault of_out of_in loops) cause (subst IsSendItemsCause same l.ends.by_send.account.cause_is)
+          of_sender left faults inputs after (HasLinkFault of_out of_in loops) (HasPeerFault sent got ended job loops) cause (subst IsSendItemsCause same l.ends.by_send.account.cause_is)
           (λ link. link_at e i row (Ended (did.SentItems l.ends.send)) at_row at
           (risen_above (of_out l.ends.was.send.half) (of_out l.ends.send.half) (ap of_out l.ends.was.sending.0 ∙ new.data_out.no_fault) (l.ends.by_send.account.wrote.link (same ∙ link))))
 
@@ -190,25 +210,63 @@ module _ {S O I L N : Type 0} (left : S → Option (List ℕ)) (faults : S → �
           let was = l.ends.was.control in
           let end = l.ends.control in
           let account = l.ends.by_control.account in
-          of_control left faults inputs after (HasLinkFault of_out of_in loops) was.share end.passes (ended was.half) (ended end.half) account.left (of_in was.half) (of_in end.half) cause
+          of_control left faults inputs after (HasLinkFault of_out of_in loops) (HasPeerFault sent got ended job loops) was.share end.passes (ended was.half) (ended end.half) account.left (of_in was.half) (of_in end.half) cause
           (subst (λ (x : Cause). ControlEndedBy was.share end.passes (ended was.half) (ended end.half) account.left (of_in was.half) (of_in end.half) x) (some_same end.cause cause is) account.cause_is)
           (λ risen. link_at e i row (Ended (did.ReadControl end)) at_row at
           (risen_above (of_in was.half) (of_in end.half) (ap of_in l.ends.was.sending.1 ∙ new.control_in.no_fault) risen))
+          (λ fault met. inr (inr (
+            e,
+            i,
+            row,
+            end,
+            at_row,
+            at,
+            record {
+              messages = account.messages;
+              left = account.left;
+              frames = account.read.frames;
+              direction = account.read.direction;
+              bytes = λ tell. all_came (got was.half) (got end.half) (tell.input was.half).0 (all_spelled account.messages ++ account.left) (tell.input was.half).1
+                  (subst (λ (half : I). IfSome (got half) (λ b. b ≡ [])) (sym l.ends.was.sending.1) new.control_in.nothing) account.read.bytes;
+              met = control_begins was.share end.passes (ended was.half) (ended end.half) account.left fault met;
+              cut = λ every is. has_ended (ended was.half) (ended end.half) (every was.half).0 (every was.half).1
+                  (subst (λ (f : PeerFault). MetAtControl was.share end.passes (ended was.half) (ended end.half) account.left f) is met).0;
+            },
+          )))
 
       of_read_items : Grounded (Ended (did.ReadItems l.ends.items))
       of_read_items at is =
           let was = l.ends.was.items in
           let end = l.ends.items in
           let account = l.ends.by_items.account in
-          of_items left faults inputs after (HasLinkFault of_out of_in loops) was.share end.passes (ended was.half) (ended end.half) account.left (of_in was.half) (of_in end.half) cause
+          of_items left faults inputs after (HasLinkFault of_out of_in loops) (HasPeerFault sent got ended job loops) was.share end.passes (ended was.half) (ended end.half) account.left (of_in was.half) (of_in end.half) cause
           (subst (λ (x : Cause). ItemsEndedBy was.share end.passes (ended was.half) (ended end.half) account.left (of_in was.half) (of_in end.half) x) (some_same end.cause cause is) account.cause_is)
           (λ risen. link_at e i row (Ended (did.ReadItems end)) at_row at
           (risen_above (of_in was.half) (of_in end.half) (ap of_in l.ends.was.receiving.0 ∙ new.data_in.no_fault) risen))
+          (λ fault met. inr (inl (
+            e,
+            i,
+            row,
+            end,
+            at_row,
+            at,
+            record {
+              messages = account.messages;
+              left = account.left;
+              frames = account.read.frames;
+              direction = account.read.direction;
+              bytes = λ tell. all_came (got was.half) (got end.half) (tell.input was.half).0 (all_spelled account.messages ++ account.left) (tell.input was.half).1
+                  (subst (λ (half : I). IfSome (got half) (λ b. b ≡ [])) (sym l.ends.was.receiving.0) new.data_in.nothing) account.read.bytes;
+              met = items_begin was.share end.passes (ended was.half) (ended end.half) account.left (channels_on job e) l.ends.was.channels.1 fault met;
+              cut = λ every is. has_ended (ended was.half) (ended end.half) (every was.half).0 (every was.half).1
+                  (subst (λ (f : PeerFault). MetAtItems was.share end.passes (ended was.half) (ended end.half) account.left f) is met).0;
+            },
+          )))
 
       of_announce : Grounded (Ended (did.SentControl l.ends.announce))
       of_announce at is =
           let same = some_same l.ends.announce.cause cause is in
-          of_announcer left faults inputs after (HasLinkFault of_out of_in loops) cause (subst IsAnnounceCause same l.ends.by_announce.account.cause_is)
+          of_announcer left faults inputs after (HasLinkFault of_out of_in loops) (HasPeerFault sent got ended job loops) cause (subst IsAnnounceCause same l.ends.by_announce.account.cause_is)
           (λ link. link_at e i row (Ended (did.SentControl l.ends.announce)) at_row at
           (risen_above (of_out l.ends.was.announce.half) (of_out l.ends.announce.half) (ap of_out l.ends.was.receiving.1 ∙ new.control_out.no_fault) (l.ends.by_announce.account.wrote.link (same ∙ link))))
 

@@ -1,3 +1,4 @@
+pub mod Grounds
 pub mod Outcomes
 pub mod Rows
 pub mod Theorems

@@ -4,6 +4,7 @@ use Rattle.std.specs.Prelude.{◌≡◌, ◌⊎◌, ℕ, ◌<◌, ◌≤◌, ⊤
 use Rattle.flow_defs.specs.Items.{Items}
 use Rattle.flow_defs.specs.declared.cause.Cause.{Cause}
 use Rattle.flow_defs.specs.declared.cause.Cause.TheVariants as causes
+use Rattle.flow_defs.specs.declared.cause.PeerFault.{PeerFault}
 use Rattle.flow_defs.specs.declared.job.Job.{Job}
 use Rattle.flow_defs.specs.Jobs.{tasks}
 use Rattle.flow_defs.specs.Lines.{lines}
@@ -13,6 +14,7 @@ use Rattle.job_plan.specs.declared.limits.TheConstants.{SOURCE_MAX}
 use Rattle.job_workers.specs.declared.connection.LoopLeft.TheVariants.{SentItems, ReadControl, ReadItems, SentControl}
 use Rattle.job_workers.specs.declared.place.Place.TheVariants.{Todo, Ended, Vacant}
 use Rattle.job_ends.specs.Ended.{TaskPlace, LoopPlace}
+use Rattle.job_outcome.specs.Grounds.{IsOverByOne}
 
 -- Why the worker of a place ended, if it has ended.
 abbrev pub cause_of_task : {S : Type 0} → TaskPlace S → Option Cause
@@ -72,14 +74,15 @@ module _ {S : Type 0} (left : S → Option (List ℕ)) (faults : S → ℕ) (bef
     pub is : slice_get after a ≡ Some new
     pub holds : P (left old) (faults old) (faults new)
 
-  -- A cause has its grounds: a fault of the source or of a link, or a source over a limit. Nothing is said here of a peer's faults.
-  abbrev pub IsRunCause : Type 0 → Cause → Type 0
-  IsRunCause link causes.Done = ⊥
-  IsRunCause link causes.Stopped = ⊥
-  IsRunCause link (causes.Input a) = IsOfInput a (λ told fell rose. HasRisen fell rose)
-  IsRunCause link causes.Link = link
-  IsRunCause link (causes.LongLine a) = IsOfInput a (λ told fell rose. IfSome told (λ bytes. HasLongLine (lines bytes)))
-  IsRunCause link (causes.BigSource a) = IsOfInput a (λ told fell rose. IfSome told (λ bytes. SOURCE_MAX < length bytes))
-  IsRunCause link (causes.OverCredit channel received announced) = ⊤
-  IsRunCause link (causes.Peer fault) = ⊤
-  IsRunCause link causes.Memory = ⊤
+  -- A cause has its grounds: a fault of the source or of a link, a source over a limit, data over the credit by one, or a fault of a
+  -- connection's other end.
+  abbrev pub IsRunCause : Type 0 → (PeerFault → Type 0) → Cause → Type 0
+  IsRunCause link peer causes.Done = ⊥
+  IsRunCause link peer causes.Stopped = ⊥
+  IsRunCause link peer (causes.Input a) = IsOfInput a (λ told fell rose. HasRisen fell rose)
+  IsRunCause link peer causes.Link = link
+  IsRunCause link peer (causes.LongLine a) = IsOfInput a (λ told fell rose. IfSome told (λ bytes. HasLongLine (lines bytes)))
+  IsRunCause link peer (causes.BigSource a) = IsOfInput a (λ told fell rose. IfSome told (λ bytes. SOURCE_MAX < length bytes))
+  IsRunCause link peer (causes.OverCredit channel received announced) = IsOverByOne received announced
+  IsRunCause link peer (causes.Peer fault) = peer fault
+  IsRunCause link peer causes.Memory = ⊤

@@ -11,7 +11,7 @@ use Rattle.flow_defs.specs.Lines.{lines}
 use Rattle.flow_defs.specs.Tables.{Values, join}
 use Rattle.plain_machine.specs.Worth.{tally}
 use Rattle.outside.specs.declared.wires.Wire.{Wire}
-use Rattle.outside.specs.Links.{IsNewOut, IsNewIn}
+use Rattle.outside.specs.Links.{IsNewOut, IsNewIn, NeverFails}
 use Rattle.job_cells.specs.declared.edge.Edge.{Edge}
 use Rattle.job_cells.specs.Edges.{AreEdgesOf}
 use Rattle.job_laws.specs.Ends.{EdgeCarries}
@@ -21,6 +21,7 @@ use Rattle.job_workers.specs.Places.{Pairs, RowLeaves}
 use Rattle.job_workers.specs.Tasks.{LeftByTask}
 use Rattle.job_deploy.specs.Deployed.{AreDeployed}
 use Rattle.job_ends.specs.Ended.{TaskPlace, LoopPlace, left_in, left_at, own_at, gate_at, AreEnded, HasLinkFault}
+use Rattle.job_outcome.specs.Grounds.{HasPeerFault}
 use Rattle.job_outcome.specs.Outcomes.{AllDone, HasEnded, AreTold, AreWithin, IsRunCause}
 
 -- The table that a place has, and those of the aggregate's tasks.
@@ -38,6 +39,10 @@ AreInputsLeft {S} faults inputs rows = (a : ℕ) (input : S) → slice_get input
 -- These are the inputs that the tasks left, in order.
 abbrev pub AreLeftIn : {S : Type 0} → List (Items (TaskPlace S)) → List S → Type 0
 AreLeftIn {S} rows after = (a : ℕ) (end : TaskLeft S) (input : S) → left_at rows 0 a ≡ Some end → end.input ≡ Some input → slice_get after a ≡ Some input
+
+-- No end of the link of one that never fails has counted a fault.
+abbrev pub AreFaultless : {H L : Type 0} → (H → L) → (H → ℕ) → (H → Type 0) → Type 0
+AreFaultless {H} line faults never_fails = (old new : H) → never_fails old → line new ≡ line old → faults new ≡ 0
 
 module _ {S O I L N : Type 0} (left : S → Option (List ℕ)) (faults : S → ℕ)
     (line : O → L) (sent : O → Option (List ℕ)) (finished : O → Option Bool) (of_out : O → ℕ)
@@ -99,4 +104,10 @@ module _ {S O I L N : Type 0} (left : S → Option (List ℕ)) (faults : S → �
       (job : Job) (size : ℕ) (edges : List Edge) (inputs after : List S) (wires : List (Wire O I)) (rows : List (Items (TaskPlace S))) (loops : List (Items (LoopPlace O I))) (cause : Cause) →
       HaveRun job size edges inputs wires rows loops → AreLeftIn rows after → length after ≡ length inputs →
       HasEnded rows loops cause → cause ≢ Done → cause ≢ Stopped →
-      IsRunCause left faults inputs after (HasLinkFault of_out of_in loops) cause
+      IsRunCause left faults inputs after (HasLinkFault of_out of_in loops) (HasPeerFault sent got ended job loops) cause
+
+  -- Over wires of which no end is to fail, no loop has counted a fault.
+  abbrev pub SureWiresHaveNoFault : (O → Type 0) → (I → Type 0) → Type 0
+  SureWiresHaveNoFault sure_out sure_in =
+      (job : Job) (size : ℕ) (edges : List Edge) (inputs : List S) (wires : List (Wire O I)) (rows : List (Items (TaskPlace S))) (loops : List (Items (LoopPlace O I))) →
+      HaveRun job size edges inputs wires rows loops → All (NeverFails sure_out sure_in) wires → HasLinkFault of_out of_in loops → ⊥

@@ -4,18 +4,20 @@ use Rattle.std.specs.Prelude.{slice_get, Option, Some, Result, Ok, Err, IfOk, If
 use Rattle.flow_defs.specs.Items.{Items}
 use Rattle.flow_defs.specs.declared.cause.Cause.{Cause}
 use Rattle.flow_defs.specs.declared.cause.Cause.TheVariants as causes
+use Rattle.flow_defs.specs.declared.cause.PeerFault.{PeerFault}
 use Rattle.flow_defs.specs.declared.job.Job.{Job}
 use Rattle.flow_defs.specs.Jobs.{last_edge, tasks}
 use Rattle.flow_defs.specs.Tables.{Values}
 use Rattle.outside.specs.declared.wires.Wire.{Wire}
-use Rattle.outside.specs.Faults.{HasRisen}
 use Rattle.job_cells.specs.declared.edge.Edge.{Edge}
 use Rattle.job_laws.specs.Ends.{EdgeCarries}
 use Rattle.job_ends.specs.Ended.{TaskPlace, LoopPlace, LinksTell, HasLinkFault, AreEnded, own_at, gate_at}
+use Rattle.job_outcome.specs.Grounds.{HasPeerFault}
 use Rattle.job_outcome.specs.Outcomes.{AllDone, ComeBack, HasEnded, IsRunCause}
 use Rattle.job_outcome.specs.Theorems.{HaveRun, AreLeftIn, DoneWorkersTally, InputsComeBack, CausesHaveGrounds}
 use Rattle.job_run.specs.Runs.{HaveInputs, IsAnswer, IsFaultOf, IsJoined, IsRun}
-use Rattle.job_run.specs.Wires.{IsWireCause}
+use Rattle.job_run.specs.Wires.{IsLinkGround, IsPeerGround, IsWireCause}
+use Rattle.job_run.proofs.WireLaws.{risen_over}
 use Rattle.job_run.proofs.ListLaws.{some_is, get_there}
 
 -- Inputs that stayed come back.
@@ -29,37 +31,48 @@ stay_back {S} faults before after same = record {
 }
 
 -- A cause has its grounds whatever else follows from a fault of a link.
-cause_with : {S : Type 0} (left : S → Option (List ℕ)) (faults : S → ℕ) (before after : List S) (L M : Type 0) → (L → M) →
-    (cause : Cause) → IsRunCause left faults before after L cause → IsRunCause left faults before after M cause
-cause_with left faults before after L M f causes.Done x = x
-cause_with left faults before after L M f causes.Stopped x = x
-cause_with left faults before after L M f (causes.Input a) x = x
-cause_with left faults before after L M f causes.Link x = f x
-cause_with left faults before after L M f (causes.LongLine a) x = x
-cause_with left faults before after L M f (causes.BigSource a) x = x
-cause_with left faults before after L M f (causes.OverCredit channel received announced) x = x
-cause_with left faults before after L M f (causes.Peer fault) x = x
-cause_with left faults before after L M f causes.Memory x = x
+cause_with : {S : Type 0} (left : S → Option (List ℕ)) (faults : S → ℕ) (before after : List S) (L M : Type 0) (P Q : PeerFault → Type 0) →
+    (L → M) → ((fault : PeerFault) → P fault → Q fault) → (cause : Cause) → IsRunCause left faults before after L P cause → IsRunCause left faults before after M Q cause
+cause_with left faults before after L M P Q f h causes.Done x = x
+cause_with left faults before after L M P Q f h causes.Stopped x = x
+cause_with left faults before after L M P Q f h (causes.Input a) x = x
+cause_with left faults before after L M P Q f h causes.Link x = f x
+cause_with left faults before after L M P Q f h (causes.LongLine a) x = x
+cause_with left faults before after L M P Q f h (causes.BigSource a) x = x
+cause_with left faults before after L M P Q f h (causes.OverCredit channel received announced) x = x
+cause_with left faults before after L M P Q f h (causes.Peer fault) x = h fault x
+cause_with left faults before after L M P Q f h causes.Memory x = x
 
 module _ {S O I : Type 0} (left : S → Option (List ℕ)) (faults : S → ℕ) (sent : O → Option (List ℕ)) (got : I → Option (List ℕ)) where
   -- A run that ended with a cause before its workers were at work.
-  pub not_run : (job : Job) (before after : List S) (link : Type 0) (cause : Cause) → after ≡ before → IsRunCause left faults before after link cause →
-      IsRun left faults sent got job before after link (Err cause)
-  not_run job before after link cause same grounds = record { tally = tt; cause = grounds; inputs = stay_back faults before after same }
+  pub not_run : (job : Job) (before after : List S) (link : Type 0) (peer : PeerFault → Type 0) (cause : Cause) → after ≡ before →
+      IsRunCause left faults before after link peer cause → IsRun left faults sent got job before after link peer (Err cause)
+  not_run job before after link peer cause same grounds = record { tally = tt; cause = grounds; inputs = stay_back faults before after same }
 
   -- A run over a longer time.
-  pub run_with : (job : Job) (before after : List S) (L M : Type 0) → (L → M) → (result : Result Values Cause) →
-      IsRun left faults sent got job before after L result → IsRun left faults sent got job before after M result
-  run_with job before after L M f (Ok table) run = record { tally = run.tally; cause = tt; inputs = run.inputs }
-  run_with job before after L M f (Err cause) run = record { tally = tt; cause = cause_with left faults before after L M f cause run.cause; inputs = run.inputs }
+  pub run_with : (job : Job) (before after : List S) (L M : Type 0) (P Q : PeerFault → Type 0) → (L → M) → ((fault : PeerFault) → P fault → Q fault) →
+      (result : Result Values Cause) → IsRun left faults sent got job before after L P result → IsRun left faults sent got job before after M Q result
+  run_with job before after L M P Q f h (Ok table) run = record { tally = run.tally; cause = tt; inputs = run.inputs }
+  run_with job before after L M P Q f h (Err cause) run = record { tally = tt; cause = cause_with left faults before after L M P Q f h cause run.cause; inputs = run.inputs }
 
   -- There was no wire.
-  pub no_wire : (job : Job) (before after : List S) (fell rose : ℕ) (cause : Cause) → after ≡ before → IsWireCause fell rose cause →
-      IsRun left faults sent got job before after (HasRisen fell rose) (Err cause)
-  no_wire job before after fell rose cause same (inl memory) =
-      not_run job before after (HasRisen fell rose) cause same (subst (IsRunCause left faults before after (HasRisen fell rose)) (sym memory) tt)
-  no_wire job before after fell rose cause same (inr link) =
-      not_run job before after (HasRisen fell rose) cause same (subst (IsRunCause left faults before after (HasRisen fell rose)) (sym link.0) link.1)
+  pub no_wire : (job : Job) (before after : List S) (link : Type 0) (peer : PeerFault → Type 0) (cause : Cause) → after ≡ before → IsWireCause link cause →
+      IsRun left faults sent got job before after link peer (Err cause)
+  no_wire job before after link peer cause same (inl memory) =
+      not_run job before after link peer cause same (subst (IsRunCause left faults before after link peer) (sym memory) tt)
+  no_wire job before after link peer cause same (inr fault) =
+      not_run job before after link peer cause same (subst (IsRunCause left faults before after link peer) (sym fault.0) fault.1)
+
+-- What stands behind a fault stands behind it over a longer time.
+pub link_before : (sure never_fails : Type 0) (a b c : ℕ) → (never_fails → sure) → a ≤ b → IsLinkGround sure b c → IsLinkGround never_fails a c
+link_before sure never_fails a b c is low link = record {
+  risen = risen_over a b c c low link.risen (omega arith);
+  may_fail = λ never. link.may_fail (is never);
+}
+
+pub peer_before : {O I : Type 0} (sent : O → Option (List ℕ)) (got : I → Option (List ℕ)) (ended : I → Option Bool) (job : Job) (old mid new : Option (List (Wire O I))) → mid ≡ old →
+    (fault : PeerFault) → IsPeerGround sent got ended job mid new fault → IsPeerGround sent got ended job old new fault
+peer_before {O} {I} sent got ended job old mid new same fault ground = subst (λ (o : Option (List (Wire O I))). IsPeerGround sent got ended job o new fault) same ground
 
 module _ {S O I L N : Type 0} (left : S → Option (List ℕ)) (faults : S → ℕ)
     (line : O → L) (sent : O → Option (List ℕ)) (finished : O → Option Bool) (of_out : O → ℕ)
@@ -76,12 +89,12 @@ module _ {S O I L N : Type 0} (left : S → Option (List ℕ)) (faults : S → �
       let back = come_back job size edges inputs wires rows loops ran a input.0 input.1 in
       (back.0, (back.1.0, back.1.1, back.1.2))
 
-  module _ (after : List S) (link : Type 0)
+  module _ (after : List S) (link : Type 0) (peer : PeerFault → Type 0)
       (grounds : CausesHaveGrounds left faults line sent finished of_out end_line got ended of_in belong)
       (done_tally : DoneWorkersTally left faults line sent finished of_out end_line got ended of_in belong)
       (are_left : AreLeftIn rows after) (many : length after ≡ tasks job 0)
       (carry : LinksTell sent got → (e : ℕ) → e ≤ last_edge job → EdgeCarries job e (own_at rows e) (gate_at rows e))
-      (risen : HasLinkFault of_out of_in loops → link) where
+      (risen : HasLinkFault of_out of_in loops → link) (met : (fault : PeerFault) → HasPeerFault sent got ended job loops fault → peer fault) where
     come : ComeBack faults inputs after
     come = record {
       many = many ∙ sym ran.inputs_many;
@@ -92,7 +105,7 @@ module _ {S O I L N : Type 0} (left : S → Option (List ℕ)) (faults : S → �
           subst (λ (s : S). faults old ≤ faults s) e back.1.3;
     }
 
-    pub is_run : (result : Result Values Cause) → IsAnswer job rows loops result → IsRun left faults sent got job inputs after link result
+    pub is_run : (result : Result Values Cause) → IsAnswer job rows loops result → IsRun left faults sent got job inputs after link peer result
     is_run (Ok table) answer = record {
       tally = λ tell bytes told.
           let joined = answer.table.1 in
@@ -104,8 +117,8 @@ module _ {S O I L N : Type 0} (left : S → Option (List ℕ)) (faults : S → �
     is_run (Err cause) answer = record {
       tally = tt;
       cause = elim answer.cause [
-        | inl memory ↦ subst (IsRunCause left faults inputs after link) (sym memory) tt
-        | inr fault ↦ cause_with left faults inputs after (HasLinkFault of_out of_in loops) link risen cause
+        | inl memory ↦ subst (IsRunCause left faults inputs after link peer) (sym memory) tt
+        | inr fault ↦ cause_with left faults inputs after (HasLinkFault of_out of_in loops) link (HasPeerFault sent got ended job loops) peer risen met cause
             (grounds job size edges inputs after wires rows loops cause ran are_left (many ∙ sym ran.inputs_many) fault.0 fault.1 fault.2)
       ];
       inputs = come;

@@ -4,6 +4,7 @@ use Rattle.turn_cell.specs.Passes.{IsPassOf, mine}
 use Rattle.flow_defs.specs.Items.{Items}
 use Rattle.flow_defs.specs.declared.cause.Cause.{Cause}
 use Rattle.flow_defs.specs.declared.cause.Cause.TheVariants.{Done, Stopped, Memory}
+use Rattle.flow_defs.specs.declared.cause.PeerFault.{PeerFault}
 use Rattle.flow_defs.specs.declared.job.Job.{Job}
 use Rattle.flow_defs.specs.Jobs.{last_edge, tasks}
 use Rattle.flow_defs.specs.Lines.{lines}
@@ -54,8 +55,8 @@ module _ {S O I : Type 0} (job : Job) (rows : List (Items (TaskPlace S))) (loops
 module _ {S O I : Type 0} (left : S → Option (List ℕ)) (faults : S → ℕ) (sent : O → Option (List ℕ)) (got : I → Option (List ℕ)) where
   -- A run with these inputs, which are those afterwards: its table is the tally of all lines where links and inputs tell their bytes, its
   -- cause has its grounds, and the inputs come back.
-  pub record IsRun (job : Job) (before after : List S) (link : Type 0) (result : Result Values Cause) : Type 0 where
+  pub record IsRun (job : Job) (before after : List S) (link : Type 0) (peer : PeerFault → Type 0) (result : Result Values Cause) : Type 0 where
     pub tally : IfOk result (λ table. LinksTell sent got → (bytes : ℕ → List ℕ) → AreTold left before bytes →
         AreWithin job bytes × (table ≡ tally job (λ a. lines (bytes a))))
-    pub cause : IfErr result (IsRunCause left faults before after link)
+    pub cause : IfErr result (IsRunCause left faults before after link peer)
     pub inputs : ComeBack faults before after

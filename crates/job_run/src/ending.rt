@@ -5,6 +5,7 @@ ghost use Rattle.flow_defs.specs.Jobs.{IsJob, last_edge, tasks};
 ghost use Rattle.outside.specs.Faults.{HasRisen};
 ghost use Rattle.job_laws.specs.Ends.{EdgeCarries};
 ghost use Rattle.job_ends.specs.Ended.{AreEnded, HasLinkFault, LinksTell, gate_at, own_at};
+ghost use Rattle.job_ends.specs.Returning.{RowsCameBack};
 ghost use Rattle.job_outcome.specs.Theorems.{AreLeftIn};
 ghost use Rattle.job_run.specs.Runs.{HaveInputs, IsAnswer};
 
@@ -42,6 +43,7 @@ pub fn wind_up<'a, 'p, S: Drop, N: Links, R: Wait>(
     ensures answer { IsAnswer job.now ran.entry.rows.items ran.entry.loops.items result }
     ensures inputs { AreLeftIn ran.entry.rows.items inputs.new.items × (length inputs.new.items ≡ tasks job.now 0) }
     ensures carry { LinksTell N.Out.sent N.In.got → (e : ℕ) → e ≤ last_edge job.now → EdgeCarries job.now e (own_at ran.entry.rows.items e) (gate_at ran.entry.rows.items e) }
+    ensures wires { RowsCameBack N.In.got N.In.ended (N.wires net.old) (N.wires net.new) ran.entry.loops.items (suc (last_edge job.now)) }
     ensures fault { HasLinkFault N.Out.faults N.In.faults ran.entry.loops.items → HasRisen (N.faults net.old) (N.faults net.new) }
     ensures lent { N.lent net.new + suc (last_edge job.now) ≡ N.lent net.old }
     ensures never_falls { N.faults net.old ≤ N.faults net.new }

@@ -3,7 +3,7 @@ ghost use Rattle.std.specs.Prelude.{◌≡◌, ◌+◌, ◌≤◌, ℕ, List, le
 ghost use Rattle.flow_defs.specs.Jobs.{IsJob, last_edge, segments_needed, tasks};
 ghost use Rattle.flow_defs.specs.Lines.{lines};
 ghost use Rattle.plain_machine.specs.Worth.{tally};
-ghost use Rattle.outside.specs.Faults.{HasRisen};
+ghost use Rattle.outside.specs.Links.{NeverFails};
 ghost use Rattle.segment_pool.specs.Pools.{size_of};
 ghost use Rattle.segment_pool.specs.Stocks.{IsSize, IsTotal};
 ghost use Rattle.stage_fns.specs.Kinds.{kinds};
@@ -13,7 +13,7 @@ ghost use Rattle.job_cells.specs.Grants.{AreGrantsOf};
 ghost use Rattle.job_ends.specs.Ended.{LinksTell};
 ghost use Rattle.job_outcome.specs.Outcomes.{AreTold, AreWithin, ComeBack, IsRunCause};
 ghost use Rattle.job_run.specs.Runs.{AreStopsOf, IsRun};
-ghost use Rattle.job_run.specs.Wires.{IsUnused};
+ghost use Rattle.job_run.specs.Wires.{IsLinkGround, IsPeerGround, IsUnused};
 
 use crate::ending::wind_up;
 use crate::stops::{StopPasses, open_stops};
@@ -21,7 +21,10 @@ use crate::wires::{give_back, open_wires};
 use crate::workers::run_workers;
 use flow_defs::{Cause, Job, ListOf, Table, needed};
 use job_cells::{Edge, EdgePasses, Grants, open_edges, open_pool};
-use job_outcome::laws::{causes_have_grounds, done_workers_tally, inputs_come_back, workers_end};
+use job_outcome::laws::{
+    causes_have_grounds, done_workers_tally, inputs_come_back, sure_wires_have_no_fault,
+    workers_end,
+};
 use outside::{Links, Source, Wire};
 use segment_pool::Pool;
 use stage_fns::FnTable;
@@ -55,7 +58,9 @@ where
     requires wires { length wires.items ≡ suc (last_edge job.now) }
     requires unused { All (λ wire. IsUnused N.Out.line N.Out.sent N.Out.finished N.Out.faults N.In.line N.In.got N.In.ended N.In.faults N.belong wire) wires.items }
     requires lent { suc (last_edge job.now) ≤ N.lent net.old }
-    ensures run { IsRun S.left S.faults N.Out.sent N.In.got job.now inputs.old.items inputs.new.items (HasRisen (N.faults net.old) (N.faults net.new)) result }
+    ensures run { IsRun S.left S.faults N.Out.sent N.In.got job.now inputs.old.items inputs.new.items
+        (IsLinkGround (All (NeverFails N.Out.never_fails N.In.never_fails) wires.items) (N.faults net.old) (N.faults net.new))
+        (IsPeerGround N.Out.sent N.In.got N.In.ended job.now (N.wires net.old) (N.wires net.new)) result }
     ensures lent { N.lent net.new + suc (last_edge job.now) ≡ N.lent net.old }
     ensures never_falls { N.faults net.old ≤ N.faults net.new }
 {
@@ -71,6 +76,7 @@ where
     workers_end::<S, N>();
     inputs_come_back::<S, N>();
     causes_have_grounds::<S, N>();
+    sure_wires_have_no_fault::<S, N>();
     done_workers_tally::<S, N>();
     wind_up(rt, alloc, job, edges, &cell, own, ran, inputs, net)
 }
@@ -94,7 +100,9 @@ where
     requires is_job { IsJob job.now × CanRun (kinds functions.now) job.now }
     requires pool { (size_of pool.now ≡ size) × AreGrantsOf job.now pool.now grants }
     requires inputs { length inputs.old.items ≡ tasks job.now 0 }
-    ensures run { IsRun S.left S.faults N.Out.sent N.In.got job.now inputs.old.items inputs.new.items (HasRisen (N.faults net.old) (N.faults net.new)) result }
+    ensures run { IsRun S.left S.faults N.Out.sent N.In.got job.now inputs.old.items inputs.new.items
+        (IsLinkGround (N.never_fails net.old) (N.faults net.old) (N.faults net.new))
+        (IsPeerGround N.Out.sent N.In.got N.In.ended job.now (N.wires net.old) (N.wires net.new)) result }
     ensures lent { N.lent net.new ≡ N.lent net.old }
     ensures never_falls { N.faults net.old ≤ N.faults net.new }
 {
@@ -161,7 +169,9 @@ where
     // turns.
     ensures tally { IfOk result (λ table. LinksTell N.Out.sent N.In.got → (bytes : ℕ → List ℕ) → AreTold S.left inputs.old.items bytes →
         AreWithin job.now bytes × (table ≡ tally job.now (λ a. lines (bytes a)))) }
-    ensures cause { IfErr result (IsRunCause S.left S.faults inputs.old.items inputs.new.items (HasRisen (N.faults net.old) (N.faults net.new))) }
+    ensures cause { IfErr result (IsRunCause S.left S.faults inputs.old.items inputs.new.items
+        (IsLinkGround (N.never_fails net.old) (N.faults net.old) (N.faults net.new))
+        (IsPeerGround N.Out.sent N.In.got N.In.ended job.now (N.wires net.old) (N.wires net.new))) }
     ensures inputs { ComeBack S.faults inputs.old.items inputs.new.items }
     ensures lent { N.lent net.new ≡ N.lent net.old }
     ensures never_falls { N.faults net.old ≤ N.faults net.new }

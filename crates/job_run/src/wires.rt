@@ -1,7 +1,7 @@
 // The wires of a job.
 ghost use Rattle.std.specs.Prelude.{◌≡◌, ◌+◌, ◌≤◌, length, All, Err, IfErr, IfOk, OnErr, OnOk};
-ghost use Rattle.outside.specs.Faults.{HasRisen};
-ghost use Rattle.job_run.specs.Wires.{IsUnused, IsWireCause};
+ghost use Rattle.outside.specs.Links.{NeverFails};
+ghost use Rattle.job_run.specs.Wires.{IsLinkGround, IsUnused, IsWireCause};
 
 use flow_defs::{Cause, ListOf};
 use outside::{Links, PairFault, Wire};
@@ -32,8 +32,10 @@ fn add_wires<N: Links>(
     ensures unused { All (λ wire. IsUnused N.Out.line N.Out.sent N.Out.finished N.Out.faults N.In.line N.In.got N.In.ended N.In.faults N.belong wire) wires.new.items }
     ensures many { OnOk result (length wires.new.items ≡ many) }
     ensures lent { N.lent net.new ≡ N.lent net.old + length wires.new.items }
+    ensures same { N.wires net.new ≡ N.wires net.old }
     ensures never_falls { N.faults net.old ≤ N.faults net.new }
-    ensures failed { result ≡ Err PairFault.Failed → HasRisen (N.faults net.old) (N.faults net.new) }
+    ensures failed { result ≡ Err PairFault.Failed → IsLinkGround (N.never_fails net.old) (N.faults net.old) (N.faults net.new) }
+    ensures sure { N.never_fails net.old → All (NeverFails N.Out.never_fails N.In.never_fails) wires.new.items }
 {
     for _made in 0..many {
         let wire = net.pair(alloc)?;
@@ -53,9 +55,11 @@ pub fn open_wires<N: Links>(
     ensures unused { IfOk result (λ wires. All (λ wire. IsUnused N.Out.line N.Out.sent N.Out.finished N.Out.faults N.In.line N.In.got N.In.ended N.In.faults N.belong wire) wires.items) }
     ensures many { IfOk result (λ wires. length wires.items ≡ many) }
     ensures lent { OnOk result (N.lent net.new ≡ N.lent net.old + many) }
+    ensures same { OnOk result (N.wires net.new ≡ N.wires net.old) }
     ensures lent_none { OnErr result (N.lent net.new ≡ N.lent net.old) }
     ensures never_falls { N.faults net.old ≤ N.faults net.new }
-    ensures cause { IfErr result (λ cause. IsWireCause (N.faults net.old) (N.faults net.new) cause) }
+    ensures cause { IfErr result (IsWireCause (IsLinkGround (N.never_fails net.old) (N.faults net.old) (N.faults net.new))) }
+    ensures sure { N.never_fails net.old → IfOk result (λ wires. All (NeverFails N.Out.never_fails N.In.never_fails) wires.items) }
 {
     let mut wires = ListOf::new(alloc);
     if wires.reserve(many).is_err() {

@@ -11,7 +11,7 @@ use Rattle.flow_defs.specs.declared.job.TheConstants.{TASKS_MAX}
 use Rattle.flow_defs.specs.declared.job.StageKind.{StageKind}
 use Rattle.flow_defs.specs.declared.job.StageKind.TheVariants.{Words, Upper, Keep, Field}
 use Rattle.flow_defs.specs.declared.job.AggKind.{AggKind}
-use Rattle.flow_defs.specs.declared.job.AggKind.TheVariants.{Count}
+use Rattle.flow_defs.specs.declared.job.AggKind.TheVariants.{Count, Sum, Max}
 use Rattle.flow_defs.specs.declared.job.Exchange.{Exchange}
 use Rattle.flow_defs.specs.declared.job.Exchange.TheVariants.{Hash, Rebalance, Forward}
 use Rattle.stage_fns.specs.Functions.{Functions}
@@ -60,6 +60,8 @@ exchange_no_space Forward = refl
 
 pub agg_no_space : (kind : AggKind) → has_no_space (agg_word kind) ≡ true
 agg_no_space Count = refl
+agg_no_space Sum = refl
+agg_no_space Max = refl
 
 -- the pieces of a line are its words
 pub words_of_line : (first : List ℕ) (words : List (List ℕ)) → has_no_space first ≡ true → AllByRecursion (λ word. has_no_space word ≡ true) words → pieces 32 (line_of (first ∷ words)) ≡ first ∷ words

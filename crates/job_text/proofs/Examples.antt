@@ -230,7 +230,7 @@ prefix_of_256 = refl
 argument_of_words : between (codes "stage words:1 1 hash" ∷ []) ≡ Some (2, UnknownKind)
 argument_of_words = refl
 
-other_aggregate : fault (codes "source in" ∷ codes "aggregate sum 9" ∷ []) ≡ Some (2, UnknownKind)
+other_aggregate : fault (codes "source in" ∷ codes "aggregate least 9" ∷ []) ≡ Some (2, UnknownKind)
 other_aggregate = refl
 
 aggregate_of_9 : fault (codes "source in" ∷ codes "aggregate count 9" ∷ []) ≡ Some (2, BadNumber)

@@ -99,22 +99,22 @@ positive word digits first = elim (cases_lt 0 (digits_value 10 word)) [
       let is : get_or word 0 0 ≡ 48 = ap (λ w. get_or w 0 0) (sym same ∙ ap decimal none ∙ decimal_digit 0 (omega arith)) in omega (arith, is))
 ]
 
-parsed_plain : {E : Type 0} (word text : List ℕ) (parsed : Result ℕ E) → text ≡ word → ParsesUnsigned 32 10 text parsed → 49 ≤ get_or word 0 0 → OkIff parsed ((all_ascii_digits word ≡ true) × (0 < length word) × (digits_value 10 word < 2 ^ 32)) (digits_value 10 word)
-parsed_plain word text parsed same parses first = parse_plain own 32 word parsed (subst (λ t. ParsesUnsigned 32 10 t parsed) same parses) (λ plus. omega (arith, plus))
+parsed_plain : {E : Type 0} (word text : List ℕ) (parsed : Result ℕ E) → text ≡ word → ParsesUnsigned 64 10 text parsed → 49 ≤ get_or word 0 0 → OkIff parsed ((all_ascii_digits word ≡ true) × (0 < length word) × (digits_value 10 word < 2 ^ 64)) (digits_value 10 word)
+parsed_plain word text parsed same parses first = parse_plain own 64 word parsed (subst (λ t. ParsesUnsigned 64 10 t parsed) same parses) (λ plus. omega (arith, plus))
 
 three_true : {A : Type 0} (a b c d : Bool) (x y : A) → a ≡ true → b ≡ true → c ≡ true → cond d x y ≡ cond (a && b && c && d) x y
 three_true a b c d x y a_is b_is c_is = rw (a_is, b_is, c_is) refl
 
-pub number_parsed : {E : Type 0} (most n : ℕ) (word text : List ℕ) (parsed : Result ℕ E) → text ≡ word → ParsesUnsigned 32 10 text parsed → 49 ≤ get_or word 0 0 → parsed ≡ Ok n → then_some (leb n most) n ≡ number_of most word
+pub number_parsed : {E : Type 0} (most n : ℕ) (word text : List ℕ) (parsed : Result ℕ E) → text ≡ word → ParsesUnsigned 64 10 text parsed → 49 ≤ get_or word 0 0 → parsed ≡ Ok n → then_some (leb n most) n ≡ number_of most word
 number_parsed {E} most n word text parsed same parses first is =
     let v = digits_value 10 word in
-    let told : OkIff {T = ℕ} {E = E} (Ok n) ((all_ascii_digits word ≡ true) × (0 < length word) × (v < 2 ^ 32)) v = subst (λ (r : Result ℕ E). OkIff r ((all_ascii_digits word ≡ true) × (0 < length word) × (v < 2 ^ 32)) v) is (parsed_plain word text parsed same parses first) in
+    let told : OkIff {T = ℕ} {E = E} (Ok n) ((all_ascii_digits word ≡ true) × (0 < length word) × (v < 2 ^ 64)) v = subst (λ (r : Result ℕ E). OkIff r ((all_ascii_digits word ≡ true) × (0 < length word) × (v < 2 ^ 64)) v) is (parsed_plain word text parsed same parses first) in
     let not_zero : not (eqb (get_or word 0 0) 48) ≡ true = not_from_false _ (ne_eqb _ _ (λ zero. omega (arith, zero))) in
     then_some_cond (leb n most) n ∙ ap (λ k. cond (leb k most) (Some k) None) told.1
     ∙ three_true _ _ _ (leb v most) (Some v) None told.0.0 not_zero (le-leb _ _ (positive word told.0.0 first))
 
-pub not_parsed : {E : Type 0} (most : ℕ) (word text : List ℕ) (parsed : Result ℕ E) (e : E) → text ≡ word → most < 2 ^ 32 → ParsesUnsigned 32 10 text parsed → 49 ≤ get_or word 0 0 → parsed ≡ Err e → number_of most word ≡ None
+pub not_parsed : {E : Type 0} (most : ℕ) (word text : List ℕ) (parsed : Result ℕ E) (e : E) → text ≡ word → most < 2 ^ 64 → ParsesUnsigned 64 10 text parsed → 49 ≤ get_or word 0 0 → parsed ≡ Err e → number_of most word ≡ None
 not_parsed {E} most word text parsed e same small parses first is =
     let v = digits_value 10 word in
-    let told : OkIff {T = ℕ} {E = E} (Err e) ((all_ascii_digits word ≡ true) × (0 < length word) × (v < 2 ^ 32)) v = subst (λ (r : Result ℕ E). OkIff r ((all_ascii_digits word ≡ true) × (0 < length word) × (v < 2 ^ 32)) v) is (parsed_plain word text parsed same parses first) in
+    let told : OkIff {T = ℕ} {E = E} (Err e) ((all_ascii_digits word ≡ true) × (0 < length word) × (v < 2 ^ 64)) v = subst (λ (r : Result ℕ E). OkIff r ((all_ascii_digits word ≡ true) × (0 < length word) × (v < 2 ^ 64)) v) is (parsed_plain word text parsed same parses first) in
     number_none most word (λ spelled. let high = spelled.high in told (spelled.digits, first_of_some word first, omega arith))

@@ -11,7 +11,7 @@ use Rattle.flow_defs.specs.Stages.{IsToken, IsNumber, IsArgument}
 use Rattle.flow_defs.specs.declared.job.StageKind.{StageKind}
 use Rattle.flow_defs.specs.declared.job.StageKind.TheVariants.{Words, Upper, Keep, Field}
 use Rattle.flow_defs.specs.declared.job.AggKind.{AggKind}
-use Rattle.flow_defs.specs.declared.job.AggKind.TheVariants.{Count}
+use Rattle.flow_defs.specs.declared.job.AggKind.TheVariants.{Count, Sum, Max}
 use Rattle.flow_defs.specs.declared.job.Exchange.{Exchange}
 use Rattle.flow_defs.specs.declared.job.Exchange.TheVariants.{Hash, Rebalance, Forward}
 use Rattle.job_text.specs.JobText.{kind_word, exchange_word, agg_word}
@@ -62,14 +62,26 @@ cond_cases : {A : Type 0} (b : Bool) (x y z : A) → cond b x y ≡ z → ((b �
 cond_cases true x y z is = inl (refl, is)
 cond_cases false x y z is = inr (refl, is)
 
+pub same_some : {A : Type 0} (a b : A) → Some a ≡ Some b → a ≡ b
+same_some a b same = ap (λ o. unwrap_or o a) same
+
+-- the first of three that the word is
+agg_at : (word : List ℕ) (kind other : AggKind) → bytes_eq word (agg_word other) ≡ true → Some other ≡ Some kind → word ≡ agg_word kind
+agg_at word kind other is same = same_bytes word (agg_word other) is ∙ ap agg_word (same_some other kind same)
+
+max_known : (word : List ℕ) (kind : AggKind) → cond (bytes_eq word (codes "max")) (Some Max) None ≡ Some kind → word ≡ agg_word kind
+max_known word kind is = elim (cond_cases (bytes_eq word (codes "max")) (Some Max) None (Some kind) is) [ inl hit ↦ agg_at word kind Max hit.0 hit.1 | inr miss ↦ absurd (none-some kind miss.1) ]
+
+sum_known : (word : List ℕ) (kind : AggKind) → cond (bytes_eq word (codes "sum")) (Some Sum) (cond (bytes_eq word (codes "max")) (Some Max) None) ≡ Some kind → word ≡ agg_word kind
+sum_known word kind is = elim (cond_cases (bytes_eq word (codes "sum")) (Some Sum) (cond (bytes_eq word (codes "max")) (Some Max) None) (Some kind) is) [ inl hit ↦ agg_at word kind Sum hit.0 hit.1 | inr miss ↦ max_known word kind miss.1 ]
+
 pub agg_known : (word : List ℕ) (kind : AggKind) → agg_of word ≡ Some kind → word ≡ agg_word kind
-agg_known word Count is = elim (cond_cases (bytes_eq word (codes "count")) (Some Count) None (Some Count) is) [ inl hit ↦ same_bytes word (codes "count") hit.0 | inr miss ↦ absurd (none-some Count miss.1) ]
+agg_known word kind is = elim (cond_cases (bytes_eq word (codes "count")) (Some Count) (cond (bytes_eq word (codes "sum")) (Some Sum) (cond (bytes_eq word (codes "max")) (Some Max) None)) (Some kind) is) [ inl hit ↦ agg_at word kind Count hit.0 hit.1 | inr miss ↦ sum_known word kind miss.1 ]
 
 pub agg_spelled : (kind : AggKind) → agg_of (agg_word kind) ≡ Some kind
 agg_spelled Count = refl
-
-pub same_some : {A : Type 0} (a b : A) → Some a ≡ Some b → a ≡ b
-same_some a b same = ap (λ o. unwrap_or o a) same
+agg_spelled Sum = refl
+agg_spelled Max = refl
 
 -- the first of three that the word is
 exchange_at : (word : List ℕ) (exchange other : Exchange) → bytes_eq word (exchange_word other) ≡ true → Some other ≡ Some exchange → word ≡ exchange_word exchange

@@ -1,23 +1,36 @@
 -- Commands: what their words say, and which words have no fault.
-use Rattle.std.proofs.Common.{◌≡◌, ◌↔◌, ℕ, Bool, true, false, cond, List, [], ◌∷◌, refl, sym, ap, ◌∙◌, subst, ◌⊎◌, inl, inr, Option, Some, None, Result, Ok, Err}
-use Rattle.std.specs.Prelude.{codes, bytes_eq, IfOk}
+use Rattle.std.proofs.Common.{◌≡◌, ◌↔◌, ℕ, ◌<◌, ◌≤◌, ◌^◌, Bool, true, false, cond, List, [], ◌∷◌, get_or, lit<, arith, refl, sym, ap, ◌∙◌, subst, ◌⊎◌, inl, inr, Option, Some, None, Result, Ok, Err}
+use Rattle.std.specs.Prelude.{codes, bytes_eq, decimal, unwrap_or, IfOk, IfErr}
 use Rattle.std.specs.Result.{result_err}
 use Rattle.std.proofs.lemmas.Bool.{cond-true}
 use Rattle.job_text.specs.declared.words.Command.{Command}
-use Rattle.job_text.specs.declared.words.Command.TheVariants.{Run, Script}
+use Rattle.job_text.specs.declared.words.Command.TheVariants.{Run, Script, Gen}
 use Rattle.job_text.specs.declared.words.RunOptions.{RunOptions}
 use Rattle.job_text.specs.declared.words.WordFault.{WordFault}
+use Rattle.job_text.specs.declared.words.WordFault.TheVariants.{Usage, Memory}
 use Rattle.job_text.specs.declared.words.UsageKind.{UsageKind}
 use Rattle.job_text.specs.declared.words.UsageKind.TheVariants.{UnknownCommand, MissingOperand}
-use Rattle.job_text.specs.Words.{is_operand, run_options, HasRange, IsRun, IsScript, IsCommand, HasRanges, run_fault, script_fault, operand_fault, usage_fault}
+use Rattle.job_text.specs.Words.{is_operand, run_options, HasRange, IsRun, IsScript, IsGen, IsCommand, HasRanges, whole_number, run_fault, script_fault, operand_fault, number_fault, gen_fault, usage_fault, IsUsage}
+use Rattle.job_text.proofs.NumberWords.{if_none, decimal_whole, number_there, number_named}
 use Rattle.job_text.proofs.OptionLemmas.{options_within}
 use Rattle.job_text.proofs.SpellingLemmas.{same_bytes}
 
 -- ---- words of commands
 
+same_decimal : (m n : ℕ) → m < 2 ^ 64 → n < 2 ^ 64 → decimal m ≡ decimal n → m ≡ n
+same_decimal m n low high same = ap (λ o. unwrap_or o m) (sym (decimal_whole 18446744073709551615 m (lit< tt) (omega (arith, low))) ∙ ap (whole_number 18446744073709551615) same ∙ decimal_whole 18446744073709551615 n (lit< tt) (omega (arith, high)))
+
 pub no_fault : (words : List (List ℕ)) (command : Command) → IsCommand words command → usage_fault words ≡ None
 no_fault words (Run job options) is = ap usage_fault is.words_are ∙ cond-true (is_operand job) (run_fault is.behind) (Some MissingOperand) is.operand ∙ ap result_err is.options_are
 no_fault words (Script file) is = ap usage_fault is.words_are ∙ cond-true (is_operand file) None (Some MissingOperand) is.operand
+no_fault words (Gen lines seed) is =
+    ap usage_fault is.words_are
+    ∙ number_there 2000000 lines (number_fault 18446744073709551615 script_fault) (decimal seed ∷ []) (lit< tt) is.few
+    ∙ number_there 18446744073709551615 seed script_fault [] (lit< tt) (let fits = is.fits in omega (arith, fits))
+
+-- What words begin with, told twice.
+first_byte : {words these those : List (List ℕ)} → words ≡ these → words ≡ those → get_or (get_or these 0 []) 0 0 ≡ get_or (get_or those 0 []) 0 0
+first_byte one other = ap (λ ws. get_or (get_or ws 0 []) 0 0) (sym one ∙ other)
 
 pub one_command : (words : List (List ℕ)) (command other : Command) → IsCommand words command → IsCommand words other → command ≡ other
 one_command words (Run job options) (Run name others) first second =
@@ -29,6 +42,15 @@ one_command words (Run job options) (Run name others) first second =
 one_command words (Run job options) (Script file) first second = absurd (let these = first.words_are in let those = second.words_are in cc)
 one_command words (Script file) (Run job options) first second = absurd (let these = first.words_are in let those = second.words_are in cc)
 one_command words (Script file) (Script name) first second = let these = first.words_are in let those = second.words_are in cc
+one_command words (Run job options) (Gen lines seed) first second = absurd (let same : 114 ≡ 103 = first_byte first.words_are second.words_are in omega (arith, same))
+one_command words (Script file) (Gen lines seed) first second = absurd (let same : 115 ≡ 103 = first_byte first.words_are second.words_are in omega (arith, same))
+one_command words (Gen lines seed) (Run job options) first second = absurd (let same : 103 ≡ 114 = first_byte first.words_are second.words_are in omega (arith, same))
+one_command words (Gen lines seed) (Script file) first second = absurd (let same : 103 ≡ 115 = first_byte first.words_are second.words_are in omega (arith, same))
+one_command words (Gen lines seed) (Gen others other) first second =
+    let same = sym first.words_are ∙ second.words_are in
+    let many : lines ≡ others = same_decimal lines others (let few = first.few in omega (arith, few)) (let few = second.few in omega (arith, few)) (ap (λ (ws : List (List ℕ)). get_or ws 1 []) same) in
+    let of : seed ≡ other = same_decimal seed other first.fits second.fits (ap (λ (ws : List (List ℕ)). get_or ws 2 []) same) in
+    ap (λ n. Gen n seed) many ∙ ap (λ n. Gen others n) of
 
 pub run_range : (words : List (List ℕ)) (job : List ℕ) (options : RunOptions) → IsRun words job options → HasRange options
 run_range words job options is = options_within is.behind options is.options_are
@@ -36,6 +58,7 @@ run_range words job options is = options_within is.behind options is.options_are
 pub in_ranges : (words : List (List ℕ)) (command : Command) → IsCommand words command → HasRanges command
 in_ranges words (Run job options) is = run_range words job options is
 in_ranges words (Script file) is = tt
+in_ranges words (Gen lines seed) is = tt
 
 pub ranges_of : (words : List (List ℕ)) (r : Result Command WordFault) → IfOk r (IsCommand words) → IfOk r HasRanges
 ranges_of words (Ok command) is = in_ranges words command is
@@ -49,11 +72,10 @@ named_command words behind word name r words_are is command = subst (λ ws. IfOk
 
 -- the words are a command's
 abbrev pub NamesCommand : List (List ℕ) → Type 0
-NamesCommand words = ((job : List ℕ) × (options : RunOptions) × IsRun words job options) ⊎ ((file : List ℕ) × IsScript words file)
-
-if_none : {A : Type 0} (b : Bool) (x : Option A) (y : A) → cond b x (Some y) ≡ None → (b ≡ true) × (x ≡ None)
-if_none true x y is = (refl, is)
-if_none false x y is = absurd (cc)
+NamesCommand words =
+    ((job : List ℕ) × (options : RunOptions) × IsRun words job options)
+    ⊎ ((file : List ℕ) × IsScript words file)
+    ⊎ ((lines : ℕ) × (seed : ℕ) × IsGen words lines seed)
 
 no_err : (r : Result RunOptions UsageKind) → result_err r ≡ None → (options : RunOptions) × (r ≡ Ok options)
 no_err (Ok options) is = (options, refl)
@@ -70,23 +92,58 @@ script_named : (command : List ℕ) (words : List (List ℕ)) → bytes_eq comma
 script_named command [] name is = absurd (cc)
 script_named command (file ∷ []) name is =
     let operand : (is_operand file ≡ true) × (script_fault [] ≡ None) = if_none (is_operand file) None MissingOperand is in
-    inr (file, record { words_are = ap (λ w. w ∷ file ∷ []) (same_bytes command (codes "script") name); operand = operand.0 })
+    inr (inl (file, record { words_are = ap (λ w. w ∷ file ∷ []) (same_bytes command (codes "script") name); operand = operand.0 }))
 script_named command (file ∷ word ∷ words) name is =
     let operand : (is_operand file ≡ true) × (script_fault (word ∷ words) ≡ None) = if_none (is_operand file) (script_fault (word ∷ words)) MissingOperand is in
     absurd (cc (operand.1))
 
+none_behind : (words : List (List ℕ)) → script_fault words ≡ None → words ≡ []
+none_behind [] is = refl
+none_behind (word ∷ words) is = absurd (cc (is))
+
+gen_named : (command : List ℕ) (words : List (List ℕ)) → bytes_eq command (codes "gen") ≡ true → gen_fault words ≡ None → NamesCommand (command ∷ words)
+gen_named command words name is =
+    let lines = number_named 2000000 (number_fault 18446744073709551615 script_fault) words (lit< tt) is in
+    let seed = number_named 18446744073709551615 script_fault lines.behind (lit< tt) lines.then in
+    let end : seed.behind ≡ [] = none_behind seed.behind seed.then in
+    inr (inr (
+      lines.number,
+      seed.number,
+      record {
+        words_are =
+            ap (λ w. w ∷ words) (same_bytes command (codes "gen") name)
+            ∙ ap (λ ws. codes "gen" ∷ ws) (lines.words_are ∙ ap (λ ws. decimal lines.number ∷ ws) (seed.words_are ∙ ap (λ ws. decimal seed.number ∷ ws) end));
+        few = lines.within;
+        fits = let within = seed.within in omega (arith, within);
+      },
+    ))
+
 pub named : (words : List (List ℕ)) → usage_fault words ≡ None → NamesCommand words
 named [] is = absurd (cc)
-named (command ∷ words) is = by_name (bytes_eq command (codes "run")) (bytes_eq command (codes "script")) refl refl is
+named (command ∷ words) is = by_name (bytes_eq command (codes "run")) (bytes_eq command (codes "script")) (bytes_eq command (codes "gen")) refl refl refl is
   where
-    by_name : (run script : Bool) → bytes_eq command (codes "run") ≡ run → bytes_eq command (codes "script") ≡ script → cond run (operand_fault run_fault words) (cond script (operand_fault script_fault words) (Some UnknownCommand)) ≡ None → NamesCommand (command ∷ words)
-    by_name true script run_is script_is is = run_named command words run_is is
-    by_name false true run_is script_is is = script_named command words script_is is
-    by_name false false run_is script_is is = absurd (cc)
+    by_name : (run script gen : Bool) → bytes_eq command (codes "run") ≡ run → bytes_eq command (codes "script") ≡ script → bytes_eq command (codes "gen") ≡ gen →
+        cond run (operand_fault run_fault words) (cond script (operand_fault script_fault words) (cond gen (gen_fault words) (Some UnknownCommand))) ≡ None → NamesCommand (command ∷ words)
+    by_name true script gen run_is script_is gen_is is = run_named command words run_is is
+    by_name false true gen run_is script_is gen_is is = script_named command words script_is is
+    by_name false false true run_is script_is gen_is is = gen_named command words gen_is is
+    by_name false false false run_is script_is gen_is is = absurd (cc)
 
 pub of_named : (words : List (List ℕ)) → NamesCommand words → usage_fault words ≡ None
 of_named words (inl run) = no_fault words (Run run.0 run.1) run.2
-of_named words (inr script) = no_fault words (Script script.0) script.1
+of_named words (inr (inl script)) = no_fault words (Script script.0) script.1
+of_named words (inr (inr gen)) = no_fault words (Gen gen.0 gen.1) gen.2
 
 pub accepted : (words : List (List ℕ)) → (usage_fault words ≡ None) ↔ NamesCommand words
 accepted words = (named words, of_named words)
+
+-- ---- what is told of faulty words
+
+pub usage_told : (words : List (List ℕ)) (r : Result Command WordFault) → IfOk r (IsCommand words) → IfErr r (λ told. IsUsage told (usage_fault words)) →
+    (kind : UsageKind) → (r ≡ Err (Usage kind)) ↔ (usage_fault words ≡ Some kind)
+usage_told words (Ok command) is fault kind = (λ told. absurd (cc), λ some. absurd (let none = no_fault words command is in cc))
+usage_told words (Err (Usage told)) is fault kind = (λ same. fault ∙ (let e : Err (Usage told) ≡ Err (Usage kind) = same in cc), λ some. (let e : Some told ≡ Some kind = sym fault ∙ some in cc))
+usage_told words (Err Memory) is fault kind = (λ told. absurd (cc), λ some. absurd (cc))
+
+pub gen_usage : (words behind : List (List ℕ)) (word : List ℕ) → words ≡ word ∷ behind → bytes_eq word (codes "gen") ≡ true → usage_fault words ≡ gen_fault behind
+gen_usage words behind word words_are gen = ap usage_fault words_are ∙ ap (λ w. usage_fault (w ∷ behind)) (same_bytes word (codes "gen") gen)

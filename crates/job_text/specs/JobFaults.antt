@@ -11,7 +11,7 @@ use Rattle.flow_defs.specs.declared.job.TheConstants.{SOURCES_MAX, STAGES_MAX, T
 use Rattle.flow_defs.specs.declared.job.StageKind.{StageKind}
 use Rattle.flow_defs.specs.declared.job.StageKind.TheVariants.{Words, Upper, Keep, Field}
 use Rattle.flow_defs.specs.declared.job.AggKind.{AggKind}
-use Rattle.flow_defs.specs.declared.job.AggKind.TheVariants.{Count}
+use Rattle.flow_defs.specs.declared.job.AggKind.TheVariants.{Count, Sum, Max}
 use Rattle.flow_defs.specs.declared.job.Exchange.{Exchange}
 use Rattle.flow_defs.specs.declared.job.Exchange.TheVariants.{Hash, Rebalance, Forward}
 use Rattle.stage_fns.specs.Functions.{Functions, has_stage, has_agg}
@@ -54,7 +54,11 @@ exchange_of word =
 
 -- The kind of aggregates that a word spells.
 abbrev pub agg_of : List ℕ → Option AggKind
-agg_of word = if bytes_eq word (codes "count") then Some Count else None
+agg_of word =
+    if bytes_eq word (codes "count") then Some Count
+    else if bytes_eq word (codes "sum") then Some Sum
+    else if bytes_eq word (codes "max") then Some Max
+    else None
 
 -- ---- the fault of one line
 

@@ -11,7 +11,7 @@ use Rattle.flow_defs.specs.declared.job.Stage.{Stage}
 use Rattle.flow_defs.specs.declared.job.StageKind.{StageKind}
 use Rattle.flow_defs.specs.declared.job.StageKind.TheVariants.{Words, Upper, Keep, Field}
 use Rattle.flow_defs.specs.declared.job.AggKind.{AggKind}
-use Rattle.flow_defs.specs.declared.job.AggKind.TheVariants.{Count}
+use Rattle.flow_defs.specs.declared.job.AggKind.TheVariants.{Count, Sum, Max}
 use Rattle.flow_defs.specs.declared.job.Exchange.{Exchange}
 use Rattle.flow_defs.specs.declared.job.Exchange.TheVariants.{Hash, Rebalance, Forward}
 use Rattle.stage_fns.specs.Functions.{Functions, HasStage, HasAgg}
@@ -32,6 +32,8 @@ exchange_word Forward = codes "forward"
 -- How a kind of aggregates is spelled.
 abbrev pub agg_word : AggKind → List ℕ
 agg_word Count = codes "count"
+agg_word Sum = codes "sum"
+agg_word Max = codes "max"
 
 -- The line of these words: there is one space between two of them.
 abbrev pub line_of : List (List ℕ) → List ℕ

@@ -1,9 +1,9 @@
 -- The words of a command line. The commands, their options and what is told of faulty words are this project's own choice.
-use Rattle.std.specs.Prelude.{◌≡◌, ℕ, ◌≤◌, ◌==◌, Bool, true, false, not, nat_le, List, [], ◌∷◌, IsTrue, ⊤, if◌then◌else◌, Option, Some, None, is_some, unwrap_or, ok_or, option_map, option_and_then, Result, Ok, Err, codes, bytes_eq}
+use Rattle.std.specs.Prelude.{◌≡◌, ℕ, ◌≤◌, ◌<◌, ◌^◌, decimal, ◌==◌, Bool, true, false, not, nat_le, List, [], ◌∷◌, IsTrue, ⊤, if◌then◌else◌, Option, Some, None, is_some, unwrap_or, ok_or, option_map, option_and_then, Result, Ok, Err, codes, bytes_eq}
 use Rattle.std.specs.Option.{option_map_or}
 use Rattle.std.specs.Result.{result_err}
 use Rattle.job_text.specs.declared.words.Command.{Command}
-use Rattle.job_text.specs.declared.words.Command.TheVariants.{Run, Script}
+use Rattle.job_text.specs.declared.words.Command.TheVariants.{Run, Script, Gen}
 use Rattle.job_text.specs.declared.words.RunOptions.{RunOptions}
 use Rattle.job_text.specs.declared.words.WordFault.{WordFault}
 use Rattle.job_text.specs.declared.words.WordFault.TheVariants.{Usage, Memory}
@@ -12,6 +12,7 @@ use Rattle.job_text.specs.declared.words.UsageKind.TheVariants.{NoCommand, Unkno
 use Rattle.job_text.specs.declared.options.RunOption.{RunOption}
 use Rattle.job_text.specs.declared.options.RunOption.TheVariants.{Segment, Pool, Links}
 use Rattle.job_text.specs.declared.options.Given.{Given}
+use Rattle.job_text.specs.declared.words.TheConstants.{LINES_MAX}
 use Rattle.job_text.specs.JobFaults.{number_of}
 
 -- Whether a word begins with `-`, as an option does.
@@ -100,15 +101,23 @@ pub record IsScript (words : List (List ℕ)) (file : List ℕ) : Type 0 where
   pub words_are : words ≡ codes "script" ∷ file ∷ []
   pub operand : IsTrue (is_operand file)
 
+-- The words are `gen`, how many lines are to be made, and the seed that they are made of.
+pub record IsGen (words : List (List ℕ)) (lines seed : ℕ) : Type 0 where
+  pub words_are : words ≡ codes "gen" ∷ decimal lines ∷ decimal seed ∷ []
+  pub few : lines ≤ LINES_MAX
+  pub fits : seed < 2 ^ 64
+
 -- The words are this command.
 abbrev pub IsCommand : List (List ℕ) → Command → Type 0
 IsCommand words (Run job options) = IsRun words job options
 IsCommand words (Script file) = IsScript words file
+IsCommand words (Gen lines seed) = IsGen words lines seed
 
 -- The options of a command are in their ranges.
 abbrev pub HasRanges : Command → Type 0
 HasRanges (Run job options) = HasRange options
 HasRanges (Script file) = ⊤
+HasRanges (Gen lines seed) = ⊤
 
 -- ---- what is told of faulty words
 
@@ -126,12 +135,27 @@ abbrev pub operand_fault : (List (List ℕ) → Option UsageKind) → List (List
 operand_fault fault [] = Some MissingOperand
 operand_fault fault (operand ∷ words) = if is_operand operand then fault words else Some MissingOperand
 
+-- The number that a word spells in decimal, where it is at most this.
+abbrev pub whole_number : ℕ → List ℕ → Option ℕ
+whole_number most word = if bytes_eq word (codes "0") then Some 0 else number_of most word
+
+-- The first fault of the words in an operand's place and behind it: a number of at most this, and words whose first fault is this.
+abbrev pub number_fault : ℕ → (List (List ℕ) → Option UsageKind) → List (List ℕ) → Option UsageKind
+number_fault most fault [] = Some MissingOperand
+number_fault most fault (operand ∷ words) =
+    if is_operand operand then (if is_some (whole_number most operand) then fault words else Some BadValue) else Some MissingOperand
+
+-- The first fault of the words behind `gen`, which has no options.
+abbrev pub gen_fault : List (List ℕ) → Option UsageKind
+gen_fault words = number_fault LINES_MAX (number_fault 18446744073709551615 script_fault) words
+
 -- The first fault of the words, from the left.
 abbrev pub usage_fault : List (List ℕ) → Option UsageKind
 usage_fault [] = Some NoCommand
 usage_fault (command ∷ words) =
     if bytes_eq command (codes "run") then operand_fault run_fault words
     else if bytes_eq command (codes "script") then operand_fault script_fault words
+    else if bytes_eq command (codes "gen") then gen_fault words
     else Some UnknownCommand
 
 -- What is told is this fault of words; that there is no memory is told only where they have none.

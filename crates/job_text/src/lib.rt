@@ -18,4 +18,4 @@ mod words;
 
 pub use fault::{JobFault, JobReadFault};
 pub use job::{read_grammar, read_job};
-pub use words::{Command, RunOptions, UsageKind, WordFault, read_words};
+pub use words::{Command, LINES_MAX, RunOptions, UsageKind, WordFault, read_words};

@@ -3,6 +3,7 @@ ghost use Rattle.std.specs.Prelude.{◌≡◌, ◌∷◌, [], option_map, bytes_
 ghost use Rattle.std.specs.Option.{option_map_or};
 ghost use Rattle.flow_defs.specs.Stages.{pieces};
 ghost use Rattle.job_text.specs.JobFaults.{is_token, number_of, kind_of, exchange_of, agg_of};
+ghost use Rattle.job_text.specs.Words.{whole_number};
 
 use flow_defs::{AggKind, Exchange, StageKind};
 
@@ -37,16 +38,34 @@ pub(crate) fn is_token(word: &[u8]) -> bool
 pub(crate) fn number_of(word: &[u8], most: u32) -> Option<u32>
     ensures { result ≡ number_of most word.now }
 {
+    let number = long_number_of(word, most as u64)?;
+    Some(number as u32)
+}
+
+fn long_number_of(word: &[u8], most: u64) -> Option<u64>
+    ensures { result ≡ number_of most word.now }
+{
     let [b'1'..=b'9', ..] = word else {
         return None;
     };
     let Ok(text) = std::str::from_utf8(word) else {
         return None;
     };
-    let Ok(number) = text.parse::<u32>() else {
+    let Ok(number) = text.parse::<u64>() else {
         return None;
     };
     (number <= most).then_some(number)
+}
+
+// The number up to the most that the word spells in decimal.
+pub(crate) fn whole_number(word: &[u8], most: u64) -> Option<u64>
+    ensures { result ≡ whole_number most word.now }
+{
+    if is(word, "0") {
+        Some(0)
+    } else {
+        long_number_of(word, most)
+    }
 }
 
 // The kind of stages that the word spells, and its argument.
@@ -84,5 +103,13 @@ pub(crate) fn exchange_of(word: &[u8]) -> Option<Exchange>
 pub(crate) fn agg_of(word: &[u8]) -> Option<AggKind>
     ensures { result ≡ agg_of word.now }
 {
-    is(word, "count").then_some(AggKind::Count)
+    if is(word, "count") {
+        Some(AggKind::Count)
+    } else if is(word, "sum") {
+        Some(AggKind::Sum)
+    } else if is(word, "max") {
+        Some(AggKind::Max)
+    } else {
+        None
+    }
 }

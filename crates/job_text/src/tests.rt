@@ -96,6 +96,16 @@ const FAULTY: &[(&[&str], &str)] = &[
     (&["script", "s", "--fast"], "usage: unknown option"),
     (&["script", "s", "--pool", "3"], "usage: unknown option"),
     (&["script", "s", "run"], "usage: extra word"),
+    (&["gen"], "usage: missing operand"),
+    (&["gen", "--fast"], "usage: missing operand"),
+    (&["gen", "1"], "usage: missing operand"),
+    (&["gen", "2000001"], "usage: bad value"),
+    (&["gen", "01", "7"], "usage: bad value"),
+    (&["gen", "+1", "7"], "usage: bad value"),
+    (&["gen", "1", "18446744073709551616"], "usage: bad value"),
+    (&["gen", "1", "7 "], "usage: bad value"),
+    (&["gen", "1", "7", "--pool"], "usage: unknown option"),
+    (&["gen", "1", "7", "7"], "usage: extra word"),
 ];
 
 #[test]
@@ -202,6 +212,23 @@ fn an_operand_may_be_any_text_without_a_dash(rt: HostRuntime) -> Result<(), Fail
         return Err(Fail::from("the words of a script are another command"));
     };
     assert_eq!(rt; file.text(), "run");
+    Ok(())
+}
+
+#[test]
+fn lines_and_a_seed_are_read(rt: HostRuntime) -> Result<(), Fail> {
+    let alloc = rt.alloc();
+    for (lines, seed, wanted) in [
+        ("0", "9", (0, 9)),
+        ("2000000", "0", (2_000_000, 0)),
+        ("10", "18446744073709551615", (10, u64::MAX)),
+    ] {
+        let words = words_of(alloc, &["gen", lines, seed])?;
+        let Command::Gen { lines, seed } = read_words(alloc, &words)? else {
+            return Err(Fail::from("the words of lines are another command"));
+        };
+        assert_eq!(rt; (lines, seed), wanted);
+    }
     Ok(())
 }
 
@@ -427,6 +454,27 @@ const TEXTS: &[(&str, &str, usize, &str, &str)] = &[
         "job line 2: unknown kind",
     ),
     ("source in\nstage field:1 1 hash", "", 0, END, ""),
+    (
+        "source in\naggregate sum 1",
+        "",
+        0,
+        "",
+        "job line 2: no function",
+    ),
+    (
+        "source in\naggregate max 1",
+        "",
+        0,
+        "",
+        "job line 2: no function",
+    ),
+    (
+        "source in\naggregate Max 1",
+        "",
+        0,
+        "",
+        "job line 2: unknown kind",
+    ),
     ("source in\nstage field:9999 1 hash", "", 0, END, ""),
     (
         "source in\nstage field:10000 1 hash",
@@ -443,14 +491,14 @@ const TEXTS: &[(&str, &str, usize, &str, &str)] = &[
         "job line 2: unknown kind",
     ),
     (
-        "source in\naggregate sum 1\n",
+        "source in\naggregate least 1\n",
         "",
         0,
         "",
         "job line 2: unknown kind",
     ),
     (
-        "source in\naggregate max 0\n",
+        "source in\naggregate most 0\n",
         "",
         0,
         "",

@@ -1,10 +1,11 @@
 // Reads the words of a command line.
-ghost use Rattle.std.specs.Prelude.{◌≡◌, ◌↔◌, ◌⊎◌, ℕ, List, ◌∷◌, Option, Some, None, Err, IsTrue, IfOk, IfErr, MatchResult, codes};
+ghost use Rattle.std.specs.Prelude.{◌≡◌, ◌↔◌, ◌⊎◌, ◌≤◌, ℕ, List, ◌∷◌, Option, Some, None, Err, IsTrue, IfOk, IfErr, MatchResult, codes, decimal};
 ghost use Rattle.std.specs.Result.{result_err};
 ghost use Rattle.job_text.specs.declared.words.WordFault.TheVariants.{Memory, Usage};
-ghost use Rattle.job_text.specs.Words.{IsRun, IsScript, IsCommand, HasRanges, IsUsage, has_dash, is_operand, operand_fault, run_fault, script_fault, usage_fault};
+ghost use Rattle.job_text.specs.Words.{IsRun, IsScript, IsGen, IsCommand, HasRanges, IsUsage, has_dash, is_operand, operand_fault, number_fault, run_fault, script_fault, gen_fault, usage_fault};
 
 use crate::options::{run_options, stray_fault};
+use crate::spelling::whole_number;
 use flow_defs::{ListOf, Word};
 use std::alloc::{AllocError, Global};
 use thiserror::Error;
@@ -16,7 +17,12 @@ pub enum Command {
     Run { job: Word, options: RunOptions },
     /// Run the script whose text is in this file.
     Script { file: Word },
+    /// Make so many lines, from 0 to 2,000,000, of a seed.
+    Gen { lines: u64, seed: u64 },
 }
+
+/// The most lines that are made of a seed.
+pub const LINES_MAX: u64 = 2_000_000;
 
 /// How a job is run.
 #[derive(Clone, Copy, Debug, PartialEq, Eq)]
@@ -37,7 +43,7 @@ pub enum UsageKind {
     /// An operand is wanted where there is no word, an empty one, or one that begins with `-`.
     #[error("missing operand")]
     MissingOperand,
-    /// An option has no such value, or its number is out of its range.
+    /// An operand is no number in its range, or an option has no such value.
     #[error("bad value")]
     BadValue,
     /// A word behind the operand begins with `-`, and is no option of the command.
@@ -90,7 +96,8 @@ pub fn read_words(alloc: Global, words: &ListOf<Word>) -> Result<Command, WordFa
     // The words without a fault are those of a command.
     ensures accepted { (usage_fault words.now.items ≡ None)
         ↔ (((job : List ℕ) × (options : RunOptions) × IsRun words.now.items job options)
-        ⊎ ((file : List ℕ) × IsScript words.now.items file)) }
+        ⊎ ((file : List ℕ) × IsScript words.now.items file)
+        ⊎ ((lines : ℕ) × (seed : ℕ) × IsGen words.now.items lines seed)) }
 {
     let [command, words @ ..] = words.as_slice() else {
         return Err(UsageKind::NoCommand.into());
@@ -99,6 +106,8 @@ pub fn read_words(alloc: Global, words: &ListOf<Word>) -> Result<Command, WordFa
         read_run(alloc, words)
     } else if command.text() == "script" {
         read_script(alloc, words)
+    } else if command.text() == "gen" {
+        read_gen(words)
     } else {
         Err(UsageKind::UnknownCommand.into())
     }
@@ -124,6 +133,33 @@ fn read_script(alloc: Global, words: &[Word]) -> Result<Command, WordFault>
     no_options(behind)?;
     let file = Word::of(alloc, file.text())?;
     Ok(Command::Script { file })
+}
+
+// Reads the words behind `gen`.
+fn read_gen(words: &[Word]) -> Result<Command, WordFault>
+    ensures command { IfOk result (IsCommand (codes "gen" ∷ words.now)) }
+    ensures fault { IfErr result (λ told. IsUsage told (gen_fault words.now)) }
+{
+    let (lines, behind) = number_operand(words, LINES_MAX)?;
+    let (seed, behind) = number_operand(behind, u64::MAX)?;
+    no_options(behind)?;
+    Ok(Command::Gen { lines, seed })
+}
+
+// The number up to the most that stands first, and the words behind it.
+fn number_operand(words: &[Word], most: u64) -> Result<(u64, &[Word]), UsageKind>
+    ensures { MatchResult result
+        (λ found. (words.now ≡ decimal found.0 ∷ found.1.now) × (found.0 ≤ most) × ((fault : List (List ℕ) → Option UsageKind) → number_fault most fault words.now ≡ fault found.1.now))
+        (λ kind. (fault : List (List ℕ) → Option UsageKind) → number_fault most fault words.now ≡ Some kind) }
+{
+    let (word, behind) = match operand(words) {
+        Ok(found) => found,
+        Err(kind) => return Err(kind),
+    };
+    match whole_number(word.text().as_bytes(), most) {
+        Some(number) => Ok((number, behind)),
+        None => Err(UsageKind::BadValue),
+    }
 }
 
 // The operand that stands first, and the words behind it.

@@ -31,6 +31,14 @@ pub record HasMet (sent : Option (List ℕ)) (finished : Option Bool) (got : Opt
   pub whole : IfSome sent (λ all. IfSome got (λ front. ended ≡ Some true → front ≡ all))
   pub was_finished : IfSome finished (λ b. ended ≡ Some true → b ≡ true)
 
+-- No end of a wire is to fail.
+module _ {O I : Type 0} (out : O → Type 0) (input : I → Type 0) where
+  pub record NeverFails (wire : Wire O I) : Type 0 where
+    pub data_out : out wire.data_out
+    pub data_in : input wire.data_in
+    pub control_out : out wire.control_out
+    pub control_in : input wire.control_in
+
 -- The faults of the four ends of a wire, together.
 module _ {O I : Type 0} (of_out : O → ℕ) (of_in : I → ℕ) where
   abbrev pub faults_of : Wire O I → ℕ

@@ -1,6 +1,7 @@
 -- Links in memory, and what makes them: which of their calls fail, and what the others do. That a call can be told to fail is this
 -- project's own.
-use Rattle.std.specs.Prelude.{◌≡◌, ◌⊎◌, ℕ, ◌+◌, ◌-◌, ◌<◌, ◌≤◌, ◌==◌, Bool, true, false, List, [], ◌∷◌, ◌++◌, if◌then◌else◌, Result, Ok, Err}
+use Rattle.std.specs.Prelude.{◌≡◌, ℕ, ◌+◌, ◌-◌, ◌<◌, ◌==◌, Bool, true, false, List, [], ◌∷◌, ◌++◌, if◌then◌else◌, Result, Ok, Err, refl}
+use Rattle.std.proofs.Common.{sym, ap, subst, ◌∙◌}
 use Rattle.turn_cell.specs.declared.cell.TurnCell.{TurnCell}
 use Rattle.outside.specs.declared.ring.Ring.{Ring}
 use Rattle.outside.specs.declared.ring.LinkEntry.{LinkEntry}
@@ -32,6 +33,38 @@ pub record InState : Type 0 where
   pub calls : ℕ
   pub faults : ℕ
   pub cell : LinkCell
+
+-- Some call is to fail.
+abbrev pub may_fail : List ℕ → Bool
+may_fail [] = false
+may_fail (n ∷ ns) = true
+
+-- What names a link, at each of its ends: the cell, and whether a call of this end is to fail.
+abbrev pub out_line : OutState → LinkCell × Bool
+out_line s = (s.cell, may_fail s.fails)
+
+abbrev pub in_line : InState → LinkCell × Bool
+in_line s = (s.cell, may_fail s.fails)
+
+-- How many calls have failed, which is none where none is to fail.
+abbrev pub faults_with : List ℕ → ℕ → ℕ
+faults_with fails faults = if may_fail fails then faults else 0
+
+abbrev pub out_faults : OutState → ℕ
+out_faults s = faults_with s.fails s.faults
+
+abbrev pub in_faults : InState → ℕ
+in_faults s = faults_with s.fails s.faults
+
+-- An end of a line on which no call is to fail has no fault.
+none_failed : (old new : List ℕ) (faults : ℕ) → old ≡ [] → may_fail new ≡ may_fail old → faults_with new faults ≡ 0
+none_failed old new faults never same = subst (λ (b : Bool). (if b then faults else 0) ≡ 0) (sym (same ∙ ap may_fail never)) refl
+
+pub out_is_faultless : (old new : OutState) → old.fails ≡ [] → out_line new ≡ out_line old → out_faults new ≡ 0
+out_is_faultless old new never same = none_failed old.fails new.fails new.faults never (ap (λ line. line.1) same)
+
+pub in_is_faultless : (old new : InState) → old.fails ≡ [] → in_line new ≡ in_line old → in_faults new ≡ 0
+in_is_faultless old new never same = none_failed old.fails new.fails new.faults never (ap (λ line. line.1) same)
 
 -- The ends of a new link.
 abbrev pub new_out : LinkCell → List ℕ → OutState
@@ -79,7 +112,13 @@ no_links pairs reads writes = record { pairs = pairs; reads = reads; writes = wr
 abbrev pub IsLink : List ℕ → List ℕ → OutState → InState → Type 0
 IsLink reads writes out input = (out ≡ new_out out.cell writes) × (input ≡ new_in out.cell reads)
 
--- A pair gives two new links. It fails where its number is listed, and where all the wires that can be counted are out.
+-- None of these links' calls is to fail, nor one of an end of a wire that they give.
+pub record NoneFails (links : LinksState) : Type 0 where
+  pub pairs : links.pairs ≡ []
+  pub reads : links.reads ≡ []
+  pub writes : links.writes ≡ []
+
+-- A pair gives two new links. It fails where its number is listed.
 abbrev pub PairStep : LinksState → Result (Wire OutState InState) PairFault → LinksState → Type 0
 PairStep old (Ok wire) new =
     (is_listed old.pairs (counted old.calls) ≡ false)
@@ -87,7 +126,7 @@ PairStep old (Ok wire) new =
     × IsLink old.reads old.writes wire.control_out wire.control_in
     × (new ≡ record old { calls = counted old.calls; lent = old.lent + 1 })
 PairStep old (Err Failed) new =
-    ((is_listed old.pairs (counted old.calls) ≡ true) ⊎ (18446744073709551615 ≤ old.lent))
+    (is_listed old.pairs (counted old.calls) ≡ true)
     × (new ≡ record old { calls = counted old.calls; faults = counted old.faults })
 PairStep old (Err Memory) new =
     (is_listed old.pairs (counted old.calls) ≡ false)
@@ -98,6 +137,6 @@ abbrev pub TakesBack : LinksState → Wire OutState InState → LinksState → T
 TakesBack old wire new =
     new ≡ record old {
       wires = old.wires ++ wire ∷ [];
-      faults = (if faults_of (λ (s : OutState). s.faults) (λ (s : InState). s.faults) wire == 0 then old.faults else counted old.faults);
+      faults = (if faults_of out_faults in_faults wire == 0 then old.faults else counted old.faults);
       lent = old.lent - 1;
     }

@@ -24,6 +24,9 @@ pub trait LinkOut {
     /// How often a write has failed or took nothing.
     ghost faults: { Self → ℕ };
 
+    /// That no write of this end is to fail.
+    ghost never_fails: { Self → Type 0 };
+
     /// Sends a front of `bytes`, and answers how many bytes that is. It waits while the link is full. An
     /// answer of 0 is itself counted as a fault.
     fn write<R: Wait>(&mut self, rt: &R, bytes: &[u8]) -> Result<usize, Failed>
@@ -44,6 +47,9 @@ pub trait LinkOut {
         ensures finished { IfSome (finished self.old) (λ _. finished self.new ≡ Some true) }
         ensures line { line self.new ≡ line self.old }
         ensures never_falls { faults self.old ≤ faults self.new };
+
+    /// Where an end never fails, none of its link has counted a fault, whatever was written since.
+    ghost is_faultless: { (old new : Self) → never_fails old → line new ≡ line old → faults new ≡ 0 };
 }
 
 /// The end of a one-way link from which bytes are read.
@@ -62,6 +68,9 @@ pub trait LinkIn {
     /// How often a read has failed.
     ghost faults: { Self → ℕ };
 
+    /// That no read of this end is to fail.
+    ghost never_fails: { Self → Type 0 };
+
     /// Fills a front of `room`, and answers how many bytes that is. It waits while there are none. 0 is
     /// the end.
     fn read<R: Wait>(&mut self, rt: &R, room: &mut [u8]) -> Result<usize, Failed>
@@ -75,4 +84,7 @@ pub trait LinkIn {
         ensures line { line self.new ≡ line self.old }
         ensures never_falls { faults self.old ≤ faults self.new }
         ensures failed { OnErr result (HasRisen (faults self.old) (faults self.new)) };
+
+    /// Where an end never fails, none of its link has counted a fault, whatever was read since.
+    ghost is_faultless: { (old new : Self) → never_fails old → line new ≡ line old → faults new ≡ 0 };
 }

@@ -2,7 +2,7 @@
 ghost use Rattle.std.specs.Prelude.{◌≡◌, ◌<◌, ◌≤◌, ◌++◌, length, take, true, IfOk, OnErr};
 ghost use Rattle.turn_cell.specs.Passes.{IsPassOf};
 ghost use Rattle.outside.specs.Faults.{HasRisen};
-ghost use Rattle.outside.specs.MemoryLinks.{new_in, InStep};
+ghost use Rattle.outside.specs.MemoryLinks.{new_in, in_faults, in_line, InStep};
 
 use crate::link_turns::read_some;
 use crate::{Failed, LinkIn, Ring};
@@ -61,24 +61,33 @@ impl MemoryIn {
     }
 
     pub(crate) fn faults(&self) -> u64
-        ensures { result ≡ self.now.faults }
+        ensures { result ≡ in_faults self.now }
     {
+        // Where no read is to fail, none has.
+        if self.reads.as_slice().is_empty() {
+            return 0;
+        }
         self.faults
     }
 }
 
 impl LinkIn for MemoryIn {
-    ghost use Rattle.std.specs.Prelude.{Some};
+    ghost use Rattle.std.specs.Prelude.{◌≡◌, [], Some};
+    ghost use Rattle.outside.specs.MemoryLinks.{in_is_faultless};
 
-    type Line = TurnCell<Ring>;
+    type Line = (TurnCell<Ring>, bool);
 
-    ghost line = { λ s. s.cell };
+    ghost line = { λ s. in_line s };
 
     ghost got = { λ s. Some s.got };
 
     ghost ended = { λ s. Some s.ended };
 
-    ghost faults = { λ s. s.faults };
+    ghost faults = { λ s. in_faults s };
+
+    ghost never_fails = { λ s. s.fails ≡ [] };
+
+    ghost is_faultless = { in_is_faultless };
 
     fn read<R: Wait>(&mut self, rt: &R, room: &mut [u8]) -> Result<usize, Failed>
         requires { 0 < length room.old }
@@ -88,9 +97,9 @@ impl LinkIn for MemoryIn {
         ensures end { IfOk result (λ n. n ≡ 0 → self.new.ended ≡ true) }
         ensures not_end { IfOk result (λ n. 0 < n → self.new.ended ≡ self.old.ended) }
         ensures no_end { OnErr result (self.new.ended ≡ self.old.ended) }
-        ensures line { self.new.cell ≡ self.old.cell }
-        ensures never_falls { self.old.faults ≤ self.new.faults }
-        ensures failed { OnErr result (HasRisen self.old.faults self.new.faults) }
+        ensures line { (self.new.cell ≡ self.old.cell) × (self.new.fails ≡ self.old.fails) }
+        ensures never_falls { in_faults self.old ≤ in_faults self.new }
+        ensures failed { OnErr result (HasRisen (in_faults self.old) (in_faults self.new)) }
 
         // Which read fails, and that nothing comes after the end.
         ensures step { InStep self.old result self.new }

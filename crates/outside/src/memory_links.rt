@@ -1,8 +1,8 @@
 // Links in memory.
-ghost use Rattle.std.specs.Prelude.{◌≡◌, ◌+◌, ◌-◌, ◌<◌, ◌≤◌, ◌==◌, ◌++◌, [], ◌∷◌, length, not, Some, Err, IfOk, OnOk, OnErr};
+ghost use Rattle.std.specs.Prelude.{◌≡◌, ◌≢◌, ◌+◌, ◌-◌, ◌<◌, ◌≤◌, ◌==◌, ◌++◌, [], ◌∷◌, length, not, Some, Err, IfOk, OnOk, OnErr};
 ghost use Rattle.outside.specs.Faults.{HasRisen};
-ghost use Rattle.outside.specs.Links.{HasMet, faults_of};
-ghost use Rattle.outside.specs.MemoryLinks.{IsLink, PairStep, TakesBack, no_links};
+ghost use Rattle.outside.specs.Links.{HasMet, NeverFails, faults_of};
+ghost use Rattle.outside.specs.MemoryLinks.{IsLink, NoneFails, PairStep, TakesBack, in_faults, no_links, out_faults};
 
 use crate::{Links, MemoryIn, MemoryOut, PairFault, Ring, Wire};
 use flow_defs::ListOf;
@@ -98,7 +98,7 @@ pub(crate) fn new_wire(
 
 // Whether one of the ends has counted a fault.
 fn has_fault(wire: &Wire<MemoryOut, MemoryIn>) -> bool
-    ensures { result ≡ not (faults_of (λ s. s.faults) (λ s. s.faults) wire.now == 0) }
+    ensures { result ≡ not (faults_of out_faults in_faults wire.now == 0) }
 {
     wire.data_out.faults() > 0
         || wire.data_in.faults() > 0
@@ -144,9 +144,11 @@ impl Links for MemoryLinks {
 
     ghost use Rattle.std.specs.Prelude.{◌≡◌, Some};
 
-    ghost belong = { λ a b. a ≡ b };
+    ghost belong = { λ a b. a.0 ≡ b.0 };
 
     ghost faults = { λ s. s.faults };
+
+    ghost never_fails = { λ s. NoneFails s };
 
     ghost lent = { λ s. s.lent };
 
@@ -160,6 +162,9 @@ impl Links for MemoryLinks {
         ensures failed { result ≡ Err PairFault.Failed → HasRisen self.old.faults self.new.faults }
         ensures lends { OnOk result (self.new.lent ≡ self.old.lent + 1) }
         ensures lends_none { OnErr result (self.new.lent ≡ self.old.lent) }
+        ensures sure { NoneFails self.old → result ≢ Err PairFault.Failed }
+        ensures sure_wire { NoneFails self.old → IfOk result (NeverFails (λ s. s.fails ≡ []) (λ s. s.fails ≡ [])) }
+        ensures still_sure { NoneFails self.old → NoneFails self.new }
 
         // Which call fails, and what another one gives.
         ensures step { PairStep self.old result self.new }
@@ -170,8 +175,7 @@ impl Links for MemoryLinks {
             return Err(PairFault::Failed);
         }
         let Some(lent) = self.lent.checked_add(1) else {
-            self.faults = self.faults.saturating_add(1);
-            return Err(PairFault::Failed);
+            return Err(PairFault::Memory);
         };
         self.wires.reserve(lent)?;
         let wire = new_wire(alloc, self.reads.as_slice(), self.writes.as_slice())?;
@@ -190,10 +194,11 @@ impl Links for MemoryLinks {
     fn back(&mut self, wire: Wire<MemoryOut, MemoryIn>)
         requires { 0 < self.old.lent }
         ensures kept { self.new.wires ≡ self.old.wires ++ wire ∷ [] }
-        ensures rises { 0 < faults_of (λ s. s.faults) (λ s. s.faults) wire → HasRisen self.old.faults self.new.faults }
-        ensures stays { faults_of (λ s. s.faults) (λ s. s.faults) wire ≡ 0 → self.new.faults ≡ self.old.faults }
+        ensures rises { 0 < faults_of out_faults in_faults wire → HasRisen self.old.faults self.new.faults }
+        ensures stays { faults_of out_faults in_faults wire ≡ 0 → self.new.faults ≡ self.old.faults }
         ensures never_falls { self.old.faults ≤ self.new.faults }
         ensures returns { self.new.lent ≡ self.old.lent - 1 }
+        ensures still_sure { NoneFails self.old → NoneFails self.new }
 
         // What is counted, and that nothing else changes.
         ensures step { TakesBack self.old wire self.new }

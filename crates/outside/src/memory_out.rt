@@ -3,7 +3,7 @@ ghost use Rattle.std.specs.Prelude.{◌≡◌, ◌<◌, ◌≤◌, ◌++◌, len
 ghost use Rattle.turn_cell.specs.Passes.{IsPassOf, mine, number};
 ghost use Rattle.outside.specs.Faults.{HasRisen};
 ghost use Rattle.outside.specs.Links.{HasMet};
-ghost use Rattle.outside.specs.MemoryLinks.{new_out, OutStep};
+ghost use Rattle.outside.specs.MemoryLinks.{new_out, out_faults, out_line, OutStep};
 
 use crate::link_turns::{finish_ring, write_some};
 use crate::{Failed, LinkOut, MemoryIn, Ring};
@@ -69,24 +69,33 @@ impl MemoryOut {
     }
 
     pub(crate) fn faults(&self) -> u64
-        ensures { result ≡ self.now.faults }
+        ensures { result ≡ out_faults self.now }
     {
+        // Where no write is to fail, none has.
+        if self.writes.as_slice().is_empty() {
+            return 0;
+        }
         self.faults
     }
 }
 
 impl LinkOut for MemoryOut {
-    ghost use Rattle.std.specs.Prelude.{Some};
+    ghost use Rattle.std.specs.Prelude.{◌≡◌, [], Some};
+    ghost use Rattle.outside.specs.MemoryLinks.{out_is_faultless};
 
-    type Line = TurnCell<Ring>;
+    type Line = (TurnCell<Ring>, bool);
 
-    ghost line = { λ s. s.cell };
+    ghost line = { λ s. out_line s };
 
     ghost sent = { λ s. Some s.sent };
 
     ghost finished = { λ s. Some s.finished };
 
-    ghost faults = { λ s. s.faults };
+    ghost faults = { λ s. out_faults s };
+
+    ghost never_fails = { λ s. s.fails ≡ [] };
+
+    ghost is_faultless = { out_is_faultless };
 
     fn write<R: Wait>(&mut self, rt: &R, bytes: &[u8]) -> Result<usize, Failed>
         requires some { 0 < length bytes.now }
@@ -95,10 +104,10 @@ impl LinkOut for MemoryOut {
         ensures told { IfOk result (λ n. self.new.sent ≡ self.old.sent ++ take n bytes.now) }
         ensures kept { OnErr result (self.new.sent ≡ self.old.sent) }
         ensures unfinished { self.new.finished ≡ self.old.finished }
-        ensures line { self.new.cell ≡ self.old.cell }
-        ensures never_falls { self.old.faults ≤ self.new.faults }
-        ensures failed { OnErr result (HasRisen self.old.faults self.new.faults) }
-        ensures nothing { IfOk result (λ n. n ≡ 0 → HasRisen self.old.faults self.new.faults) }
+        ensures line { (self.new.cell ≡ self.old.cell) × (self.new.fails ≡ self.old.fails) }
+        ensures never_falls { out_faults self.old ≤ out_faults self.new }
+        ensures failed { OnErr result (HasRisen (out_faults self.old) (out_faults self.new)) }
+        ensures nothing { IfOk result (λ n. n ≡ 0 → HasRisen (out_faults self.old) (out_faults self.new)) }
 
         // Which write fails, and that any other takes at least a byte.
         ensures step { OutStep self.old result self.new }
@@ -114,8 +123,8 @@ impl LinkOut for MemoryOut {
     fn finish<R: Wait>(&mut self, rt: &R)
         ensures sent { self.new.sent ≡ self.old.sent }
         ensures finished { self.new.finished ≡ true }
-        ensures line { self.new.cell ≡ self.old.cell }
-        ensures never_falls { self.old.faults ≤ self.new.faults }
+        ensures line { (self.new.cell ≡ self.old.cell) × (self.new.fails ≡ self.old.fails) }
+        ensures never_falls { out_faults self.old ≤ out_faults self.new }
     {
         finish_ring(rt, &self.cell, &mut self.pass);
     }

@@ -1,7 +1,7 @@
 // What makes links.
-ghost use Rattle.std.specs.Prelude.{◌≡◌, ◌+◌, ◌-◌, ◌<◌, ◌≤◌, ◌++◌, [], ◌∷◌, ℕ, List, Option, Some, Err, IfOk, IfSome, OnOk, OnErr};
+ghost use Rattle.std.specs.Prelude.{◌≡◌, ◌≢◌, ◌+◌, ◌-◌, ◌<◌, ◌≤◌, ◌++◌, [], ◌∷◌, ℕ, List, Option, Some, Err, IfOk, IfSome, OnOk, OnErr};
 ghost use Rattle.outside.specs.Faults.{HasRisen};
-ghost use Rattle.outside.specs.Links.{IsNewOut, IsNewIn, HasMet, faults_of};
+ghost use Rattle.outside.specs.Links.{IsNewOut, IsNewIn, HasMet, NeverFails, faults_of};
 ghost use Rattle.outside.specs.declared.wires.PairFault.TheVariants.{Memory};
 ghost use Rattle.outside.specs.declared.wires.Wire.{Wire};
 
@@ -47,6 +47,9 @@ pub trait Links {
     /// How often a wire could not be made, or one with a fault was given back.
     ghost faults: { Self → ℕ };
 
+    /// That no call of these links is to fail, nor one of an end of a wire that they give.
+    ghost never_fails: { Self → Type 0 };
+
     /// How many wires were given and not given back yet.
     ghost lent: { Self → ℕ };
 
@@ -65,7 +68,10 @@ pub trait Links {
         ensures never_falls { faults self.old ≤ faults self.new }
         ensures failed { result ≡ Err PairFault.Failed → HasRisen (faults self.old) (faults self.new) }
         ensures lends { OnOk result (lent self.new ≡ lent self.old + 1) }
-        ensures lends_none { OnErr result (lent self.new ≡ lent self.old) };
+        ensures lends_none { OnErr result (lent self.new ≡ lent self.old) }
+        ensures sure { never_fails self.old → result ≢ Err PairFault.Failed }
+        ensures sure_wire { never_fails self.old → IfOk result (NeverFails Self.Out.never_fails Self.In.never_fails) }
+        ensures still_sure { never_fails self.old → never_fails self.new };
 
     /// Lets the two ends of a link compare what they have seen.
     fn meet(&self, a: &mut Self::Out, b: &mut Self::In)
@@ -84,5 +90,6 @@ pub trait Links {
         ensures rises { 0 < faults_of Self.Out.faults Self.In.faults wire → HasRisen (faults self.old) (faults self.new) }
         ensures stays { faults_of Self.Out.faults Self.In.faults wire ≡ 0 → faults self.new ≡ faults self.old }
         ensures never_falls { faults self.old ≤ faults self.new }
-        ensures returns { lent self.new ≡ lent self.old - 1 };
+        ensures returns { lent self.new ≡ lent self.old - 1 }
+        ensures still_sure { never_fails self.old → never_fails self.new };
 }

@@ -1,7 +1,8 @@
 -- A record that a writer emits, told of all its channels.
-use Rattle.std.proofs.Common.{◌≡◌, ◌≢◌, ◌⊎◌, inl, inr, ℕ, zero, suc, ◌<◌, cond, List, [], ◌∷◌, ◌++◌, length, map, refl, sym, ap, subst, ◌∙◌, append_assoc, append-nil, arith, eq-eqb, ne_eqb}
+use Rattle.std.proofs.Common.{◌≡◌, ◌≢◌, ◌⊎◌, inl, inr, ℕ, zero, suc, ◌<◌, cond, None, List, [], ◌∷◌, ◌++◌, map, refl, sym, ap, subst, ◌∙◌, append_assoc, append-nil, arith, eq-eqb, ne_eqb}
+use Rattle.std.specs.Prelude.{IfSome}
 use Rattle.std.specs.List.{All}
-use Rattle.std.proofs.lemmas.List.Elements.{All-nil, All-head, All-tail}
+use Rattle.std.proofs.lemmas.List.Elements.{All-head, All-tail}
 use Rattle.turn_cell.specs.Passes.{seen}
 use Rattle.flow_defs.specs.declared.job.Job.{Job}
 use Rattle.flow_defs.specs.declared.job.Exchange.{Exchange}
@@ -15,10 +16,11 @@ use Rattle.conn_parts.proofs.Passes.{mine_new}
 use Rattle.record_writer.specs.declared.part.Part.{Part}
 use Rattle.record_writer.specs.declared.channels.Channels.{Channels}
 use Rattle.record_writer.specs.declared.supply.Supply.{Supply}
-use Rattle.record_writer.specs.Writers.{Writer, ways, ways_on, receiver_at, bytes_in, buffers_of, PutBuffers, PutSome, IsOpen, IsNew, HasEmitted, WasStopped}
+use Rattle.record_writer.specs.Writers.{Writer, ways, ways_on, receiver_at, bytes_in, AreCut, last_put, GrewByData, PutSome, IsOpen, IsNew, HasEmitted, HasPutData, WasStopped}
 use Rattle.record_writer.specs.Routers.{IsSelected}
 use Rattle.record_writer.specs.Channels.{IsOpenAt, LaidSome}
 use Rattle.record_writer.specs.Lists.{IsSameAt, own_of, held_of, laid_of}
+use Rattle.record_writer.proofs.Entries.{grew_none}
 use Rattle.record_writer.proofs.Lending.{held_in}
 
 -- A writer of these parts.
@@ -38,6 +40,10 @@ writer_of job e a channels supply emitted = record {
   filling = map bytes_in channels.parts.items;
   emitted = emitted;
 }
+
+-- What was laid down on a channel that is as it was.
+pub laid_kept : (c : ℕ) (channels channels' : Channels) → IsSameAt c channels channels' → laid_of channels' c ≡ laid_of channels c
+laid_kept c channels channels' same = ap (λ es. put es ++ held_of channels' c) same.own ∙ ap (λ l. put (own_of channels c) ++ l) same.held
 
 -- ---- what comes to a channel of one record
 
@@ -79,7 +85,7 @@ module _ (job : Job) (e a n k : ℕ) (r : List ℕ) (selected : IsSelected job e
     w' = writer_of job e a channels' supply' n'
 
     laid_else : (d : ℕ) → d ≢ k → laid_of channels' d ≡ laid_of channels d
-    laid_else d ne = let o = others d ne in ap (λ es. put es ++ held_of channels' d) o.own ∙ ap (λ l. put (own_of channels d) ++ l) o.held
+    laid_else d ne = laid_kept d channels channels' (others d ne)
 
     open_at : IsOpen w → (c : ℕ) → c < ways_on job e → IsOpenAt supply.size (own_of channels' c)
     open_at was c low = elim (is_or_not c k) [
@@ -90,8 +96,8 @@ module _ (job : Job) (e a n k : ℕ) (r : List ℕ) (selected : IsSelected job e
     pub has_emitted : IsOpen w → laid_of channels' k ≡ laid_of channels k ++ encoded r → n' ≡ next_count n → IsOpen w' × HasEmitted w w' (r ∷ [])
     has_emitted was laid count = (
       record {
-        each = λ c low. let o = open_at was c low in (o.unfinished, subst (λ s. PutBuffers s (own_of channels' c)) (sym same_size) o.buffers);
-        full = λ c low. subst (λ s. All (λ (b : List ℕ). length b ≡ s) (buffers_of (own_of channels' c))) (sym same_size) (open_at was c low).full;
+        each = λ c low. let o = open_at was c low in (o.unfinished, subst (λ s. AreCut s (own_of channels' c)) (sym same_size) o.buffers);
+        full = λ c low. subst (λ s. IfSome (last_put None (own_of channels' c)) (λ n. n ≡ s)) (sym same_size) (open_at was c low).full;
       },
       record {
         count = count;
@@ -101,6 +107,12 @@ module _ (job : Job) (e a n k : ℕ) (r : List ℕ) (selected : IsSelected job e
         ];
       },
     )
+
+    pub has_put_data : GrewByData (own_of channels k) (own_of channels' k) → HasPutData w w'
+    has_put_data grew = λ c low. elim (is_or_not c k) [
+      | inl is ↦ subst (λ d. GrewByData (own_of channels d) (own_of channels' d)) (sym is) grew
+      | inr ne ↦ grew_none (own_of channels c) (own_of channels' c) (others c ne).own
+    ]
 
     some_put : (c : ℕ) (bytes : List ℕ) → IsOpenAt supply.size (own_of channels' c) → LaidSome bytes (laid_of channels' c) → PutSome supply.size (own_of channels' c) bytes
     some_put c bytes opened some = record {
@@ -130,7 +142,7 @@ none_held parts empty c = none parts empty c
     none (p ∷ parts) empty (suc c) = none parts (All-tail (λ (part : Part). bytes_in part ≡ []) p parts empty) c
 
 open_none : (size : ℕ) → IsOpenAt size []
-open_none size = record { unfinished = refl; buffers = record { no_barrier = refl; cut = tt }; full = All-nil (λ (b : List ℕ). length b ≡ size) }
+open_none size = record { unfinished = refl; buffers = tt; full = tt }
 
 pub is_new : (job : Job) (e a : ℕ) (channels : Channels) (supply : Supply) → AreNew channels.passes.items → All (λ (part : Part). bytes_in part ≡ []) channels.parts.items →
     IsNew (writer_of job e a channels supply 0) × IsOpen (writer_of job e a channels supply 0)

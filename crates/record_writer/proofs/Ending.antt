@@ -1,70 +1,80 @@
--- The end of a channel.
-use Rattle.std.proofs.Common.{◌≡◌, ℕ, true, List, [], ◌∷◌, ◌++◌, refl, sym, ap, subst, ◌∙◌, append-nil}
-use Rattle.flow_defs.specs.declared.task.BarrierKind.TheVariants.{Inline}
+-- What stands behind the data of a channel: the end, or a barrier.
+use Rattle.std.proofs.Common.{◌≡◌, ℕ, false, Option, None, List, [], ◌∷◌, ◌++◌, sym, ap, subst, ◌∙◌, append-nil, inl, inr}
+use Rattle.std.specs.Prelude.{IfSome}
 use Rattle.subpartition.specs.declared.entry.SendEntry.{SendEntry}
-use Rattle.subpartition.specs.declared.entry.SendEntry.TheVariants.{Put, PutInline, Finish, Take, Size}
-use Rattle.subpartition.specs.Sending.{put, barriers_put, is_finished}
+use Rattle.subpartition.specs.declared.entry.SendEntry.TheVariants.{PutInline, Finish}
+use Rattle.subpartition.specs.Sending.{put, is_finished}
 use Rattle.record_writer.specs.declared.part.Part.{Part}
-use Rattle.record_writer.specs.Writers.{bytes_in, buffers_of, AreCut, PutBuffers, PutSome, PutAll}
-use Rattle.record_writer.specs.Channels.{IsPart, IsOpenAt, PutIfSome, laid}
-use Rattle.record_writer.proofs.Putting.{filled_least, filled_fits, put_keeps_cut, put_laid}
+use Rattle.record_writer.specs.Writers.{bytes_in, AreCut, last_put, GrewByData}
+use Rattle.record_writer.specs.Channels.{IsPart, IsOpenAt, WasEndedAt, WasMarkedAt, WasStoppedAt, PutIfSome, laid}
+use Rattle.record_writer.proofs.Entries.{put-append, finished-more, last-append, cut-append, grew_none, grew_one, grew_up_to}
+use Rattle.record_writer.proofs.Putting.{filled_least, filled_fits, put_keeps_cut, put_keeps_unfinished, put_laid}
 
--- ---- the end behind the others
-
-put-end : (own : List SendEntry) → put (own ++ Finish ∷ []) ≡ put own
-put-end [] = refl
-put-end (Put b ∷ own) = ap (λ l. b ++ l) (put-end own)
-put-end (PutInline k ∷ own) = put-end own
-put-end (Finish ∷ own) = put-end own
-put-end (Take ∷ own) = put-end own
-put-end (Size n ∷ own) = put-end own
-
-finished-end : (own : List SendEntry) → is_finished (own ++ Finish ∷ []) ≡ true
-finished-end [] = refl
-finished-end (Put b ∷ own) = finished-end own
-finished-end (PutInline k ∷ own) = finished-end own
-finished-end (Finish ∷ own) = refl
-finished-end (Take ∷ own) = finished-end own
-finished-end (Size n ∷ own) = finished-end own
-
-barriers-end : (own : List SendEntry) → barriers_put (own ++ Finish ∷ []) ≡ barriers_put own
-barriers-end [] = refl
-barriers-end (Put b ∷ own) = barriers-end own
-barriers-end (PutInline k ∷ own) = ap (λ l. (k, Inline) ∷ l) (barriers-end own)
-barriers-end (Finish ∷ own) = barriers-end own
-barriers-end (Take ∷ own) = barriers-end own
-barriers-end (Size n ∷ own) = barriers-end own
-
-buffers-end : (own : List SendEntry) → buffers_of (own ++ Finish ∷ []) ≡ buffers_of own
-buffers-end [] = refl
-buffers-end (Put b ∷ own) = ap (λ l. b ∷ l) (buffers-end own)
-buffers-end (PutInline k ∷ own) = buffers-end own
-buffers-end (Finish ∷ own) = buffers-end own
-buffers-end (Take ∷ own) = buffers-end own
-buffers-end (Size n ∷ own) = buffers-end own
-
-end_keeps_cut : (size : ℕ) (own : List SendEntry) → PutBuffers size own → PutBuffers size (own ++ Finish ∷ [])
-end_keeps_cut size own was = record {
-  no_barrier = barriers-end own ∙ was.no_barrier;
-  cut = subst (AreCut size) (sym (buffers-end own)) was.cut;
+-- Nothing was put.
+pub stopped_before : (size : ℕ) (last : SendEntry) (held : List ℕ) (own own' : List SendEntry) → IsOpenAt size own → own' ≡ own → WasStoppedAt size last own own' (put own ++ held)
+stopped_before size last held own own' was same = record {
+  some = record {
+    owed = held;
+    begins = ap (λ es. put es ++ held) same;
+    buffers = subst (AreCut size) (sym same) was.buffers;
+  };
+  entries = inl (grew_none own own' same);
 }
 
--- ---- what was being filled was put
+-- All was put, and the end or a barrier behind it.
+pub ended_or_stopped : (size : ℕ) (own own' : List SendEntry) (bytes : List ℕ) → WasEndedAt size own own' bytes → WasStoppedAt size Finish own own' bytes
+ended_or_stopped size own own' bytes ended = record {
+  some = record { owed = []; begins = append-nil (put own') ∙ ended.all.whole; buffers = ended.all.buffers };
+  entries = inr ended.entries;
+}
 
+pub marked_or_stopped : (size k : ℕ) (own own' : List SendEntry) (bytes : List ℕ) → WasMarkedAt size k own own' bytes → WasStoppedAt size (PutInline k) own own' bytes
+marked_or_stopped size k own own' bytes marked = record {
+  some = record { owed = []; begins = append-nil (put own') ∙ marked.whole; buffers = marked.is_open.buffers };
+  entries = inr marked.entries;
+}
+
+-- What was being filled was put.
 module _ (size : ℕ) (part : Part) (own mid own' : List SendEntry) (is_part : IsPart size part) (was : IsOpenAt size own) (is : PutIfSome (bytes_in part) own mid) where
-  cut_then : PutBuffers size mid
+  cut_then : AreCut size mid
   cut_then = put_keeps_cut size (bytes_in part) own mid (filled_least size part.segment part.len is_part) (filled_fits size part.segment part.len is_part) was is
 
-  pub put_some : own' ≡ mid → PutSome size own' (laid own part)
-  put_some same = record {
-    owed = [];
-    begins = append-nil (put own') ∙ ap put same ∙ put_laid (bytes_in part) own mid is;
-    buffers = subst (PutBuffers size) (sym same) cut_then;
+  unfinished_then : is_finished mid ≡ false
+  unfinished_then = put_keeps_unfinished (bytes_in part) own mid was.unfinished is
+
+  grew_then : GrewByData own mid
+  grew_then = grew_one (bytes_in part) own mid is
+
+  laid_then : put mid ≡ laid own part
+  laid_then = put_laid (bytes_in part) own mid is
+
+  pub stopped_at : (last : SendEntry) → own' ≡ mid → WasStoppedAt size last own own' (laid own part)
+  stopped_at last same = record {
+    some = record {
+      owed = [];
+      begins = append-nil (put own') ∙ ap put same ∙ laid_then;
+      buffers = subst (AreCut size) (sym same) cut_then;
+    };
+    entries = inl (subst (GrewByData own) (sym same) grew_then);
   }
 
-  pub put_all : own' ≡ mid ++ Finish ∷ [] → PutAll size own' (laid own part)
-  put_all ends = record {
-    whole = ap put ends ∙ put-end mid ∙ put_laid (bytes_in part) own mid is;
-    ended = ap is_finished ends ∙ finished-end mid;
-    buffers = subst (PutBuffers size) (sym ends) (end_keeps_cut size mid cut_then);
+  pub ended_at : own' ≡ mid ++ Finish ∷ [] → WasEndedAt size own own' (laid own part)
+  ended_at ends = record {
+    all = record {
+      whole = ap put ends ∙ put-append mid (Finish ∷ []) ∙ append-nil (put mid) ∙ laid_then;
+      ended = ap is_finished ends ∙ finished-more mid (Finish ∷ []) unfinished_then;
+      buffers = subst (AreCut size) (sym ends) (cut-append size None mid (Finish ∷ []) cut_then tt);
+    };
+    entries = grew_up_to Finish own mid own' grew_then ends;
+  }
+
+  pub marked_at : (k : ℕ) → own' ≡ mid ++ PutInline k ∷ [] → WasMarkedAt size k own own' (laid own part)
+  marked_at k marks = record {
+    whole = ap put marks ∙ put-append mid (PutInline k ∷ []) ∙ append-nil (put mid) ∙ laid_then;
+    entries = grew_up_to (PutInline k) own mid own' grew_then marks;
+    is_open = record {
+      unfinished = ap is_finished marks ∙ finished-more mid (PutInline k ∷ []) unfinished_then;
+      buffers = subst (AreCut size) (sym marks) (cut-append size None mid (PutInline k ∷ []) cut_then tt);
+      full = subst (λ (x : Option ℕ). IfSome x (λ n. n ≡ size)) (sym (ap (last_put None) marks ∙ last-append None mid (PutInline k ∷ []))) tt;
+    };
   }

@@ -7,6 +7,7 @@ use Rattle.std.proofs.lemmas.List.{length-set}
 use Rattle.std.proofs.lemmas.List.Elements.{All-set}
 use Rattle.std.proofs.lemmas.Option.{slice_get-map, slice_get_read, slice_get_within, slice_get_cases, slice_get-get_or}
 use Rattle.turn_cell.specs.Passes.{IsPassOf, mine, number}
+use Rattle.subpartition.specs.declared.entry.SendEntry.{SendEntry}
 use Rattle.subpartition.specs.Sending.{put}
 use Rattle.conn_parts.specs.Shares.{mine_at}
 use Rattle.conn_parts.proofs.Lists.{refilled_set, get_set, get_set_else, set_cases}
@@ -106,3 +107,7 @@ cell_there cells first stride many passes k cell own within =
 -- What was laid down in part, said of other lists that are the same.
 pub some_there : {bytes bytes' now now' : List ℕ} → bytes' ≡ bytes → now' ≡ now → LaidSome bytes now → LaidSome bytes' now'
 some_there is is_now some = record { rest = some.rest; begins = ap (λ l. l ++ some.rest) is_now ∙ some.begins ∙ sym is }
+
+-- What is said of the entries before and after, and of bytes, said of others that are the same.
+pub said_there : (P : List SendEntry → List SendEntry → List ℕ → Type 0) (own own' mid mid' : List SendEntry) (bytes bytes' : List ℕ) → mid ≡ own → mid' ≡ own' → bytes' ≡ bytes → P own own' bytes → P mid mid' bytes'
+said_there P own own' mid mid' bytes bytes' was now laid p = subst (λ es. P es mid' bytes') (sym was) (subst (λ es. P own es bytes') (sym now) (subst (P own own') (sym laid) p))

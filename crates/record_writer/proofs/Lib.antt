@@ -1,6 +1,9 @@
+pub mod Entries
 pub mod Putting
 pub mod Ending
 pub mod Lending
 pub mod Emitting
+pub mod Marking
+pub mod InOrder
 pub mod Dealt
 pub mod Samples

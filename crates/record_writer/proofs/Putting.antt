@@ -1,95 +1,52 @@
 -- What a buffer adds to a channel.
 use Rattle.std.proofs.Common.{◌≡◌, ◌≢◌, ℕ, false, zero, suc, Option, ◌+◌, ◌≤◌, List, [], ◌∷◌, ◌++◌, length, take, drop, Some, None, refl, sym, ap, subst, ◌∙◌, append_assoc, append-nil, arith, length-append, Ok, Err}
-use Rattle.std.specs.Prelude.{OnOk, OnErr}
+use Rattle.std.specs.Prelude.{OnOk, OnErr, IfSome}
 use Rattle.std.specs.declared.result.Result.{Result}
-use Rattle.std.specs.List.{All}
 use Rattle.std.specs.Option.{option_map_or}
 use Rattle.std.proofs.lemmas.List.{take_all, take-append-drop, length-take}
-use Rattle.std.proofs.lemmas.List.Elements.{All-head, All-tail, All-push}
-use Rattle.flow_defs.specs.declared.task.BarrierKind.TheVariants.{Inline}
 use Rattle.subpartition.specs.declared.entry.SendEntry.{SendEntry}
-use Rattle.subpartition.specs.declared.entry.SendEntry.TheVariants.{Put, PutInline, Finish, Take, Size}
-use Rattle.subpartition.specs.Sending.{put, barriers_put, is_finished}
+use Rattle.subpartition.specs.declared.entry.SendEntry.TheVariants.{Put}
+use Rattle.subpartition.specs.Sending.{put, is_finished}
 use Rattle.segment_pool.specs.declared.segment.TheConstants.{SEGMENT_MIN}
 use Rattle.record_writer.specs.declared.part.Part.{Part}
-use Rattle.record_writer.specs.Writers.{bytes_in, buffers_of, AreCut, PutBuffers}
+use Rattle.record_writer.specs.Writers.{bytes_in, AreCut, last_put}
 use Rattle.record_writer.specs.Channels.{IsFilledTo, IsPart, IsOpenAt, PutIfSome, LaidSome, laid, IsSameSupply}
 use Rattle.record_writer.specs.declared.supply.Supply.{Supply}
+use Rattle.record_writer.proofs.Entries.{put-append, finished-more, last-append, cut-append}
 use Rattle.flow_defs.specs.Records.{length_bytes, encoded}
-
--- ---- one buffer behind the others
-
-pub put-more : (own : List SendEntry) (bytes : List ℕ) → put (own ++ Put bytes ∷ []) ≡ put own ++ bytes
-put-more [] bytes = append-nil bytes
-put-more (Put b ∷ own) bytes = ap (λ l. b ++ l) (put-more own bytes) ∙ sym (append_assoc b (put own) bytes)
-put-more (PutInline k ∷ own) bytes = put-more own bytes
-put-more (Finish ∷ own) bytes = put-more own bytes
-put-more (Take ∷ own) bytes = put-more own bytes
-put-more (Size n ∷ own) bytes = put-more own bytes
-
-pub finished-more : (own : List SendEntry) (bytes : List ℕ) → is_finished (own ++ Put bytes ∷ []) ≡ is_finished own
-finished-more [] bytes = refl
-finished-more (Put b ∷ own) bytes = finished-more own bytes
-finished-more (PutInline k ∷ own) bytes = finished-more own bytes
-finished-more (Finish ∷ own) bytes = refl
-finished-more (Take ∷ own) bytes = finished-more own bytes
-finished-more (Size n ∷ own) bytes = finished-more own bytes
-
-pub barriers-more : (own : List SendEntry) (bytes : List ℕ) → barriers_put (own ++ Put bytes ∷ []) ≡ barriers_put own
-barriers-more [] bytes = refl
-barriers-more (Put b ∷ own) bytes = barriers-more own bytes
-barriers-more (PutInline k ∷ own) bytes = ap (λ l. (k, Inline) ∷ l) (barriers-more own bytes)
-barriers-more (Finish ∷ own) bytes = barriers-more own bytes
-barriers-more (Take ∷ own) bytes = barriers-more own bytes
-barriers-more (Size n ∷ own) bytes = barriers-more own bytes
-
-pub buffers-more : (own : List SendEntry) (bytes : List ℕ) → buffers_of (own ++ Put bytes ∷ []) ≡ buffers_of own ++ bytes ∷ []
-buffers-more [] bytes = refl
-buffers-more (Put b ∷ own) bytes = ap (λ l. b ∷ l) (buffers-more own bytes)
-buffers-more (PutInline k ∷ own) bytes = buffers-more own bytes
-buffers-more (Finish ∷ own) bytes = buffers-more own bytes
-buffers-more (Take ∷ own) bytes = buffers-more own bytes
-buffers-more (Size n ∷ own) bytes = buffers-more own bytes
 
 -- ---- a buffer that was put where it was not empty
 
 pub put_laid : (bytes : List ℕ) (own own' : List SendEntry) → PutIfSome bytes own own' → put own' ≡ put own ++ bytes
 put_laid [] own own' is = ap put is ∙ sym (append-nil (put own))
-put_laid (b ∷ bytes) own own' is = ap put is ∙ put-more own (b ∷ bytes)
+put_laid (b ∷ bytes) own own' is = ap put is ∙ put-append own (Put (b ∷ bytes) ∷ []) ∙ ap (λ l. put own ++ l) (append-nil (b ∷ bytes))
 
--- Buffers that are all full are cut, and one more may be behind them.
-cut_more : (size : ℕ) (buffers : List (List ℕ)) (bytes : List ℕ) → SEGMENT_MIN ≤ size → length bytes ≤ size → All (λ (b : List ℕ). length b ≡ size) buffers → AreCut size (buffers ++ bytes ∷ [])
-cut_more size [] bytes least fits full = fits
-cut_more size (b ∷ []) bytes least fits full =
-    let here : length b ≡ size = All-head (λ (x : List ℕ). length x ≡ size) b [] full in (omega (arith, here, least), omega (arith, here), fits)
-cut_more size (b ∷ next ∷ buffers) bytes least fits full =
-    let here : length b ≡ size = All-head (λ (x : List ℕ). length x ≡ size) b (next ∷ buffers) full in
-    (omega (arith, here, least), omega (arith, here), cut_more size (next ∷ buffers) bytes least fits (All-tail (λ (x : List ℕ). length x ≡ size) b (next ∷ buffers) full))
+-- A full buffer right before is as long as the least segment at least.
+least_before : (size : ℕ) (before : Option ℕ) → SEGMENT_MIN ≤ size → IfSome before (λ n. n ≡ size) → IfSome before (λ n. SEGMENT_MIN ≤ n)
+least_before size None least full = tt
+least_before size (Some n) least full = omega (arith, least, full)
 
--- A buffer that fits may be put behind those that are full.
-pub put_keeps_cut : (size : ℕ) (bytes : List ℕ) (own own' : List SendEntry) → (bytes ≢ [] → SEGMENT_MIN ≤ size) → length bytes ≤ size → IsOpenAt size own → PutIfSome bytes own own' → PutBuffers size own'
-put_keeps_cut size [] own own' least fits was is = subst (PutBuffers size) (sym is) was.buffers
-put_keeps_cut size (b ∷ bytes) own own' least fits was is = subst (PutBuffers size) (sym is) (record {
-  no_barrier = barriers-more own (b ∷ bytes) ∙ was.buffers.no_barrier;
-  cut = subst (AreCut size) (sym (buffers-more own (b ∷ bytes))) (cut_more size (buffers_of own) (b ∷ bytes) (least (λ e. cc)) fits was.full);
-})
+-- A buffer that fits may be put behind a full one.
+pub put_keeps_cut : (size : ℕ) (bytes : List ℕ) (own own' : List SendEntry) → (bytes ≢ [] → SEGMENT_MIN ≤ size) → length bytes ≤ size → IsOpenAt size own → PutIfSome bytes own own' → AreCut size own'
+put_keeps_cut size [] own own' least fits was is = subst (AreCut size) (sym is) was.buffers
+put_keeps_cut size (b ∷ bytes) own own' least fits was is =
+    subst (AreCut size) (sym is) (cut-append size None own (Put (b ∷ bytes) ∷ []) was.buffers (least_before size (last_put None own) (least (λ e. cc)) was.full, fits, tt))
 
 pub put_keeps_unfinished : (bytes : List ℕ) (own own' : List SendEntry) → is_finished own ≡ false → PutIfSome bytes own own' → is_finished own' ≡ false
 put_keeps_unfinished [] own own' was is = ap is_finished is ∙ was
-put_keeps_unfinished (b ∷ bytes) own own' was is = ap is_finished is ∙ finished-more own (b ∷ bytes) ∙ was
+put_keeps_unfinished (b ∷ bytes) own own' was is = ap is_finished is ∙ finished-more own (Put (b ∷ bytes) ∷ []) was
 
 -- A full one leaves the channel open.
 pub put_keeps_open : (size : ℕ) (bytes : List ℕ) (own own' : List SendEntry) → (bytes ≢ [] → SEGMENT_MIN ≤ size) → length bytes ≡ size → IsOpenAt size own → PutIfSome bytes own own' → IsOpenAt size own'
 put_keeps_open size bytes own own' least full was is = record {
   unfinished = put_keeps_unfinished bytes own own' was.unfinished is;
   buffers = put_keeps_cut size bytes own own' least (omega (arith, full)) was is;
-  full = all_full bytes full is;
+  full = last_full bytes full is;
 }
   where
-    all_full : (bytes : List ℕ) → length bytes ≡ size → PutIfSome bytes own own' → All (λ (x : List ℕ). length x ≡ size) (buffers_of own')
-    all_full [] full is = subst (λ (es : List SendEntry). All (λ (x : List ℕ). length x ≡ size) (buffers_of es)) (sym is) was.full
-    all_full (b ∷ bytes) full is = subst (λ (es : List SendEntry). All (λ (x : List ℕ). length x ≡ size) (buffers_of es)) (sym is)
-        (subst (All (λ (x : List ℕ). length x ≡ size)) (sym (buffers-more own (b ∷ bytes))) (All-push (λ (x : List ℕ). length x ≡ size) (buffers_of own) (b ∷ bytes) was.full full))
+    last_full : (bytes : List ℕ) → length bytes ≡ size → PutIfSome bytes own own' → IfSome (last_put None own') (λ n. n ≡ size)
+    last_full [] full is = subst (λ (es : List SendEntry). IfSome (last_put None es) (λ n. n ≡ size)) (sym is) was.full
+    last_full (b ∷ bytes) full is = subst (λ (x : Option ℕ). IfSome x (λ n. n ≡ size)) (sym (ap (last_put None) is ∙ last-append None own (Put (b ∷ bytes) ∷ []))) full
 
 -- ---- the buffer that is being filled
 

@@ -8,7 +8,7 @@ use Rattle.flow_defs.specs.declared.job.Exchange.{Exchange}
 use Rattle.flow_defs.specs.declared.job.Exchange.TheVariants.{Hash, Rebalance, Forward}
 use Rattle.flow_defs.specs.Jobs.{tasks, exchange}
 use Rattle.conn_parts.specs.Shares.{AreNew}
-use Rattle.record_writer.specs.Writers.{SendCell, SendPass, ways, ways_on, AreOwnAt, HaveSizeAt}
+use Rattle.record_writer.specs.Writers.{SendCell, SendPass, ways, ways_on, AreOwnAt, HaveSizeAt, Writer, IsSame}
 
 -- It is a new pass of the task.
 abbrev pub IsNewTask : SendCell → SendPass → Type 0
@@ -66,3 +66,18 @@ module _ (job : Job) (by : Exchange) (edges : (exchange job 0 ≡ by) × (exchan
 
   pub one_way : by ≡ Forward → ways_on job 0 ≡ 1
   one_way is = ap (λ x. ways x (tasks job 1)) (edges.0 ∙ is)
+
+-- A writer stays the same over two calls.
+pub same_writer : (a b c : Writer) → IsSame a b → IsSame b c → IsSame a c
+same_writer a b c p q = record {
+  job = q.job ∙ p.job;
+  edge = q.edge ∙ p.edge;
+  index = q.index ∙ p.index;
+  cells = q.cells ∙ p.cells;
+  first = q.first ∙ p.first;
+  stride = q.stride ∙ p.stride;
+  size = q.size ∙ p.size;
+  pool = q.pool ∙ p.pool;
+  stop = q.stop ∙ p.stop;
+  stop_pass = (q.stop_pass.0 ∙ p.stop_pass.0, q.stop_pass.1 ∙ p.stop_pass.1);
+}

@@ -1,16 +1,16 @@
 -- The channels of a writer, one by one: what was put on each, and the buffer that is being filled. That a buffer is put in a turn of its
 -- subpartition's cell, and a segment is lent in a turn of the pool's cell, is this project's own choice.
-use Rattle.std.specs.Prelude.{◌≡◌, ◌≢◌, ℕ, ◌≤◌, false, List, [], ◌∷◌, ◌++◌, length, Option, Some, None, All, IsSomeAnd}
+use Rattle.std.specs.Prelude.{◌≡◌, ◌≢◌, ℕ, suc, ◌≤◌, false, List, [], ◌∷◌, ◌++◌, length, Option, Some, None, IfSome, IsSomeAnd}
 use Rattle.turn_cell.specs.Passes.{IsPassOf, IsSamePass, opened_with, number, seen}
 use Rattle.local_pool.specs.Helds.{pool_of}
 use Rattle.segment_pool.specs.declared.segment.TheConstants.{SEGMENT_MIN}
 use Rattle.segment_pool.specs.Pools.{size_of}
 use Rattle.subpartition.specs.declared.entry.SendEntry.{SendEntry}
-use Rattle.subpartition.specs.declared.entry.SendEntry.TheVariants.{Put}
-use Rattle.subpartition.specs.Sending.{put, is_finished}
+use Rattle.subpartition.specs.declared.entry.SendEntry.TheVariants.{Put, PutInline, Finish}
+use Rattle.subpartition.specs.Sending.{put, barriers_put, is_finished}
 use Rattle.record_writer.specs.declared.part.Part.{Part}
 use Rattle.record_writer.specs.declared.supply.Supply.{Supply}
-use Rattle.record_writer.specs.Writers.{SendCell, SendPass, bytes_in, buffers_of, PutBuffers}
+use Rattle.record_writer.specs.Writers.{SendCell, SendPass, bytes_in, AreCut, last_put, PutSome, PutAll, GrewUpTo, GrewTowards}
 
 -- It is the task's pass of this cell.
 pub record IsTaskPass (cell : SendCell) (pass : SendPass) : Type 0 where
@@ -25,11 +25,31 @@ IsFilledTo size (Some segment) len = (length segment ≡ size) × (len ≤ size)
 abbrev pub IsPart : ℕ → Part → Type 0
 IsPart size part = IsFilledTo size part.segment part.len
 
--- Buffers alone were put, each of them full.
+-- More may be put: no end was, and a buffer behind which more data may come is full.
 pub record IsOpenAt (size : ℕ) (own : List SendEntry) : Type 0 where
   pub unfinished : is_finished own ≡ false
-  pub buffers : PutBuffers size own
-  pub full : All (λ (b : List ℕ). length b ≡ size) (buffers_of own)
+  pub buffers : AreCut size own
+  pub full : IfSome (last_put None own) (λ n. n ≡ size)
+
+-- The next barrier has this number.
+abbrev pub IsNextAt : ℕ → List SendEntry → Type 0
+IsNextAt k own = k ≡ suc (length (barriers_put own))
+
+-- All of these bytes were put, and then the end.
+pub record WasEndedAt (size : ℕ) (own own' : List SendEntry) (bytes : List ℕ) : Type 0 where
+  pub all : PutAll size own' bytes
+  pub entries : GrewUpTo Finish own own'
+
+-- All of these bytes were put, and then this barrier. More may be put.
+pub record WasMarkedAt (size k : ℕ) (own own' : List SendEntry) (bytes : List ℕ) : Type 0 where
+  pub whole : put own' ≡ bytes
+  pub entries : GrewUpTo (PutInline k) own own'
+  pub is_open : IsOpenAt size own'
+
+-- Some of these bytes were put, and then this entry or nothing.
+pub record WasStoppedAt (size : ℕ) (last : SendEntry) (own own' : List SendEntry) (bytes : List ℕ) : Type 0 where
+  pub some : PutSome size own' bytes
+  pub entries : GrewTowards last own own'
 
 -- All that was laid down for a channel: what was put, and then what is in the buffer that is being filled.
 abbrev pub laid : List SendEntry → Part → List ℕ

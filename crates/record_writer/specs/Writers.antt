@@ -1,7 +1,8 @@
 -- What a task has written to the channels of its edge. As by Flink's record writer each record goes to the channel that its exchange
--- selects, laid end to end with the others of that channel in buffers of its result partition. That one buffer of each channel is filled
--- at a time, and goes when it is full or at the end, is this project's own choice.
-use Rattle.std.specs.Prelude.{◌≡◌, ℕ, suc, ◌+◌, ◌*◌, ◌<◌, ◌≤◌, ⊤, true, false, List, [], ◌∷◌, ◌++◌, length, take, slice_get, All, Some}
+-- selects, laid end to end with the others of that channel in buffers of its result partition; an aligned barrier travels in line with
+-- them. That one buffer of each channel is filled at a time, and goes when it is full, before a barrier or at the end, is this project's
+-- own choice.
+use Rattle.std.specs.Prelude.{◌≡◌, ℕ, suc, ◌+◌, ◌*◌, ◌<◌, ◌≤◌, ◌⊎◌, ⊤, true, false, List, [], ◌∷◌, ◌++◌, length, map, take, slice_get, Option, Some, None, IfSome}
 use Rattle.std.specs.Option.{option_map_or}
 use Rattle.turn_cell.specs.declared.cell.TurnCell.{TurnCell}
 use Rattle.turn_cell.specs.declared.pass.Pass.{Pass}
@@ -75,37 +76,51 @@ HaveSizeAt cells first stride many size = (c : ℕ) (cell : SendCell) → c < ma
 
 -- ---- what is put on a channel
 
--- The buffers that were put.
-abbrev pub buffers_of : List SendEntry → List (List ℕ)
-buffers_of [] = []
-buffers_of (Put bytes ∷ es) = bytes ∷ buffers_of es
-buffers_of (PutInline k ∷ es) = buffers_of es
-buffers_of (Finish ∷ es) = buffers_of es
-buffers_of (Take ∷ es) = buffers_of es
-buffers_of (Size n ∷ es) = buffers_of es
+-- No buffer is longer than a segment, and each that another follows with no barrier between has as many bytes as the least segment at
+-- least. The first number is the size of segments, the second the length of a buffer right before these entries.
+abbrev pub AreCutFrom : ℕ → Option ℕ → List SendEntry → Type 0
+AreCutFrom size before [] = ⊤
+AreCutFrom size before (Put bytes ∷ es) = IfSome before (λ n. SEGMENT_MIN ≤ n) × (length bytes ≤ size) × AreCutFrom size (Some (length bytes)) es
+AreCutFrom size before (PutInline k ∷ es) = AreCutFrom size None es
+AreCutFrom size before (Finish ∷ es) = AreCutFrom size None es
+AreCutFrom size before (Take ∷ es) = AreCutFrom size before es
+AreCutFrom size before (Size n ∷ es) = AreCutFrom size before es
 
--- No buffer is longer than a segment, and each but the last has as many bytes as the least segment at least.
-abbrev pub AreCut : ℕ → List (List ℕ) → Type 0
-AreCut size [] = ⊤
-AreCut size (b ∷ []) = length b ≤ size
-AreCut size (b ∷ next ∷ buffers) = (SEGMENT_MIN ≤ length b) × (length b ≤ size) × AreCut size (next ∷ buffers)
+abbrev pub AreCut : ℕ → List SendEntry → Type 0
+AreCut size own = AreCutFrom size None own
 
--- Buffers alone were put.
-pub record PutBuffers (size : ℕ) (own : List SendEntry) : Type 0 where
-  pub no_barrier : barriers_put own ≡ []
-  pub cut : AreCut size (buffers_of own)
+-- The length of the buffer that was put last, where no barrier was put behind it.
+abbrev pub last_put : Option ℕ → List SendEntry → Option ℕ
+last_put before [] = before
+last_put before (Put bytes ∷ es) = last_put (Some (length bytes)) es
+last_put before (PutInline k ∷ es) = last_put None es
+last_put before (Finish ∷ es) = last_put None es
+last_put before (Take ∷ es) = last_put before es
+last_put before (Size n ∷ es) = last_put before es
 
 -- Of these bytes that a channel was to get some were put.
 pub record PutSome (size : ℕ) (own : List SendEntry) (bytes : List ℕ) : Type 0 where
   pub owed : List ℕ
   pub begins : put own ++ owed ≡ bytes
-  pub buffers : PutBuffers size own
+  pub buffers : AreCut size own
 
 -- All of them were put, and then the end.
 pub record PutAll (size : ℕ) (own : List SendEntry) (bytes : List ℕ) : Type 0 where
   pub whole : put own ≡ bytes
   pub ended : is_finished own ≡ true
-  pub buffers : PutBuffers size own
+  pub buffers : AreCut size own
+
+-- Behind these entries data was put: these buffers, and no other entry.
+abbrev pub GrewByData : List SendEntry → List SendEntry → Type 0
+GrewByData own own' = (buffers : List (List ℕ)) × (own' ≡ own ++ map Put buffers)
+
+-- Data was put, and then this entry.
+abbrev pub GrewUpTo : SendEntry → List SendEntry → List SendEntry → Type 0
+GrewUpTo last own own' = (buffers : List (List ℕ)) × (own' ≡ own ++ map Put buffers ++ last ∷ [])
+
+-- Data was put, and then this entry or nothing.
+abbrev pub GrewTowards : SendEntry → List SendEntry → List SendEntry → Type 0
+GrewTowards last own own' = GrewByData own own' ⊎ GrewUpTo last own own'
 
 -- ---- a writer
 
@@ -154,10 +169,24 @@ pub record IsSame (w w' : Writer) : Type 0 where
 abbrev pub bytes_in : Part → List ℕ
 bytes_in part = option_map_or (λ (segment : List ℕ). take part.len segment) part.segment []
 
--- It writes on: buffers alone were put so far.
+-- It writes on: no end was put, and a buffer behind which more data may come is full.
 pub record IsOpen (w : Writer) : Type 0 where
-  pub each : (c : ℕ) → c < ways_on w.job w.edge → (is_finished (own_at w c) ≡ false) × PutBuffers w.size (own_at w c)
-  pub full : (c : ℕ) → c < ways_on w.job w.edge → All (λ (b : List ℕ). length b ≡ w.size) (buffers_of (own_at w c))
+  pub each : (c : ℕ) → c < ways_on w.job w.edge → (is_finished (own_at w c) ≡ false) × AreCut w.size (own_at w c)
+  pub full : (c : ℕ) → c < ways_on w.job w.edge → IfSome (last_put None (own_at w c)) (λ n. n ≡ w.size)
+
+-- On each channel the next barrier has this number.
+abbrev pub IsNextBarrier : Writer → ℕ → Type 0
+IsNextBarrier w k = (c : ℕ) → c < ways_on w.job w.edge → k ≡ suc (length (barriers_put (own_at w c)))
+
+-- On each channel it has put data; data and then this entry; data and then this entry or nothing.
+abbrev pub HasPutData : Writer → Writer → Type 0
+HasPutData w w' = (c : ℕ) → c < ways_on w.job w.edge → GrewByData (own_at w c) (own_at w' c)
+
+abbrev pub HasPutUpTo : SendEntry → Writer → Writer → Type 0
+HasPutUpTo last w w' = (c : ℕ) → c < ways_on w.job w.edge → GrewUpTo last (own_at w c) (own_at w' c)
+
+abbrev pub HasPutTowards : SendEntry → Writer → Writer → Type 0
+HasPutTowards last w w' = (c : ℕ) → c < ways_on w.job w.edge → GrewTowards last (own_at w c) (own_at w' c)
 
 -- A new one has put and laid down nothing.
 pub record IsNew (w : Writer) : Type 0 where
@@ -175,6 +204,14 @@ pub record WasStopped (w w' : Writer) (records : List (List ℕ)) : Type 0 where
   pub fault : seen w'.stop_pass ≡ [] → ⊥
   pub each : (c : ℕ) → c < ways_on w.job w.edge → PutSome w.size (own_at w' c) (laid_at w c ++ coming w records c)
 
--- It has put all that was laid down, and the end of each channel.
+-- It has put all that was laid down, and then the end of each channel.
 pub record HasFinished (w w' : Writer) : Type 0 where
   pub each : (c : ℕ) → c < ways_on w.job w.edge → PutAll w.size (own_at w' c) (laid_at w c)
+  pub entries : HasPutUpTo Finish w w'
+
+-- It has put all that was laid down, and then this barrier on each channel. Nothing is being filled.
+pub record HasMarked (w w' : Writer) (k : ℕ) : Type 0 where
+  pub count : w'.emitted ≡ w.emitted
+  pub whole : (c : ℕ) → c < ways_on w.job w.edge → put (own_at w' c) ≡ laid_at w c
+  pub none_filled : (c : ℕ) → c < ways_on w.job w.edge → laid_at w' c ≡ put (own_at w' c)
+  pub entries : HasPutUpTo (PutInline k) w w'

@@ -2,15 +2,15 @@
 ghost use Rattle.std.specs.Prelude.{◌≡◌, ◌+◌, ◌≤◌, ◌++◌, [], ◌∷◌, false, length, take, drop, OnOk, OnErr, IfOk, IfErr};
 ghost use Rattle.flow_defs.specs.Records.{encoded, IsShort};
 ghost use Rattle.turn_cell.specs.Passes.{mine};
-ghost use Rattle.subpartition.specs.declared.entry.SendEntry.TheVariants.{Put, Finish};
+ghost use Rattle.subpartition.specs.declared.entry.SendEntry.TheVariants.{Put, PutInline, Finish};
 ghost use Rattle.subpartition.specs.Queues.{bytes_of};
 ghost use Rattle.subpartition.specs.Sending.{is_finished};
-ghost use Rattle.record_writer.specs.Writers.{bytes_in, PutAll, PutSome};
-ghost use Rattle.record_writer.specs.Channels.{IsTaskPass, IsPart, IsOpenAt, IsSupply, IsSameSupply, HasSeenFault, PutIfSome, LaidSome, laid};
+ghost use Rattle.record_writer.specs.Writers.{bytes_in, GrewByData};
+ghost use Rattle.record_writer.specs.Channels.{IsTaskPass, IsPart, IsOpenAt, IsNextAt, WasEndedAt, WasMarkedAt, WasStoppedAt, IsSupply, IsSameSupply, HasSeenFault, PutIfSome, LaidSome, laid};
 
 use crate::part::{Part, write_behind};
 use crate::supply::Supply;
-use crate::turns::{finish_in_turn, put_in_turn};
+use crate::turns::{barrier_in_turn, finish_in_turn, put_in_turn};
 use crate::writer::WriterStopped;
 use conn_parts::Watch;
 use outside::Pause;
@@ -132,6 +132,7 @@ fn put_if_full<R: Wait>(
     ensures part { IsPart supply.old.size part.new }
     ensures is_open { IsOpenAt supply.old.size (mine pass.new) }
     ensures laid { laid (mine pass.new) part.new ≡ laid (mine pass.old) part.old }
+    ensures entries { GrewByData (mine pass.old) (mine pass.new) }
     ensures stopped { OnErr result (HasSeenFault supply.new) }
 {
     if part.len < supply.size {
@@ -159,6 +160,7 @@ pub(crate) fn lay_down<R: Wait>(
     ensures part { IsPart supply.old.size part.new }
     ensures is_open { IsOpenAt supply.old.size (mine pass.new) }
     ensures laid { OnOk result (laid (mine pass.new) part.new ≡ laid (mine pass.old) part.old ++ encoded line.now) }
+    ensures entries { GrewByData (mine pass.old) (mine pass.new) }
     ensures stopped { OnErr result (LaidSome (laid (mine pass.old) part.old ++ encoded line.now) (laid (mine pass.new) part.new) × HasSeenFault supply.new) }
 {
     let all = line.len() + 4;
@@ -217,9 +219,64 @@ pub(crate) fn close<R: Wait>(
     ensures supply { IsSupply supply.new × IsSameSupply supply.old supply.new }
     ensures pass { IsTaskPass cell.now pass.new }
     ensures part { IsPart supply.old.size part.new }
-    ensures finished { OnOk result (PutAll supply.old.size (mine pass.new) (laid (mine pass.old) part.old)) }
-    ensures stopped { OnErr result (PutSome supply.old.size (mine pass.new) (laid (mine pass.old) part.old) × HasSeenFault supply.new) }
+    ensures finished { OnOk result (WasEndedAt supply.old.size (mine pass.old) (mine pass.new) (laid (mine pass.old) part.old)) }
+    ensures stopped { OnErr result (WasStoppedAt supply.old.size Finish (mine pass.old) (mine pass.new) (laid (mine pass.old) part.old) × HasSeenFault supply.new) }
 {
     put_part(rt, supply, cell, pass, part)?;
     finish_waiting(rt, supply, cell, pass)
+}
+
+// Puts an inline barrier of this number. Waits where there is no room.
+fn put_barrier_waiting<R: Wait>(
+    rt: &R,
+    supply: &mut Supply<'_, '_>,
+    cell: &TurnCell<Subpartition>,
+    pass: &mut Pass<Subpartition>,
+    k: u64,
+) -> Result<(), WriterStopped>
+    requires supply { IsSupply supply.old }
+    requires pass { IsTaskPass cell.now pass.old }
+    requires open_end { is_finished (mine pass.old) ≡ false }
+    requires next { IsNextAt k (mine pass.old) }
+    ensures supply { IsSupply supply.new × IsSameSupply supply.old supply.new }
+    ensures pass { IsTaskPass cell.now pass.new }
+    ensures entered { OnOk result (mine pass.new ≡ mine pass.old ++ PutInline k ∷ []) }
+    ensures stopped { OnErr result ((mine pass.new ≡ mine pass.old) × HasSeenFault supply.new) }
+{
+    let mut watch = Watch::new();
+    let mut pause = Pause::new();
+    for _round in rt.forever() {
+        if barrier_in_turn(rt, cell, pass, k) {
+            return Ok(());
+        }
+        if let Some(_) = watch.look(rt, supply.stop, &mut supply.stop_pass) {
+            return Err(WriterStopped);
+        }
+        pause.wait(rt);
+    }
+    unreachable!()
+}
+
+/// Puts the buffer that is being filled, where it is not empty, and then an inline barrier of this number.
+pub(crate) fn mark<R: Wait>(
+    rt: &R,
+    supply: &mut Supply<'_, '_>,
+    cell: &TurnCell<Subpartition>,
+    pass: &mut Pass<Subpartition>,
+    part: &mut Part,
+    k: u64,
+) -> Result<(), WriterStopped>
+    requires supply { IsSupply supply.old }
+    requires pass { IsTaskPass cell.now pass.old }
+    requires part { IsPart supply.old.size part.old }
+    requires is_open { IsOpenAt supply.old.size (mine pass.old) }
+    requires next { IsNextAt k (mine pass.old) }
+    ensures supply { IsSupply supply.new × IsSameSupply supply.old supply.new }
+    ensures pass { IsTaskPass cell.now pass.new }
+    ensures part { IsPart supply.old.size part.new }
+    ensures marked { OnOk result (WasMarkedAt supply.old.size k (mine pass.old) (mine pass.new) (laid (mine pass.old) part.old) × (bytes_in part.new ≡ [])) }
+    ensures stopped { OnErr result (WasStoppedAt supply.old.size (PutInline k) (mine pass.old) (mine pass.new) (laid (mine pass.old) part.old) × HasSeenFault supply.new) }
+{
+    put_part(rt, supply, cell, pass, part)?;
+    put_barrier_waiting(rt, supply, cell, pass, k)
 }

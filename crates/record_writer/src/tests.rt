@@ -1,5 +1,5 @@
 // Writers over cells and a small pool, with one thread.
-ghost use Rattle.std.specs.Prelude.{◌≡◌, ◌<◌, ◌≤◌, [], ◌∷◌, ◌++◌, length, IfOk};
+ghost use Rattle.std.specs.Prelude.{◌≡◌, ℕ, ◌<◌, ◌≤◌, [], ◌∷◌, ◌++◌, length, IfOk, OnOk};
 ghost use Rattle.std.specs.Option.{option_to_list};
 ghost use Rattle.turn_cell.specs.Passes.{IsPassOf, mine, number, opened_with};
 ghost use Rattle.flow_defs.specs.declared.job.Exchange.TheVariants.{Hash};
@@ -9,10 +9,12 @@ ghost use Rattle.segment_pool.specs.Pools as pools;
 ghost use Rattle.segment_pool.specs.Pools.{limits_of, size_of};
 ghost use Rattle.local_pool.specs.Helds.{pool_of};
 ghost use Rattle.record_writer.specs.Partitions.{IsPartitionOf};
-ghost use Rattle.record_writer.specs.Writers.{IsOpen, IsSame};
+ghost use Rattle.record_writer.specs.Writers.{IsOpen, IsSame, IsNextBarrier};
 
 use crate::{Partition, PartitionPasses, RecordWriter, WriterStopped};
-use flow_defs::{AggKind, Bytes, Cause, Exchange, Job, ListOf, RECORD_MAX, Stage, StageKind};
+use flow_defs::{
+    AggKind, BarrierKind, Bytes, Cause, Exchange, Job, ListOf, RECORD_MAX, Stage, StageKind,
+};
 use local_pool::{HeldPool, LocalPool};
 use outside::{StopState, tell_stop};
 use segment_pool::{Pool, PoolPass};
@@ -146,22 +148,49 @@ fn list_of(
     Ok(list)
 }
 
-// Takes what stands in a subpartition: these buffers and then the end, if it was put.
+// Takes these buffers out of a subpartition.
+fn take_buffers<R: Wait + Abort>(
+    rt: &R,
+    cell: &TurnCell<Subpartition>,
+    sender: &mut Pass<Subpartition>,
+    buffers: &[&[u8]],
+)
+    requires { IsPassOf cell.now sender.old × (number sender.old ≡ 1) }
+    ensures { IsPassOf cell.now sender.new × (number sender.new ≡ 1) }
+{
+    for bytes in buffers {
+        match take(rt, cell, sender) {
+            Some(Item::Buffer(filled)) => assert_eq!(rt; filled.bytes(), *bytes),
+            _ => panic!(rt; "no buffer"),
+        }
+    }
+}
+
+// Takes what stands in a subpartition: the buffers of each stretch, an inline barrier between two of them, and
+// then the end, if it was put.
 fn takes<R: Wait + Abort>(
     rt: &R,
     cell: &TurnCell<Subpartition>,
     sender: Pass<Subpartition>,
-    buffers: &[&[u8]],
+    stretches: &[&[&[u8]]],
     ended: bool,
 )
     requires { IsPassOf cell.now sender × (number sender ≡ 1) }
 {
+    assert!(rt; !stretches.is_empty());
     let mut sender = sender;
-    for bytes in buffers {
+    take_buffers(rt, cell, &mut sender, stretches[0]);
+    for number in 1..stretches.len() {
         match take(rt, cell, &mut sender) {
-            Some(Item::Buffer(filled)) => assert_eq!(rt; filled.bytes(), *bytes),
-            _ => panic!(rt; "no buffer"),
+            Some(
+                Item::Barrier {
+                    k,
+                    kind: BarrierKind::Inline,
+                },
+            ) => assert_eq!(rt; k, number as u64),
+            _ => panic!(rt; "no barrier"),
         }
+        take_buffers(rt, cell, &mut sender, stretches[number]);
     }
     if ended {
         assert!(rt; matches!(take(rt, cell, &mut sender), Some(Item::End)));
@@ -206,15 +235,16 @@ struct Task<'a, 'p> {
     stop_pass: Pass<StopState>,
 }
 
-// Emits these records, and finishes where it is asked to.
-fn write<'a, 'p, R: Wait + Abort>(
+// Emits these records.
+fn emit_all<'a, 'p, R: Wait + Abort>(
     rt: &R,
     writer: &mut RecordWriter<'a, 'p>,
     records: &[&[u8]],
-    finish: bool,
 ) -> Result<(), WriterStopped>
     requires { IsOpen writer.old }
-    ensures { IsSame writer.old writer.new }
+    ensures same { IsSame writer.old writer.new }
+    ensures is_open { OnOk result (IsOpen writer.new) }
+    ensures next { (k : ℕ) → IsNextBarrier writer.old k → IsNextBarrier writer.new k }
 {
     for line in records {
         assert!(rt; line.len() <= RECORD_MAX);
@@ -223,19 +253,39 @@ fn write<'a, 'p, R: Wait + Abort>(
             Err(stopped) => return Err(stopped),
         }
     }
+    Ok(())
+}
+
+// Emits the records of each stretch, puts a barrier between two of them, and finishes where it is asked to.
+fn write<'a, 'p, R: Wait + Abort>(
+    rt: &R,
+    writer: &mut RecordWriter<'a, 'p>,
+    stretches: &[&[&[u8]]],
+    finish: bool,
+) -> Result<(), WriterStopped>
+    requires is_open { IsOpen writer.old }
+    requires next { IsNextBarrier writer.old 1 }
+    ensures { IsSame writer.old writer.new }
+{
+    assert!(rt; !stretches.is_empty());
+    emit_all(rt, writer, stretches[0])?;
+    for number in 1..stretches.len() {
+        writer.mark(rt, number as u64)?;
+        emit_all(rt, writer, stretches[number])?;
+    }
     if finish {
         return writer.finish(rt);
     }
     Ok(())
 }
 
-// Makes a writer, emits these records, finishes where it is asked to, and ends the writer. Answers whether it
-// was stopped, how many records it emitted, and the pass of its pool.
+// Makes a writer, writes these stretches, finishes where it is asked to, and ends the writer. Answers whether
+// it was stopped, how many records it emitted, and the pass of its pool.
 fn run<'a, 'p, R: Wait + Abort>(
     rt: &R,
     alloc: Global,
     task: Task<'a, 'p>,
-    records: &[&[u8]],
+    stretches: &[&[&[u8]]],
     finish: bool,
 ) -> (Result<(), WriterStopped>, u64, Pass<HeldPool<'p>>)
     requires partition { IsPartitionOf task.job.now task.edge task.index task.partition }
@@ -254,7 +304,7 @@ fn run<'a, 'p, R: Wait + Abort>(
     else {
         panic!(rt; "no memory")
     };
-    let written = write(rt, &mut writer, records, finish);
+    let written = write(rt, &mut writer, stretches, finish);
     let emitted = writer.emitted();
     let (passes, _stop_pass) = writer.into_passes(rt);
     let PartitionPasses {
@@ -264,18 +314,28 @@ fn run<'a, 'p, R: Wait + Abort>(
     (written, emitted, pool)
 }
 
-// A task of index 0 whose channels are two writes these records, each buffer of 64 bytes, over an edge of
-// the job. They are then what stands in its two subpartitions. Answers how many segments are lent.
+// How many records there are in these stretches.
+fn records_in(stretches: &[&[&[u8]]]) -> u64 {
+    let mut count: u64 = 0;
+    for records in stretches {
+        count = count.wrapping_add(records.len() as u64);
+    }
+    count
+}
+
+// A task of index 0 whose channels are two writes the records of these stretches, each buffer of 64 bytes,
+// over an edge of the job. They are then what stands in its two subpartitions. Answers how many segments are
+// lent.
 fn write_over_two<R: Wait + Abort>(
     rt: &R,
     alloc: Global,
     pool: &Pool,
     place: PoolPass,
     edge: u32,
-    records: &[&[u8]],
+    stretches: &[&[&[u8]]],
     finish: bool,
-    first: &[&[u8]],
-    second: &[&[u8]],
+    first: &[&[&[u8]]],
+    second: &[&[&[u8]]],
 ) -> Result<u32, Fail>
     requires place { pools.IsPassOf pool.now place × (out place ≡ 0) }
     requires pool { (limits_of pool.now ≡ []) × (size_of pool.now ≡ 64) }
@@ -307,9 +367,9 @@ fn write_over_two<R: Wait + Abort>(
         stop: &stop,
         stop_pass,
     };
-    let (written, emitted, lender) = run(rt, alloc, task, records, finish);
+    let (written, emitted, lender) = run(rt, alloc, task, stretches, finish);
     assert!(rt; written.is_ok());
-    assert_eq!(rt; emitted, records.len() as u64);
+    assert_eq!(rt; emitted, records_in(stretches));
     takes(rt, &cells[0], one_sender, first, finish);
     takes(rt, &cells[1], two_sender, second, finish);
     Ok(lent(rt, &pool_cell, lender))
@@ -323,7 +383,7 @@ fn write_over_one<R: Wait + Abort>(
     pool: &Pool,
     place: PoolPass,
     segments: u32,
-    buffers: &[&[u8]],
+    stretches: &[&[&[u8]]],
 ) -> Result<Result<(), WriterStopped>, Fail>
     requires place { pools.IsPassOf pool.now place × (out place ≡ 0) }
     requires pool { (limits_of pool.now ≡ []) × (size_of pool.now ≡ 64) }
@@ -355,8 +415,8 @@ fn write_over_one<R: Wait + Abort>(
         stop: &stop,
         stop_pass,
     };
-    let (written, _emitted, _lender) = run(rt, alloc, task, &[SHORT], true);
-    takes(rt, &cells[1], two_sender, buffers, written.is_ok());
+    let (written, _emitted, _lender) = run(rt, alloc, task, &[&[SHORT]], true);
+    takes(rt, &cells[1], two_sender, stretches, written.is_ok());
     Ok(written)
 }
 
@@ -388,10 +448,10 @@ fn records_go_over_two_channels_in_turn(rt: HostRuntime) -> Result<(), Fail> {
         &pool,
         place,
         0,
-        &[LONG, SHORT, LAST],
+        &[&[LONG, SHORT, LAST]],
         true,
-        &first,
-        &second,
+        &[&first],
+        &[&second],
     )?;
     assert_eq!(rt; lent, 5);
     Ok(())
@@ -407,10 +467,10 @@ fn records_go_to_the_aggregate_by_the_hash_of_their_key(rt: HostRuntime) -> Resu
         &pool,
         place,
         1,
-        &[b"cherry", b"pear", b"a", b"pear"],
+        &[&[b"cherry", b"pear", b"a", b"pear"]],
         true,
-        &[b"\0\0\0\x06cherry\0\0\0\x01a"],
-        &[b"\0\0\0\x04pear\0\0\0\x04pear"],
+        &[&[b"\0\0\0\x06cherry\0\0\0\x01a"]],
+        &[&[b"\0\0\0\x04pear\0\0\0\x04pear"]],
     )?;
     assert_eq!(rt; lent, 2);
     Ok(())
@@ -428,19 +488,45 @@ fn segments_that_are_being_filled_go_back(rt: HostRuntime) -> Result<(), Fail> {
         &pool,
         place,
         0,
-        &[LONG, SHORT],
+        &[&[LONG, SHORT]],
         false,
-        &first,
-        &[],
+        &[&first],
+        &[&[]],
     )?;
     assert_eq!(rt; lent, 1);
     Ok(())
 }
 
 #[test]
+fn a_barrier_goes_behind_what_was_emitted_before(rt: HostRuntime) -> Result<(), Fail> {
+    let (pool, place) = pool_of_eight(&rt, rt.alloc());
+    let one: [&[u8]; 2] = [
+        b"\0\0\0\x64To be, or not to be, that is the question: whether 'tis nobl",
+        b"er in the mind to suffer the slings and ",
+    ];
+    let two: [&[u8]; 2] = [
+        b"\0\0\0\x5aof outrageous fortune, or to take arms against a sea of trou",
+        b"bles and by opposing end them.",
+    ];
+    let lent = write_over_two(
+        &rt,
+        rt.alloc(),
+        &pool,
+        place,
+        0,
+        &[&[LONG, SHORT], &[LAST], &[]],
+        true,
+        &[&one, &two, &[]],
+        &[&[b"\0\0\0\x06arrows"], &[], &[]],
+    )?;
+    assert_eq!(rt; lent, 5);
+    Ok(())
+}
+
+#[test]
 fn forward_has_one_channel(rt: HostRuntime) -> Result<(), Fail> {
     let (pool, place) = pool_of_eight(&rt, rt.alloc());
-    let written = write_over_one(&rt, rt.alloc(), &pool, place, 2, &[b"\0\0\0\x06arrows"])?;
+    let written = write_over_one(&rt, rt.alloc(), &pool, place, 2, &[&[b"\0\0\0\x06arrows"]])?;
     assert_eq!(rt; written, Ok(()));
     Ok(())
 }
@@ -448,7 +534,7 @@ fn forward_has_one_channel(rt: HostRuntime) -> Result<(), Fail> {
 #[test]
 fn a_writer_that_waits_is_stopped(rt: HostRuntime) -> Result<(), Fail> {
     let (pool, place) = pool_of_eight(&rt, rt.alloc());
-    let written = write_over_one(&rt, rt.alloc(), &pool, place, 0, &[])?;
+    let written = write_over_one(&rt, rt.alloc(), &pool, place, 0, &[&[]])?;
     assert_eq!(rt; written, Err(WriterStopped));
     Ok(())
 }

@@ -3,11 +3,11 @@ ghost use Rattle.std.specs.Prelude.{◌≡◌, [], ◌∷◌, ◌++◌, false, l
 ghost use Rattle.turn_cell.specs.Passes.{IsPassOf, IsTurnOf, HasEntered, opened_with, mine, number, seen};
 ghost use Rattle.local_pool.specs.Helds.{pool_of};
 ghost use Rattle.segment_pool.specs.Pools.{size_of};
-ghost use Rattle.subpartition.specs.declared.entry.SendEntry.TheVariants.{Put, Finish};
+ghost use Rattle.subpartition.specs.declared.entry.SendEntry.TheVariants.{Put, PutInline, Finish};
 ghost use Rattle.subpartition.specs.Queues.{bytes_of, last_bytes};
 ghost use Rattle.subpartition.specs.Sending.{is_finished};
 ghost use Rattle.subpartition.specs.Standing.{StandsFor};
-ghost use Rattle.record_writer.specs.Channels.{IsTaskPass};
+ghost use Rattle.record_writer.specs.Channels.{IsTaskPass, IsNextAt};
 
 use local_pool::HeldPool;
 use segment_pool::Segment;
@@ -52,6 +52,44 @@ pub(crate) fn put_in_turn<R: Wait>(
     turn.state().put(filled);
     leave_put::<Brand>(turn);
     Ok(())
+}
+
+// Ends the turn in which this barrier was put.
+fn leave_barrier<E: Named<SendEntry>>(turn: Turn<Subpartition>, k: u64)
+    requires entry { E.entry ≡ PutInline k }
+    requires turn { IsTurnOf turn.cell.now turn.pass.now }
+    requires state { StandsFor turn.state (seen turn.pass.now ++ (number turn.pass.now, PutInline k) ∷ []) }
+    requires size { turn.state.size ≡ (opened_with turn.cell.now).size }
+    ensures pass { IsPassOf turn.entry.cell.now turn.exit.1.0.now }
+    ensures entered { HasEntered (PutInline k) turn.entry.pass.now turn.exit.1.0.now }
+{
+    turn.leave::<E>();
+}
+
+/// Puts an inline barrier of this number in a turn, and answers whether there was room.
+pub(crate) fn barrier_in_turn<R: Wait>(
+    rt: &R,
+    cell: &TurnCell<Subpartition>,
+    pass: &mut Pass<Subpartition>,
+    k: u64,
+) -> bool
+    requires pass { IsTaskPass cell.now pass.old }
+    requires open_end { is_finished (mine pass.old) ≡ false }
+    requires next { IsNextAt k (mine pass.old) }
+    ensures pass { IsTaskPass cell.now pass.new }
+    ensures entered { IsTrue result → mine pass.new ≡ mine pass.old ++ PutInline k ∷ [] }
+    ensures refused { IsFalse result → mine pass.new ≡ mine pass.old }
+{
+    let mut turn = cell.enter(rt, pass);
+    calls_add_entries();
+    calls_tell();
+    if turn.state().spare() == 0 {
+        turn.leave_as_is();
+        return false;
+    }
+    turn.state().put_inline(k);
+    leave_barrier::<Brand>(turn, k);
+    true
 }
 
 /// Puts the end in a turn, and answers whether there was room.

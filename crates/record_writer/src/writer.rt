@@ -3,7 +3,8 @@ ghost use Rattle.std.specs.Prelude.{◌≡◌, ◌++◌, [], ◌∷◌, IfOk, If
 ghost use Rattle.turn_cell.specs.Passes.{IsPassOf};
 ghost use Rattle.flow_defs.specs.Records.{IsShort};
 ghost use Rattle.record_writer.specs.Partitions.{IsPartitionOf, IsWriterOf};
-ghost use Rattle.record_writer.specs.Writers.{IsSame, IsOpen, IsNew, HasEmitted, WasStopped, HasFinished, AreOwnAt, ways_on};
+ghost use Rattle.subpartition.specs.declared.entry.SendEntry.TheVariants.{PutInline, Finish};
+ghost use Rattle.record_writer.specs.Writers.{IsSame, IsOpen, IsNew, IsNextBarrier, HasEmitted, WasStopped, HasFinished, HasMarked, HasPutData, HasPutTowards, AreOwnAt, ways_on};
 
 use crate::channels::Channels;
 use crate::part::new_parts;
@@ -33,8 +34,8 @@ pub struct WriterStopped;
 ///
 /// Each record goes to the channel that the edge's exchange selects, by the record's key and the count of
 /// records emitted before. It is laid down behind the others of its channel in a buffer of the task's
-/// partition; a buffer is put on the channel when it is full, and at the end. The writer waits where its
-/// pool has no segment for it, or a subpartition no room.
+/// partition; a buffer is put on the channel when it is full, before a barrier, and at the end. The writer
+/// waits where its pool has no segment for it, or a subpartition no room.
 ///
 /// Each record is copied once. No call but `new` takes memory.
 #[derive(Drop)]
@@ -116,6 +117,7 @@ impl<'a, 'p> RecordWriter<'a, 'p> {
         ensures same { IsSame self.old self.new }
         ensures emitted { OnOk result (IsOpen self.new × HasEmitted self.old self.new («record».now ∷ [])) }
         ensures stopped { OnErr result (WasStopped self.old self.new («record».now ∷ [])) }
+        ensures entries { HasPutData self.old self.new }
     {
         let number = self.router.select(record, self.emitted);
         self.channels
@@ -124,12 +126,26 @@ impl<'a, 'p> RecordWriter<'a, 'p> {
         Ok(())
     }
 
+    /// Puts what is still in buffers, and then an inline barrier of this number on each channel. More may be
+    /// emitted after it.
+    pub fn mark<R: Wait>(&mut self, rt: &R, k: u64) -> Result<(), WriterStopped>
+        requires is_open { IsOpen self.old }
+        requires next { IsNextBarrier self.old k }
+        ensures same { IsSame self.old self.new }
+        ensures marked { OnOk result (IsOpen self.new × HasMarked self.old self.new k) }
+        ensures stopped { OnErr result (WasStopped self.old self.new []) }
+        ensures entries { OnErr result (HasPutTowards (PutInline k) self.old self.new) }
+    {
+        self.channels.mark_all(rt, &mut self.supply, k)
+    }
+
     /// Puts what is still in buffers, and then the end of each channel.
     pub fn finish<R: Wait>(&mut self, rt: &R) -> Result<(), WriterStopped>
         requires { IsOpen self.old }
         ensures same { IsSame self.old self.new }
         ensures finished { OnOk result (HasFinished self.old self.new) }
         ensures stopped { OnErr result (WasStopped self.old self.new []) }
+        ensures entries { OnErr result (HasPutTowards Finish self.old self.new) }
     {
         self.channels.close_all(rt, &mut self.supply)
     }

@@ -2,3 +2,4 @@ mod Tasks
 mod Steps
 mod Words
 mod Loops
+mod CountingJob

@@ -1,5 +1,5 @@
 -- From the words of callers to the rule, and back.
-use Rattle.std.proofs.Common.{◌≡◌, ℕ, ◌+◌, ◌<◌, ◌≤◌, List, [], ◌∷◌, ◌++◌, length, map, refl, sym, ap, ◌∙◌, subst}
+use Rattle.std.proofs.Common.{◌≡◌, ℕ, Result, Ok, Err, ◌+◌, ◌<◌, ◌≤◌, List, [], ◌∷◌, ◌++◌, length, map, refl, sym, ap, ◌∙◌, subst, append-nil}
 use Rattle.std.specs.List.{AllByRecursion}
 use Rattle.flow_defs.specs.declared.task.TaskId.{TaskId}
 use Rattle.flow_defs.specs.declared.image.Snapshot.{Snapshot}
@@ -12,7 +12,12 @@ use Rattle.snapshot_channel.specs.declared.views.View.{View}
 use Rattle.snapshot_channel.specs.declared.views.View.TheVariants.{Sending, Collecting, Spent}
 use Rattle.snapshot_channel.specs.Snapshots.{snapshots_of, IsTask, MaySend, MaySendAll, IsBeginning}
 use Rattle.snapshot_channel.specs.Views.{handed, IsFrom, behind, dealt, dealt_to, sent_more, gathered, IsCollector, IsSender, MayDeal, MaySendBy, Receives, Gets, IsMet, Meets}
-use Rattle.snapshot_channel.specs.Passes.{task_in, sent_in, received_in, back_in, next_in, task_of, sent_by, handed_by, IsSenderOf, IsCollectorOf, IsReceivedOf}
+use Rattle.snapshot_channel.specs.Passes.{task_in, sent_in, received_in, back_in, next_in, task_of, sent_by, handed_by, IsSenderOf, IsCollectorOf, IsReceivedOf, IsAllReceived}
+use Rattle.std.specs.Prelude.{All, IfNone, MatchResult}
+use Rattle.std.specs.Result.{result_ok}
+use Rattle.std.proofs.lemmas.List.{nil_from_length}
+use Rattle.std.proofs.lemmas.List.Elements.{All-from_recursion}
+use Rattle.crossbeam_channel.specs.Fifo.{Held}
 use Rattle.snapshot_channel.proofs.Tasks.{of_append}
 
 pub is_sender : (o : Opening) (v : View) → IsSenderOf o v → IsSender v
@@ -60,6 +65,22 @@ has_received o (Collecting r) w x h g = record {
   next_is = (subst (λ (p : Opening). IsTask p.job x.task) h g.task_is, subst (λ (p : Opening). MaySend p x.task (snapshots_of x.task r.received) x) h g.may);
 }
 has_received o Spent w x h g = absurd h
+
+-- where the channel holds nothing, what was sent by the passes that came back is received
+all_of_met : (r : Collects) (items : List Snapshot) (back : List Handed) → length items ≡ 0 → AllByRecursion (IsMet r items) back → AllByRecursion (IsAllReceived r.received) back
+all_of_met r items [] none met = tt
+all_of_met r items (h ∷ back) none met =
+    (ap (snapshots_of h.task) (sym (ap (λ (l : List Snapshot). r.received ++ l) (nil_from_length items none) ∙ append-nil r.received)) ∙ met.0.all_is, all_of_met r items back none met.1)
+
+none_left : (o : Opening) (v : View) → IsCollectorOf o v → Held 0 (Meets v) → AllByRecursion (IsAllReceived (received_in v)) (back_in v)
+none_left o (Sending s) h held = absurd h
+none_left o (Collecting r) h held = all_of_met r held.0 r.back held.1 held.2
+none_left o Spent h held = absurd h
+
+pub none_received : {E : Type 0} (o : Opening) (v w : View) (r : Result Snapshot E) → IsCollectorOf o v → MatchResult r (λ x. Gets v x w) (λ _. (w ≡ v) × Held 0 (Meets v)) →
+    IfNone (result_ok r) (All (IsAllReceived (received_in v)) (back_in v))
+none_received o v w (Ok x) h told = tt
+none_received o v w (Err e) h told = All-from_recursion _ _ (none_left o v h told.1)
 
 -- ---- dealing
 

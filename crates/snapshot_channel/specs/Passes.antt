@@ -74,6 +74,14 @@ sent_by pass = sent_in (view pass.pass)
 abbrev pub received_by : CollectingPass → List Snapshot
 received_by pass = received_in (view pass.pass)
 
+-- The passes that were taken back, the last one first, each with what it had sent.
+abbrev pub back_by : CollectingPass → List Handed
+back_by pass = back_in (view pass.pass)
+
+-- All that a pass had sent when it came back is among those that were received, and nothing else of its task.
+abbrev pub IsAllReceived : List Snapshot → Handed → Type 0
+IsAllReceived received h = snapshots_of h.task received ≡ h.sent
+
 -- It is a task's pass of this channel.
 pub record IsPassOf (channel : SnapshotChannel) (pass : TaskPass) : Type 0 where
   pub seat_is : IsSeatAt (sends_on channel.line) pass.pass

@@ -1,11 +1,11 @@
 // The calls of the channel.
-ghost use Rattle.std.specs.Prelude.{◌≡◌, ℕ, suc, ◌+◌, ◌<◌, ◌≤◌, [], ◌∷◌, ◌++◌, length, map, All, IfOk, IfSome, OnOk, MatchOption, MatchResult};
+ghost use Rattle.std.specs.Prelude.{◌≡◌, ℕ, suc, ◌+◌, ◌<◌, ◌≤◌, [], ◌∷◌, ◌++◌, length, map, All, IfOk, IfSome, IfNone, OnOk, MatchOption, MatchResult};
 ghost use Rattle.crossbeam_channel.specs.Claims.{view, IsSeatAt};
 ghost use Rattle.crossbeam_channel.specs.Ends.{sends_on, receives_on};
 ghost use Rattle.flow_defs.specs.Jobs.{IsJob, last_edge, tasks};
 ghost use Rattle.snapshot_channel.specs.Snapshots.{IsTask, MaySend, snapshots_of};
 ghost use Rattle.snapshot_channel.specs.Views.{IsFrom, IsUnopened, MayDeal, behind, dealt, dealt_to, opened, unopened};
-ghost use Rattle.snapshot_channel.specs.Passes.{IsCollecting, IsDealt, IsFresh, IsOpened, IsPassOf, IsReceivedOf, back_in, handed_by, next_in, opening, opening_of, received_by, sent_by, task_of};
+ghost use Rattle.snapshot_channel.specs.Passes.{IsCollecting, IsDealt, IsFresh, IsOpened, IsPassOf, IsReceivedOf, IsAllReceived, back_by, handed_by, next_in, opening, opening_of, received_by, sent_by, task_of};
 
 use crate::opened::{CollectingPass, Line, LinePass, Opened, SnapshotChannel, TaskPass};
 use crate::rule::{Deal, Gather, Got, Met, Open, Opens, Sent, Whose};
@@ -105,12 +105,13 @@ impl SnapshotChannel {
     }
 
     /// Receives a snapshot, the next one of its task. None where the channel was empty at a moment of this
-    /// call.
+    /// call, so that all is received that the passes which were taken back before had sent.
     pub fn receive<R: Wait>(&self, rt: &R, pass: &mut CollectingPass) -> Option<Snapshot>
         requires { IsCollecting self.now pass.old }
         ensures pass { IsCollecting self.now pass.new }
         ensures received { MatchOption result (received_by pass.new ≡ received_by pass.old) (λ x. received_by pass.new ≡ received_by pass.old ++ x ∷ []) }
         ensures next { IfSome result (λ x. IsTask (opening_of self.now).job x.task × MaySend (opening_of self.now) x.task (snapshots_of x.task (received_by pass.old)) x) }
+        ensures none { IfNone result (All (IsAllReceived (received_by pass.old)) (back_by pass.old)) }
     {
         self.line_end.try_recv_as::<Got, R>(rt, &mut pass.pass).ok()
     }
@@ -173,29 +174,29 @@ impl SnapshotChannel {
         Ok(())
     }
 
-    // Takes a task's pass back.
-    fn gather(&self, collecting: &mut CollectingPass, pass: TaskPass)
+    /// Takes a task's pass back. It sends no more.
+    pub fn take_back(&self, collecting: &mut CollectingPass, pass: TaskPass)
         requires collecting { IsCollecting self.now collecting.old }
         requires pass { IsPassOf self.now pass }
         ensures collecting { IsCollecting self.now collecting.new }
         ensures received { received_by collecting.new ≡ received_by collecting.old }
-        ensures back { back_in (view collecting.new.pass) ≡ handed_by pass ∷ back_in (view collecting.old.pass) }
+        ensures back { back_by collecting.new ≡ handed_by pass ∷ back_by collecting.old }
     {
         let TaskPass { pass } = pass;
         self.line.absorb::<Gather>(&mut collecting.pass, pass);
     }
 
-    // Takes all these passes back.
-    fn gather_all(&self, collecting: &mut CollectingPass, passes: ListOf<TaskPass>)
+    // Takes all these passes back, the last one first.
+    fn take_all_back(&self, collecting: &mut CollectingPass, passes: ListOf<TaskPass>)
         requires collecting { IsCollecting self.now collecting.old }
         requires passes { All (IsPassOf self.now) passes.items }
         ensures collecting { IsCollecting self.now collecting.new }
         ensures received { received_by collecting.new ≡ received_by collecting.old }
-        ensures back { back_in (view collecting.new.pass) ≡ map handed_by passes.items ++ back_in (view collecting.old.pass) }
+        ensures back { back_by collecting.new ≡ map handed_by passes.items ++ back_by collecting.old }
     {
         let mut rest = passes;
         while let Some(pass) = rest.pop() {
-            self.gather(collecting, pass);
+            self.take_back(collecting, pass);
         }
     }
 
@@ -206,7 +207,7 @@ impl SnapshotChannel {
         ensures { All (IsReceivedOf (opening_of self) (received_by collecting)) passes.items }
     {
         let mut collecting = collecting;
-        self.gather_all(&mut collecting, passes);
+        self.take_all_back(&mut collecting, passes);
         self.line.learn_as::<Met>(&mut collecting.pass);
     }
 }

@@ -39,7 +39,9 @@ impl Outcome<Snapshot, View> for Got {
 }
 
 impl Lesson<Snapshot, View> for Got {
-    ghost fact = { λ v items. Unit {0} };
+    ghost use Rattle.snapshot_channel.specs.Views.{Meets};
+
+    ghost fact = { Meets };
 }
 
 // What was received is compared with what was sent.

@@ -5,7 +5,7 @@ use Rattle.std.specs.List.{list_any}
 use Rattle.flow_defs.specs.declared.job.StageKind.{StageKind}
 use Rattle.flow_defs.specs.declared.job.StageKind.TheVariants.{Words, Upper, Keep, Field}
 use Rattle.flow_defs.specs.declared.job.AggKind.{AggKind}
-use Rattle.flow_defs.specs.declared.job.AggKind.TheVariants.{Count}
+use Rattle.flow_defs.specs.declared.job.AggKind.TheVariants.{Count, Sum, Max}
 
 -- The kinds that have a function, in the order in which they were added.
 pub record Functions : Type 0 where
@@ -25,6 +25,9 @@ is_stage kind other = false
 
 abbrev pub is_agg : AggKind → AggKind → Bool
 is_agg Count Count = true
+is_agg Sum Sum = true
+is_agg Max Max = true
+is_agg kind other = false
 
 -- Whether a kind has a function.
 abbrev pub has_stage : Functions → StageKind → Bool

@@ -18,7 +18,7 @@ mod tests;
 
 pub use add_fault::AddFault;
 pub use agg_fn::AggFn;
-pub use aggregates::count;
+pub use aggregates::{count, max, sum};
 pub use fn_table::FnTable;
 pub use laws::stages_keep_records_short;
 pub use stage_fn::StageFn;

@@ -7,7 +7,7 @@ ghost use Rattle.stage_fns.specs.Functions.{HasStage, HasAgg};
 ghost use Rattle.stage_fns.specs.Kinds.{kinds};
 ghost use Rattle.stage_fns.specs.Meets.{records};
 
-use crate::{AddFault, AggFn, FnTable, StageFn, count, field, keep, upper, words};
+use crate::{AddFault, AggFn, FnTable, StageFn, count, field, keep, max, sum, upper, words};
 use flow_defs::{AggKind, Bytes, ListOf, StageKind};
 use std::alloc::{AllocError, Global};
 use std::test::Fail;
@@ -172,5 +172,21 @@ fn a_kind_takes_one_function(rt: HostRuntime) -> Result<(), Fail> {
     assert_eq!(rt; with_bars(alloc, &list)?.as_slice(), b"to|be|".as_slice());
     assert!(rt; functions.stage(StageKind::Upper).is_none());
     assert!(rt; functions.agg(AggKind::Count).is_none());
+    Ok(())
+}
+
+#[test]
+fn a_table_has_all_aggregates(rt: HostRuntime) -> Result<(), Fail> {
+    let alloc = rt.alloc();
+    let mut functions = FnTable::new(alloc);
+    let f: AggFn = Box::new(alloc, sum)?;
+    functions.add_agg(AggKind::Sum, f)?;
+    let f: AggFn = Box::new(alloc, max)?;
+    functions.add_agg(AggKind::Max, f)?;
+    assert_eq!(rt;
+        answer_of(&functions, AggKind::Sum, b"k=2", u64::MAX),
+        (1, 1)
+    );
+    assert_eq!(rt; answer_of(&functions, AggKind::Max, b"k=7", 41), (1, 41));
     Ok(())
 }

@@ -228,7 +228,7 @@ unsent job e a size passes cause new other = record {
   put = λ c inside. subst (λ own. PutSome size own []) (sym (none_at passes c new)) (record {
     owed = [];
     begins = refl;
-    buffers = record { no_barrier = refl; cut = tt };
+    buffers = tt;
   });
   done = λ is. absurd (other is);
 }

@@ -4,19 +4,19 @@ use Rattle.input_gate.specs.declared.lane.Lane.{Lane}
 use Rattle.input_gate.proofs.RoundLaws.{quiet_all, cells_set, at_get, at_there, no_spare_set, no_spare_at, same_lane, not_free, may_not, look_given, look_cell, look_looked}
 use Rattle.input_gate.proofs.round.look_at.Goals as goal
 
-pub returns-then-index-clause-came : goal.returns-then-index-clause-came
-returns-then-index-clause-came g c = quiet_all c.args.lanes.now.items
+pub returns-then-lane-clause-came : goal.returns-then-lane-clause-came
+returns-then-lane-clause-came g c = quiet_all c.args.lanes.now.items
 
-pub returns-then-index-clause-looked : goal.returns-then-index-clause-looked
-returns-then-index-clause-looked g c free may still =
-    absurd (not_free c.requires.lanes.0 c.args.lanes.now.items c.args.at _ c.index.result.now c.index.result.now c.index.ensures c.requires.within c.requires.lanes.1 c.if-index.true free)
+pub returns-then-lane-clause-looked : goal.returns-then-lane-clause-looked
+returns-then-lane-clause-looked g c free may still =
+    absurd (not_free c.requires.lanes.0 c.args.lanes.now.items c.args.at _ c.index-lane.result.now c.index-lane.result.now c.index-lane.ensures c.requires.within c.requires.lanes.1 c.if-lane.true free)
 
-pub returns-then-index-2-clause-came : goal.returns-then-index-2-clause-came
-returns-then-index-2-clause-came g c = quiet_all c.args.lanes.now.items
+pub returns-then-lane-2-clause-came : goal.returns-then-lane-2-clause-came
+returns-then-lane-2-clause-came g c = quiet_all c.args.lanes.now.items
 
-pub returns-then-index-2-clause-looked : goal.returns-then-index-2-clause-looked
-returns-then-index-2-clause-looked g c free may still =
-    absurd (true≢false (sym c.if-index-2.true ∙ sym (at_get (λ (lane : Lane). lane.ended) false c.args.lanes.now.items c.args.at _ c.index-2.result.now c.index-2.ensures c.requires.within) ∙ still))
+pub returns-then-lane-2-clause-looked : goal.returns-then-lane-2-clause-looked
+returns-then-lane-2-clause-looked g c free may still =
+    absurd (true≢false (sym c.if-lane-2.true ∙ sym (at_get (λ (lane : Lane). lane.ended) false c.args.lanes.now.items c.args.at _ c.index-lane.result.now c.index-lane.ensures c.requires.within) ∙ still))
 
 pub returns-then-is_held-clause-came : goal.returns-then-is_held-clause-came
 returns-then-is_held-clause-came g c = quiet_all c.args.lanes.now.items
@@ -24,17 +24,17 @@ returns-then-is_held-clause-came g c = quiet_all c.args.lanes.now.items
 pub returns-then-is_held-clause-looked : goal.returns-then-is_held-clause-looked
 returns-then-is_held-clause-looked g c free may still =
     let held = c.is_held.ensures.held c.if-is_held.true in
-    absurd (may_not c.requires.lanes.0 c.args.lanes.now.items c.args.at _ c.index-3.result.now c.index-3.result.now c.index-3.ensures c.requires.within c.requires.lanes.1 c.args.hold c.args.most c.requires.most held.1 held.0 may)
+    absurd (may_not c.requires.lanes.0 c.args.lanes.now.items c.args.at _ c.index-lane.result.now c.index-lane.result.now c.index-lane.ensures c.requires.within c.requires.lanes.1 c.args.hold c.args.most c.requires.most held.1 held.0 may)
 
 pub look-requires-clause-free : goal.look-requires-clause-free
-look-requires-clause-free g c = ap (λ (lane : Lane). lane.blocked) (same_lane c.args.lanes.now.items c.args.at _ _ c.index_mut.result.now c.index.result.now c.index_mut.ensures.value c.index.ensures c.requires.within) ∙ c.if-index.false
+look-requires-clause-free g c = ap (λ (lane : Lane). lane.blocked) (same_lane c.args.lanes.now.items c.args.at _ _ c.index_mut.result.now c.index-lane.result.now c.index_mut.ensures.value c.index-lane.ensures c.requires.within) ∙ c.if-lane.false
 
 pub look-requires-clause-spare : goal.look-requires-clause-spare
 look-requires-clause-spare g c = no_spare_at c.args.lanes.now.items c.args.at _ c.index_mut.result.now c.requires.spare c.requires.within c.index_mut.ensures.value
 
 pub returns-clause-came : goal.returns-clause-came
 returns-clause-came g c = look_given c.requires.lanes.0 c.args.lanes.now.items c.args.at _ c.index_mut.result.now c.look.new.lane c.index_mut.ensures.value c.requires.within c.requires.lanes.1 c.args.hold c.args.most c.requires.most c.look.result c.look.ensures.given
-    (λ is. subst (λ (lane : Lane). lane.barriers < c.args.most) (same_lane c.args.lanes.now.items c.args.at _ _ c.index-3.result.now c.index_mut.result.now c.index-3.ensures c.index_mut.ensures.value c.requires.within) (c.is_held.ensures.not_held c.if-is_held.false is))
+    (λ is. subst (λ (lane : Lane). lane.barriers < c.args.most) (same_lane c.args.lanes.now.items c.args.at _ _ c.index-lane.result.now c.index_mut.result.now c.index-lane.ensures c.index_mut.ensures.value c.requires.within) (c.is_held.ensures.not_held c.if-is_held.false is))
 
 pub returns-clause-cells : goal.returns-clause-cells
 returns-clause-cells g c = cells_set c.args.lanes.now.items c.args.at _ c.index_mut.result.now c.look.new.lane c.index_mut.ensures.value c.requires.within (look_cell c.requires.lanes.0 c.args.lanes.now.items c.args.at _ c.index_mut.result.now c.look.new.lane c.index_mut.ensures.value c.requires.within c.requires.lanes.1 c.look.result c.look.ensures.given)

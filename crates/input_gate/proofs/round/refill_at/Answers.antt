@@ -1,8 +1,21 @@
-use Rattle.std.proofs.Common.{rules, ◌≡◌, ◌<◌, ◌≤◌, ◌∙◌, sym, ap, subst, refl, true, false, None}
+use Rattle.std.proofs.Common.{rules, ◌≡◌, ◌<◌, ◌≤◌, ◌∙◌, sym, ap, subst, refl, Bool, true, false, true≢false, not, Option, Some, None}
+use Rattle.std.specs.Option.{is_some}
 use Rattle.input_gate.specs.declared.lane.Lane.{Lane}
 use Rattle.input_gate.specs.Channels.{at_of}
 use Rattle.input_gate.proofs.RoundLaws.{lane_at, quiet_all, quiet_set, cells_set, at_get, at_here, at_there, at_same, no_spare_set, no_spare_at, same_lane, not_free, blocked_here, came_at, may_not, looked_at, resumed_of, line_given, line_cell, fault_given, spare_given, came_cell, here_given, look_given, look_cell, look_looked, gave_of}
 use Rattle.input_gate.proofs.round.refill_at.Goals as goal
+
+none_of : {A : Type 0} (x : Option A) (is_none : Bool) → is_some x ≡ not is_none → is_none ≡ true → x ≡ None
+none_of None is_none e is = refl
+none_of (Some a) is_none e is = absurd (true≢false (e ∙ ap not is))
+
+pub returns-then-is_none-clause-quiet : goal.returns-then-is_none-clause-quiet
+returns-then-is_none-clause-quiet g c = quiet_all c.args.lanes.now.items
+
+pub returns-then-is_none-clause-here : goal.returns-then-is_none-clause-here
+returns-then-is_none-clause-here g c =
+    at_get (λ (lane : Lane). lane.spare) None c.args.lanes.now.items c.args.at _ c.index.result.now c.index.ensures c.requires.within
+    ∙ none_of c.index.result.now.spare c.is_none.result c.is_none.ensures c.if-is_none.true
 
 pub returns-clause-quiet : goal.returns-clause-quiet
 returns-clause-quiet g c = quiet_set c.args.lanes.now.items c.args.at _ c.index_mut.result.now c.refill.new.lane c.index_mut.ensures.value c.requires.within c.refill.ensures.quiet

@@ -1,14 +1,14 @@
-use Rattle.std.proofs.Common.{◌≡◌, ℕ, List, Some, refl}
+use Rattle.std.proofs.Common.{◌≡◌, ℕ, List, [], Some, refl, sym, subst}
 use Rattle.std.proofs.lemmas.Result.{IfOk-weaker, IfErr-weaker}
 use Rattle.std.specs.Prelude.{⊤}
 use Rattle.flow_defs.specs.Lines.{lines}
 use Rattle.flow_defs.specs.Tables.{Values}
 use Rattle.plain_machine.specs.Worth.{tally}
-use Rattle.outside.specs.Faults.{HasRisen}
-use Rattle.outside.specs.MemoryLinks.{OutState, InState}
+use Rattle.outside.specs.MemoryLinks.{NoneFails, OutState, InState, no_links}
 use Rattle.job_ends.specs.Ended.{LinksTell}
+use Rattle.job_run.specs.Wires.{IsLinkGround, IsPeerGround}
 use Rattle.job_outcome.specs.Outcomes.{AreTold, AreWithin, IsRunCause}
-use Rattle.job_cli.proofs.ExchangeLemmas.{link_aside}
+use Rattle.job_cli.proofs.ExchangeLemmas.{no_link}
 use Rattle.job_cli.proofs.exchange.table_of_inputs.Goals as goal
 
 memory_tells : LinksTell (λ (s : OutState). Some s.sent) (λ (s : InState). Some s.got)
@@ -20,8 +20,16 @@ returns-clause-told g c = IfOk-weaker c.run_job.result
     (λ (table : Values). (bytes : ℕ → List ℕ) → AreTold g.S.Source.left c.args.inputs.now.items bytes → AreWithin c.args.job.now bytes × (table ≡ tally c.args.job.now (λ a. lines (bytes a))))
     (λ table given. given memory_tells) c.run_job.ensures.tally
 
+-- No call of these links is to fail.
+none_fails : (pairs reads writes : List ℕ) → pairs ≡ [] → reads ≡ [] → writes ≡ [] → NoneFails (no_links pairs reads writes)
+none_fails pairs reads writes no_pairs no_reads no_writes = record { pairs = no_pairs; reads = no_reads; writes = no_writes }
+
 pub returns-clause-cause : goal.returns-clause-cause
-returns-clause-cause g c = IfErr-weaker c.run_job.result
-    (IsRunCause g.S.Source.left g.S.Source.faults c.args.inputs.now.items c.run_job.new.inputs.items (HasRisen c.new-net.result.faults c.run_job.new.net.faults))
-    (IsRunCause g.S.Source.left g.S.Source.faults c.args.inputs.now.items c.run_job.new.inputs.items ⊤)
-    (λ cause is. link_aside g.S.Source.left g.S.Source.faults c.args.inputs.now.items c.run_job.new.inputs.items (HasRisen c.new-net.result.faults c.run_job.new.net.faults) cause is) c.run_job.ensures.cause
+returns-clause-cause g c =
+    let net = c.new-net.result in
+    let peer = (IsPeerGround (λ (s : OutState). Some s.sent) (λ (s : InState). Some s.got) (λ (s : InState). Some s.ended) c.args.job.now (Some net.wires) (Some c.run_job.new.net.wires)) in
+    let never : NoneFails net = subst NoneFails (sym c.new-net.ensures) (none_fails c.new.result.items c.new-2.result.items c.new-3.result.items c.new.ensures c.new-2.ensures c.new-3.ensures) in
+    IfErr-weaker c.run_job.result
+    (IsRunCause g.S.Source.left g.S.Source.faults c.args.inputs.now.items c.run_job.new.inputs.items (IsLinkGround (NoneFails net) net.faults c.run_job.new.net.faults) peer)
+    (IsRunCause g.S.Source.left g.S.Source.faults c.args.inputs.now.items c.run_job.new.inputs.items ⊥ (λ _. ⊤))
+    (λ cause is. no_link g.S.Source.left g.S.Source.faults c.args.inputs.now.items c.run_job.new.inputs.items (NoneFails net) net.faults c.run_job.new.net.faults peer cause never is) c.run_job.ensures.cause

@@ -1,6 +1,7 @@
 use Rattle.std.proofs.Common.{◌≡◌, ◌++◌, [], ◌∷◌, Contains, Some, IfSome, refl, sym, subst, inr, ◌∙◌}
+use Rattle.outside.specs.Faults.{HasRisen}
 use Rattle.stage_fns.specs.Kinds.{kinds}
-use Rattle.job_cli.proofs.TopLemmas.{known_status, no_command, no_job, passes_limit, text_refused, job_refused, source_refused, not_done, pool_refused, pool_not_done, completes, script_refused, over_refused, over_not_done, bad_not_done, script_completes}
+use Rattle.job_cli.proofs.TopLemmas.{known_status, no_link, told_over, no_command, no_job, passes_limit, text_refused, job_refused, source_refused, not_done, pool_refused, pool_not_done, completes, script_refused, over_refused, over_not_done, bad_not_done, script_completes, gen_completes}
 use Rattle.job_cli.proofs.top.top.Goals as goal
 
 pub returns-in-Ok-clause-source_refused : goal.returns-in-Ok-clause-source_refused
@@ -24,17 +25,28 @@ returns-in-Err-clause-job_refused g c = λ options text tells long.
 
 pub returns-in-Err-clause-source_refused : goal.returns-in-Err-clause-source_refused
 returns-in-Err-clause-source_refused g c = λ options job bytes a run sources inside over.
-    subst (Contains (10 ∷ 4 ∷ 6 ∷ 11 ∷ 12 ∷ 70 ∷ [])) (sym c.status.ensures)
+    subst (Contains (10 ∷ 4 ∷ 11 ∷ 12 ∷ 70 ∷ [])) (sym c.status.ensures)
     (source_refused c.args.words.now.items (kinds c.args.functions.now) (g.F.Files.contents c.args.files.now) c.words_are_clear.ensures.no_fault c.words_are_clear.ensures.one options job run c.job_texts_are_clear.ensures.no_fault c.job_texts_are_clear.ensures.files bytes sources a inside over c.in-Err.fault c.in-Err.ensures.fault)
 
 pub returns-in-Err-clause-complete : goal.returns-in-Err-clause-complete
 returns-in-Err-clause-complete g c = λ options job bytes run sources enough within no_input no_output.
-    subst (Contains (0 ∷ 6 ∷ 11 ∷ 12 ∷ 70 ∷ [])) (sym c.status.ensures)
+    subst (Contains (0 ∷ 11 ∷ 12 ∷ 70 ∷ [])) (sym c.status.ensures)
     (completes c.args.words.now.items (kinds c.args.functions.now) (g.F.Files.contents c.args.files.now) c.words_are_clear.ensures.no_fault c.words_are_clear.ensures.one options job run c.job_texts_are_clear.ensures.no_fault c.job_texts_are_clear.ensures.files bytes sources enough within c.in-Err.fault
     (λ four. no_input (c.in-Err.ensures.input four)) (λ seven. no_output (c.in-Err.ensures.output seven)) c.in-Err.ensures.fault)
 
 pub returns-in-Err-clause-known : goal.returns-in-Err-clause-known
-returns-in-Err-clause-known g c = subst (Contains (0 ∷ 2 ∷ 3 ∷ 4 ∷ 6 ∷ 7 ∷ 10 ∷ 11 ∷ 12 ∷ 70 ∷ [])) (sym c.status.ensures) (known_status c.in-Err.fault)
+returns-in-Err-clause-known g c = subst (Contains (0 ∷ 2 ∷ 3 ∷ 4 ∷ 7 ∷ 10 ∷ 11 ∷ 12 ∷ 70 ∷ [])) (sym c.status.ensures)
+    (known_status c.args.words.now.items (kinds c.args.functions.now) (g.F.Files.contents c.args.files.now) c.in-Err.fault c.in-Err.ensures.fault)
+
+pub returns-in-Err-clause-no_link : goal.returns-in-Err-clause-no_link
+returns-in-Err-clause-no_link g c = λ six.
+    no_link c.args.words.now.items (kinds c.args.functions.now) (g.F.Files.contents c.args.files.now) c.in-Err.fault c.in-Err.ensures.fault (sym c.status.ensures ∙ six)
+
+pub returns-in-Err-clause-over_credit : goal.returns-in-Err-clause-over_credit
+returns-in-Err-clause-over_credit g c = λ eleven.
+    told_over c.args.words.now.items (kinds c.args.functions.now) (g.F.Files.contents c.args.files.now) (g.E.Sink.got c.args.err.now) (g.E.Sink.got c.tell.new.err)
+    (HasRisen (g.E.Sink.faults c.args.err.now) (g.E.Sink.faults c.tell.new.err)) c.in-Err.fault (sym c.status.ensures ∙ eleven) c.in-Err.ensures.fault
+    c.tell.ensures.front c.tell.ensures.told
 
 pub returns-in-Ok-clause-script_refused : goal.returns-in-Ok-clause-script_refused
 returns-in-Ok-clause-script_refused g c = λ text tells bad.
@@ -77,3 +89,9 @@ returns-in-Err-clause-usage g c = λ two named. no_command c.args.words.now.item
 
 pub returns-in-Err-clause-told : goal.returns-in-Err-clause-told
 returns-in-Err-clause-told g c = inr (c.in-Err.fault, c.status.ensures, c.in-Err.ensures.fault, c.tell.ensures.front, c.tell.ensures.told)
+
+pub returns-in-Err-clause-complete_gen : goal.returns-in-Err-clause-complete_gen
+returns-in-Err-clause-complete_gen g c = λ lines seed gen no_output.
+    subst (Contains (0 ∷ 70 ∷ [])) (sym c.status.ensures)
+    (gen_completes c.args.words.now.items (kinds c.args.functions.now) (g.F.Files.contents c.args.files.now) c.words_are_clear.ensures.no_fault c.words_are_clear.ensures.one lines seed gen c.in-Err.fault
+    (λ seven. no_output (c.in-Err.ensures.output seven)) c.in-Err.ensures.fault)

@@ -1,10 +1,13 @@
-use Rattle.std.proofs.Common.{◌≡◌, ◌<◌, ◌≤◌, inl, inr, slice_index_or, ℕ, Some, refl, sym, ap, subst, ◌∙◌, arith}
+use Rattle.std.proofs.Common.{◌≡◌, ◌<◌, ◌≤◌, inl, inr, slice_index_or, ℕ, suc, Some, refl, sym, ap, subst, ◌∙◌, arith}
 use Rattle.std.specs.Prelude.{slice_get}
 use Rattle.std.proofs.lemmas.Bool.{cases_lt}
 use Rattle.std.proofs.lemmas.List.{length-set}
 use Rattle.conn_parts.proofs.Lists.{get_is, get_set_else}
+use Rattle.flow_defs.specs.Jobs.{last_edge}
 use Rattle.job_laws.specs.Ends.{EdgeCarries}
 use Rattle.job_ends.specs.Ended.{gate_at, own_at}
+use Rattle.job_ends.specs.Returning.{RowsCameBack}
+use Rattle.job_ends.proofs.Returns.{none_came_back, one_more_came_back}
 use Rattle.job_ends.proofs.Loops.{place_low}
 use Rattle.job_ends.proofs.Rows.{one_there, read_there, rows_nothing}
 use Rattle.job_ends.proofs.Endings.{carried, edge_low, has_edge, loops_at, risen_before, risen_later, rows_settled, rows_step}
@@ -18,6 +21,7 @@ loop-number-init g c = record {
   carry = λ tell e low. absurd (omega (arith, low));
   lent = omega arith;
   never_falls = omega arith;
+  wires = none_came_back g.N.In.LinkIn.got g.N.In.LinkIn.ended (g.N.Links.wires c.args.net.now) c.args.loops.now;
   fault = λ k i row place low at there fault. absurd (omega (arith, low));
 }
 
@@ -70,6 +74,8 @@ loop-number-preserved g c =
       ];
       lent = (let l = before.lent in let m = c.settle_edge.ensures.lent in omega (arith, l, m));
       never_falls = (let l = before.never_falls in let m = c.settle_edge.ensures.never_falls in omega (arith, l, m));
+      wires = one_more_came_back g.N.In.LinkIn.got g.N.In.LinkIn.ended (g.N.Links.wires c.args.net.now) (g.N.Links.wires c.loop-number.net) (g.N.Links.wires c.settle_edge.new.net)
+          c.args.loops.now number row start before.wires c.settle_edge.ensures.wires;
       fault = λ k i other place low has_row has_place fault. elim (cases_lt k number) [
         | inl below ↦
             risen_later (g.N.Links.faults c.args.net.now) (g.N.Links.faults c.loop-number.net) (g.N.Links.faults c.settle_edge.new.net) (before.fault k i other place below has_row has_place fault) c.settle_edge.ensures.never_falls
@@ -89,6 +95,12 @@ returns-clause-rest g c = rows_settled c.args.rows.now c.loop-number.rows (λ s.
 
 pub returns-clause-lent : goal.returns-clause-lent
 returns-clause-lent g c = let many = c.requires.ended.1.edges_are.many in let lent = c.loop-number.invariant.lent in omega (arith, many, lent)
+
+pub returns-clause-wires : goal.returns-clause-wires
+returns-clause-wires g c =
+    let many = c.requires.ended.1.edges_are.many in
+    let all : c.loop-number.number ≡ suc (last_edge c.args.job.now) = omega (arith, many) in
+    subst (λ (n : ℕ). RowsCameBack g.N.In.LinkIn.got g.N.In.LinkIn.ended (g.N.Links.wires c.args.net.now) (g.N.Links.wires c.loop-number.net) c.args.loops.now n) all c.loop-number.invariant.wires
 
 pub returns-clause-fault : goal.returns-clause-fault
 returns-clause-fault g c = λ f.

@@ -1,8 +1,10 @@
-use Rattle.std.proofs.Common.{◌≡◌, ◌++◌, List, length, sym, ap, subst, ◌∙◌, arith}
+use Rattle.std.proofs.Common.{◌≡◌, ◌++◌, suc, List, length, sym, ap, subst, ◌∙◌, arith}
 use Rattle.std.specs.List.{filter_map}
 use Rattle.flow_defs.specs.Items.{Items}
 use Rattle.job_laws.specs.Ends.{EdgeCarries}
-use Rattle.job_ends.specs.Ended.{TaskPlace, gate_at, own_at}
+use Rattle.flow_defs.specs.Jobs.{last_edge}
+use Rattle.job_ends.specs.Ended.{LoopPlace, TaskPlace, gate_at, own_at}
+use Rattle.job_ends.specs.Returning.{RowsCameBack}
 use Rattle.job_outcome.specs.Theorems.{AreLeftIn}
 use Rattle.job_run.specs.Runs.{input_in}
 use Rattle.job_run.proofs.InputLaws.{first_came, first_left, first_many}
@@ -49,3 +51,8 @@ returns-clause-inputs g c =
 pub returns-clause-carry : goal.returns-clause-carry
 returns-clause-carry g c = λ tell e low.
     subst (λ (r : List (Items (TaskPlace g.row.S.Denot))). EdgeCarries c.args.job.now e (own_at r e) (gate_at r e)) c.as_mut_slice.ensures.value (c.settle_edges.ensures.carry tell e low)
+
+pub returns-clause-wires : goal.returns-clause-wires
+returns-clause-wires g c =
+    subst (λ (l : List (Items (LoopPlace g.row.N-Out.Denot g.row.N-In.Denot))). RowsCameBack g.N.In.LinkIn.got g.N.In.LinkIn.ended (g.N.Links.wires c.args.net.now) (g.N.Links.wires c.settle_edges.new.net) l (suc (last_edge c.args.job.now)))
+    c.as_mut_slice-2.ensures.value c.settle_edges.ensures.wires

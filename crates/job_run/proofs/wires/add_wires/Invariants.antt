@@ -1,4 +1,5 @@
 use Rattle.std.proofs.Common.{◌≡◌, ◌+◌, ◌≤◌, length, All}
+use Rattle.outside.specs.Links.{NeverFails}
 use Rattle.job_run.specs.Wires.{IsUnused}
 use Rattle.job_run.proofs.wires.add_wires.Given as goal
 
@@ -9,4 +10,7 @@ invariant-loop-made g l = record {
   room : l.many ≤ l.wires.room + l._made;
   lent : g.N.Links.lent l.net ≡ g.N.Links.lent l.fn.net + l._made;
   never_falls : g.N.Links.faults l.fn.net ≤ g.N.Links.faults l.net;
+  same : g.N.Links.wires l.net ≡ g.N.Links.wires l.fn.net;
+  still_sure : g.N.Links.never_fails l.fn.net → g.N.Links.never_fails l.net;
+  sure : g.N.Links.never_fails l.fn.net → All (NeverFails g.N.Out.LinkOut.never_fails g.N.In.LinkIn.never_fails) l.wires.items;
 }

@@ -2,6 +2,7 @@ use Rattle.std.proofs.Common.{◌≡◌, ◌∙◌, refl, rules, arith}
 use Rattle.turn_cell.specs.Passes.{mine}
 use Rattle.flow_defs.specs.Records.{encoded}
 use Rattle.record_writer.specs.Channels.{laid}
+use Rattle.record_writer.proofs.Entries.{grew_on}
 use Rattle.record_writer.proofs.Putting.{on_err, laid_same, laid_more, laid_some, laid_all, encoded_length, same_on}
 use Rattle.record_writer.proofs.channel.lay_down.Goals as goal
 
@@ -36,4 +37,14 @@ loop-round-preserved g c =
       within = omega (arith, c.in_ok-done.ensures.count);
       laid_is = laid_more (mine c.put_if_full.new.pass) c.put_if_full.new.part c.fill.new.part was before (encoded c.args.line.now) c.loop-round.done c.in_ok-done.field-0
           c.in_ok-put_if_full.ensures.laid c.loop-round.invariant.laid_is c.in_ok-done.ensures.copied;
+      entries = grew_on (mine c.args.pass.now) (mine c.loop-round.pass) (mine c.put_if_full.new.pass) c.loop-round.invariant.entries c.put_if_full.ensures.entries;
     }
+
+pub returns-in_err-put_if_full-clause-entries : goal.returns-in_err-put_if_full-clause-entries
+returns-in_err-put_if_full-clause-entries g c = grew_on (mine c.args.pass.now) (mine c.loop-round.pass) (mine c.put_if_full.new.pass) c.loop-round.invariant.entries c.put_if_full.ensures.entries
+
+pub returns-then-done-all-clause-entries : goal.returns-then-done-all-clause-entries
+returns-then-done-all-clause-entries g c = grew_on (mine c.args.pass.now) (mine c.loop-round.pass) (mine c.put_if_full.new.pass) c.loop-round.invariant.entries c.put_if_full.ensures.entries
+
+pub returns-in_err-done-clause-entries : goal.returns-in_err-done-clause-entries
+returns-in_err-done-clause-entries g c = grew_on (mine c.args.pass.now) (mine c.loop-round.pass) (mine c.put_if_full.new.pass) c.loop-round.invariant.entries c.put_if_full.ensures.entries

@@ -1,6 +1,7 @@
 use Rattle.std.proofs.Common.{◌≡◌, ◌+◌, ◌≤◌, ◌++◌, length, take}
 use Rattle.turn_cell.specs.Passes.{mine}
 use Rattle.flow_defs.specs.Records.{encoded}
+use Rattle.record_writer.specs.Writers.{GrewByData}
 use Rattle.record_writer.specs.Channels.{IsTaskPass, IsPart, IsOpenAt, IsSupply, IsSameSupply, laid}
 use Rattle.record_writer.proofs.channel.lay_down.Given as goal
 
@@ -13,4 +14,5 @@ invariant-loop-round g l = record {
   is_open : IsOpenAt l.initial.supply.size (mine l.pass);
   within : l.done ≤ length l.line + 4;
   laid_is : laid (mine l.pass) l.part ≡ laid (mine l.initial.pass) l.initial.part ++ take l.done (encoded l.line);
+  entries : GrewByData (mine l.initial.pass) (mine l.pass);
 }

@@ -1,8 +1,9 @@
-use Rattle.record_writer.specs.Writers.{IsOpen, IsSame}
+use Rattle.record_writer.specs.Writers.{IsOpen, IsSame, IsNextBarrier}
 use Rattle.record_writer.proofs.tests.write.Given as goal
 
-abbrev pub invariant-loop-line : goal.invariant-loop-line
-invariant-loop-line g l = record {
+abbrev pub invariant-loop-number : goal.invariant-loop-number
+invariant-loop-number g l = record {
   is_open : IsOpen l.writer;
-  same : IsSame l.initial.writer l.writer;
+  same : IsSame l.fn.writer l.writer;
+  next : IsNextBarrier l.writer l.number;
 }

@@ -7,9 +7,8 @@ use Rattle.input_channel.specs.Counts.{Counts, with_data}
 use Rattle.input_channel.specs.States.{ChannelState}
 use Rattle.input_channel.specs.Steps.{with_data_in}
 use Rattle.input_channel.specs.Lines.{Line, kinds_of}
-use Rattle.input_channel.specs.Kept.{AreOfLength, counts_of, queue_of}
+use Rattle.input_channel.specs.Kept.{AreOfLength, counts_of, queue_of, IsKept, state_of}
 use Rattle.input_channel.specs.Contents.{content}
-use Rattle.input_channel.specs.contracts.channel.InputChannel.{the_view}
 use Rattle.input_channel.proofs.CountLemmas.{count-snoc}
 use Rattle.input_channel.proofs.PollLemmas.{accepts_data}
 use Rattle.input_channel.proofs.KeptLemmas.{free_taken, kinds-all, kinds-more, length-kinds, buffers-more, both, no_end, same_counts, barriers_of-append}
@@ -17,17 +16,17 @@ use Rattle.input_channel.proofs.channel.InputChannel.accept_data.Goals as goal
 
 pub push_data-requires : goal.push_data-requires
 push_data-requires c =
-    let f = c.self.inside in
-    let is = c.self.invariant in
+    let f = c.deref_mut-parts.result.now in
+    let is : IsKept f = subst IsKept (sym c.deref_mut-parts.ensures.value) c.self.invariant in
     let all = kinds-all (kinds_of f.queue.buffers) in
     let long = length-kinds f.queue.buffers in
     let places : f.queue.room ≡ f.room = is.queue_places in
-    omega (arith, all, long, is.two, is.within, is.credit, places, c.if-self-eq0.false)
+    omega (arith, all, long, is.two, is.within, is.credit, places, c.if-parts-eq0.false)
 
-pub invariant_of-self : goal.invariant_of-self
-invariant_of-self c =
-    let f = c.self.inside in
-    let is = c.self.invariant in
+pub invariant_of-self-2 : goal.invariant_of-self-2
+invariant_of-self-2 c =
+    let f = c.deref_mut-parts.result.now in
+    let is : IsKept f = subst IsKept (sym c.deref_mut-parts.ensures.value) c.self.invariant in
     let t = c.take_free-segment in
     let taken = free_taken f.size t.result.1 t.result.0 f.floating t.new.floating f.exclusive t.new.exclusive t.ensures.kind t.ensures.floating t.ensures.exclusive is.floating_sizes is.exclusive_sizes in
     let buf = c.filled.result in
@@ -50,35 +49,39 @@ invariant_of-self c =
       room = is.room;
       two = omega (arith, exs, ex_less, is.two);
       within = omega (arith, fls, fl_less, is.within);
-      credit = omega (arith, ex_less, fl_less, one, is.credit, c.if-self-eq0.false);
+      credit = omega (arith, ex_less, fl_less, one, is.credit, c.if-parts-eq0.false);
       exclusive_sizes = taken.exclusive_sizes;
       floating_sizes = taken.floating_sizes;
       queue_sizes = subst (AreOfLength f.size) (sym held) (buffers-more f.size f.queue.buffers buf is.queue_sizes size);
       resumptions = omega (arith, barriers, is.resumptions);
+      announced = is.announced;
+      received = omega arith;
+      last = is.last;
       end = is.end;
     }
 
 pub returns-clause-accepted : goal.returns-clause-accepted
 returns-clause-accepted c =
-    let f = c.self.inside in
-    let is = c.self.invariant in
+    let f = c.deref_mut-parts.result.now in
+    let is : IsKept f = subst IsKept (sym c.deref_mut-parts.ensures.value) c.self.invariant in
+    let view_is : state_of f ≡ c.args.self.now = ap state_of c.deref_mut-parts.ensures.value ∙ c.self.view_is in
     let t = c.take_free-segment in
     let taken = free_taken f.size t.result.1 t.result.0 f.floating t.new.floating f.exclusive t.new.exclusive t.ensures.kind t.ensures.floating t.ensures.exclusive is.floating_sizes is.exclusive_sizes in
     let buf = c.filled.result in
     let bytes = c.args.bytes.now in
-    let v : ChannelState = the_view f in
+    let v : ChannelState = state_of f in
     let held : c.push_data.new.self.buffers ≡ f.queue.buffers ++ buf ∷ [] = ap (λ (l : Line). l.buffers) c.push_data.ensures in
     let marks_are : kinds_of c.push_data.new.self.buffers ≡ kinds_of f.queue.buffers ++ Rattle.std.proofs.Common.eqb (length f.floating.items) 0 ∷ [] =
     ap kinds_of held ∙ kinds-more f.queue.buffers buf ∙ ap (λ b. kinds_of f.queue.buffers ++ b ∷ []) (c.filled.ensures.kind ∙ t.ensures.kind) in
     let parcels_are : c.push_data.new.self.parcels ≡ f.queue.parcels ++ parcels.Data bytes ∷ [] =
     ap (λ (l : Line). l.parcels) c.push_data.ensures ∙ ap (λ bs. f.queue.parcels ++ parcels.Data bs ∷ []) c.filled.ensures.content in
-    let closed : f.ended ≡ false = ap (λ (s : ChannelState). s.ended) c.self.view_is ∙ c.requires in
+    let closed : f.ended ≡ false = ap (λ (s : ChannelState). s.ended) view_is ∙ c.requires in
     let none : f.end_waits ≡ false = no_end f.end_waits f.ended is.end closed in
     let queue_is : queue_of c.push_data.new.self f.end_waits ≡ queue_of f.queue f.end_waits ++ parcels.Data bytes ∷ [] =
     ap (queue_of c.push_data.new.self) none ∙ parcels_are ∙ ap (λ b. queue_of f.queue b ++ parcels.Data bytes ∷ []) (sym none) in
     let counts_are : counts_of t.new.exclusive.items t.new.floating.items c.push_data.new.self f.pending f.required f.is_shut ≡ with_data v.counts =
     same_counts v.counts _ _ _ _ _ _ taken.exclusive_is taken.floating_is marks_are in
     let after : ChannelState = with_data_in v bytes in (
-      subst (λ (s : ChannelState). kind_refused s kinds.Buffer bytes ≡ None) c.self.view_is (accepts_data v bytes c.if-self-eq0.false c.if-bytes-self.false),
-      both (λ (q : List Parcel) (k : Counts). record after { queue = q; counts = k }) _ _ _ _ queue_is counts_are ∙ ap (λ (s : ChannelState). with_data_in s bytes) c.self.view_is,
+      subst (λ (s : ChannelState). kind_refused s kinds.Buffer bytes ≡ None) view_is (accepts_data v bytes c.if-parts-eq0.false c.if-bytes-parts.false),
+      both (λ (q : List Parcel) (k : Counts). record after { queue = q; counts = k }) _ _ _ _ queue_is counts_are ∙ ap (λ (s : ChannelState). with_data_in s bytes) view_is,
     )

@@ -2,18 +2,19 @@ use Rattle.std.proofs.Common.{◌≡◌, ℕ, ◌+◌, ◌<◌, length, List, []
 use Rattle.circular_buffer.specs.Buffer.{Buffer}
 use Rattle.input_channel.specs.Counts.{wants}
 use Rattle.input_channel.specs.States.{ChannelState}
-use Rattle.input_channel.specs.Kept.{HaveLength, counts_of}
+use Rattle.input_channel.specs.Kept.{HaveLength, counts_of, IsKept, state_of}
 use Rattle.input_channel.proofs.LineLemmas.{keep_last-fits}
 use Rattle.input_channel.proofs.KeptLemmas.{lengths-more}
 use Rattle.input_channel.proofs.channel.InputChannel.add_floating.Goals as goal
 
 pub invariant_of-self : goal.invariant_of-self
 invariant_of-self c =
-    let f = c.self.inside in
-    let is = c.self.invariant in
+    let f = c.deref_mut-parts.result.now in
+    let is : IsKept f = subst IsKept (sym c.deref_mut-parts.ensures.value) c.self.invariant in
+    let view_is : state_of f ≡ c.args.self.now = ap state_of c.deref_mut-parts.ensures.value ∙ c.self.view_is in
     let wanted : 0 < wants f.room (counts_of f.exclusive.items f.floating.items f.queue f.pending f.required f.is_shut) =
-    subst (λ (s : ChannelState). 0 < wants s.room s.counts) (sym c.self.view_is) c.requires.wanted in
-    let size : length c.args.segment ≡ f.size = c.requires.size ∙ sym (ap (λ (s : ChannelState). s.size) c.self.view_is) in
+    subst (λ (s : ChannelState). 0 < wants s.room s.counts) (sym view_is) c.requires.wanted in
+    let size : length c.args.segment ≡ f.size = c.requires.size ∙ sym (ap (λ (s : ChannelState). s.size) view_is) in
     let places : f.floating.capacity ≡ f.room = is.floating_places in
     let fits : length f.floating.items < f.floating.capacity = omega (arith, wanted, places) in
     let held : c.push_back.new.self.items ≡ f.floating.items ++ c.args.segment ∷ [] =
@@ -31,5 +32,8 @@ invariant_of-self c =
       floating_sizes = subst (HaveLength f.size) (sym held) (lengths-more f.size f.floating.items c.args.segment is.floating_sizes size);
       queue_sizes = is.queue_sizes;
       resumptions = is.resumptions;
+      announced = is.announced;
+      received = is.received;
+      last = is.last;
       end = is.end;
     }

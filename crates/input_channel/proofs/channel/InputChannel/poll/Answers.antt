@@ -13,37 +13,39 @@ use Rattle.input_channel.specs.States.{ChannelState, after}
 use Rattle.input_channel.specs.Answers.{gave_of, IsBufferOf}
 use Rattle.input_channel.specs.Contents.{content}
 use Rattle.input_channel.specs.Lines.{Line, kinds_of}
-use Rattle.input_channel.specs.Kept.{queue_of, counts_of, AreOfLength}
-use Rattle.input_channel.specs.contracts.channel.InputChannel.{the_view}
+use Rattle.input_channel.specs.Kept.{state_of, queue_of, counts_of, AreOfLength, IsKept}
 use Rattle.input_channel.proofs.PollLemmas.{queue_due, due-first, gives_due, holds_back, polled_none, polled_some, same_state, undue-length, owes-low, counts-poll, buffers-first}
 use Rattle.input_channel.proofs.channel.InputChannel.poll.Goals as goal
 
 pub returns-then-hold-clause-answer : goal.returns-then-hold-clause-answer
 returns-then-hold-clause-answer c =
-    let f = c.self.inside in
+    let f = c.deref_mut-parts.result.now in
+    let view_is : state_of f ≡ c.args.self.now = ap state_of c.deref_mut-parts.ensures.value ∙ c.self.view_is in
     let at = queue_due f.queue f.end_waits _ c.in-Some.ensures in
-    (ap (λ (s : ChannelState). is_barrier (due s.queue)) (sym c.self.view_is) ∙ ap is_barrier at.0, c.if-hold.true)
+    (ap (λ (s : ChannelState). is_barrier (due s.queue)) (sym view_is) ∙ ap is_barrier at.0, c.if-hold.true)
 
 pub returns-then-hold-clause-channel : goal.returns-then-hold-clause-channel
 returns-then-hold-clause-channel c =
-    let f = c.self.inside in
+    let f = c.deref_mut-parts.result.now in
+    let view_is : state_of f ≡ c.args.self.now = ap state_of c.deref_mut-parts.ensures.value ∙ c.self.view_is in
     let s = c.args.self.now in
     let at = queue_due f.queue f.end_waits _ c.in-Some.ensures in
-    let is : is_barrier (due s.queue) ≡ true = ap (λ (t : ChannelState). is_barrier (due t.queue)) (sym c.self.view_is) ∙ ap is_barrier at.0 in
+    let is : is_barrier (due s.queue) ≡ true = ap (λ (t : ChannelState). is_barrier (due t.queue)) (sym view_is) ∙ ap is_barrier at.0 in
     let back = holds_back s.queue is in
-    sym (polled_none s c.args.hold (ap (λ h. poll_gives h s.queue) c.if-hold.true ∙ back.0) (ap (λ h. poll_leaves h s.queue) c.if-hold.true ∙ back.1))
+    view_is ∙ sym (polled_none s c.args.hold (ap (λ h. poll_gives h s.queue) c.if-hold.true ∙ back.0) (ap (λ h. poll_leaves h s.queue) c.if-hold.true ∙ back.1))
 
-pub overflow_add-self : goal.overflow_add-self
-overflow_add-self c =
-    let f = c.self.inside in
+pub overflow_add-parts : goal.overflow_add-parts
+overflow_add-parts c =
+    let f = c.deref_mut-parts.result.now in
+    let is : IsKept f = subst IsKept (sym c.deref_mut-parts.ensures.value) c.self.invariant in
     let one = undue-length f.queue.parcels (ap is_barrier c.in-Some.ensures) in
     let small = owes-low c.in-Some.kind in
-    omega (arith, one, small, c.owes.ensures, c.self.invariant.resumptions)
+    omega (arith, one, small, c.owes.ensures, is.resumptions, is.last)
 
-pub invariant_of-self : goal.invariant_of-self
-invariant_of-self c =
-    let f = c.self.inside in
-    let is = c.self.invariant in
+pub invariant_of-self-in-Some : goal.invariant_of-self-in-Some
+invariant_of-self-in-Some c =
+    let f = c.deref_mut-parts.result.now in
+    let is : IsKept f = subst IsKept (sym c.deref_mut-parts.ensures.value) c.self.invariant in
     let new = c.pop_barrier.ensures in
     let one = undue-length f.queue.parcels (ap is_barrier c.in-Some.ensures) in
     let small = owes-low c.in-Some.kind in
@@ -60,20 +62,25 @@ invariant_of-self c =
       exclusive_sizes = is.exclusive_sizes;
       floating_sizes = is.floating_sizes;
       queue_sizes = subst (AreOfLength f.size) (sym held) is.queue_sizes;
-      resumptions = omega (arith, one, small, left, c.owes.ensures, is.resumptions);
+      resumptions = omega (arith, one, small, left, c.owes.ensures, is.resumptions, is.last);
+      announced = is.announced;
+      received = is.received;
+      last = is.last;
       end = is.end;
     }
 
 pub returns-in-Some-clause-answer : goal.returns-in-Some-clause-answer
 returns-in-Some-clause-answer c =
-    let f = c.self.inside in
+    let f = c.deref_mut-parts.result.now in
+    let view_is : state_of f ≡ c.args.self.now = ap state_of c.deref_mut-parts.ensures.value ∙ c.self.view_is in
     let at = queue_due f.queue f.end_waits _ c.in-Some.ensures in
-    (ap (λ (s : ChannelState). due s.queue) (sym c.self.view_is) ∙ at.0, c.if-hold.false)
+    (ap (λ (s : ChannelState). due s.queue) (sym view_is) ∙ at.0, c.if-hold.false)
 
 pub returns-in-Some-clause-channel : goal.returns-in-Some-clause-channel
 returns-in-Some-clause-channel c =
-    let f = c.self.inside in
-    let v : ChannelState = the_view f in
+    let f = c.deref_mut-parts.result.now in
+    let view_is : state_of f ≡ c.args.self.now = ap state_of c.deref_mut-parts.ensures.value ∙ c.self.view_is in
+    let v : ChannelState = state_of f in
     let k = c.in-Some.k in
     let kind = c.in-Some.kind in
     let p : Parcel = parcels.Barrier k kind in
@@ -87,27 +94,30 @@ returns-in-Some-clause-channel c =
     let owed_is : f.owed + c.owes.result ≡ v.owed + inline_in (p ∷ []) = ap (λ n. f.owed + n) (c.owes.ensures ∙ sym (add-zero (owes kind))) in
     same_state v _ _ _ _ _ _ left counts_are owed_is
     ∙ sym (polled_some v c.args.hold NoBuffer p (poll_leaves c.args.hold v.queue) given.0 refl)
-    ∙ ap (λ (s : ChannelState). after s (Poll c.args.hold NoBuffer)) c.self.view_is
+    ∙ ap (λ (s : ChannelState). after s (Poll c.args.hold NoBuffer)) view_is
 
 pub returns-in-Some-pop_data-clause-answer : goal.returns-in-Some-pop_data-clause-answer
 returns-in-Some-pop_data-clause-answer c =
-    let f = c.self.inside in
-    let v : ChannelState = the_view f in
+    let f = c.deref_mut-parts.result.now in
+    let is : IsKept f = subst IsKept (sym c.deref_mut-parts.ensures.value) c.self.invariant in
+    let view_is : state_of f ≡ c.args.self.now = ap state_of c.deref_mut-parts.ensures.value ∙ c.self.view_is in
+    let v : ChannelState = state_of f in
     let buf = c.in-Some-pop_data.buf in
     let first = due-first (parcels.Data (content buf)) f.queue.parcels c.pop_data.new.self.parcels c.in-Some-pop_data.ensures.0 c.in_default.ensures in
     let at = queue_due f.queue f.end_waits _ first.0 in
     let is : IsBufferOf v buf = record {
       due = at.0;
-      size = buffers-first f.size f.queue.buffers c.pop_data.new.self.buffers buf c.in-Some-pop_data.ensures.1 c.self.invariant.queue_sizes;
+      size = buffers-first f.size f.queue.buffers c.pop_data.new.self.buffers buf c.in-Some-pop_data.ensures.1 is.queue_sizes;
       rest = kinds_of c.pop_data.new.self.buffers;
       kind = ap kinds_of c.in-Some-pop_data.ensures.1;
     } in
-    subst (λ (s : ChannelState). IsBufferOf s buf) c.self.view_is is
+    subst (λ (s : ChannelState). IsBufferOf s buf) view_is is
 
 pub returns-in-Some-pop_data-clause-channel : goal.returns-in-Some-pop_data-clause-channel
 returns-in-Some-pop_data-clause-channel c =
-    let f = c.self.inside in
-    let v : ChannelState = the_view f in
+    let f = c.deref_mut-parts.result.now in
+    let view_is : state_of f ≡ c.args.self.now = ap state_of c.deref_mut-parts.ensures.value ∙ c.self.view_is in
+    let v : ChannelState = state_of f in
     let buf = c.in-Some-pop_data.buf in
     let p : Parcel = parcels.Data (content buf) in
     let left = c.pop_data.new.self in
@@ -120,4 +130,4 @@ returns-in-Some-pop_data-clause-channel c =
     ap (λ bs. record v.counts { held = drop 1 bs }) (ap kinds_of (sym c.in-Some-pop_data.ensures.1)) ∙ sym (counts-poll v.counts c.args.hold buf.exclusive) in
     same_state v _ _ _ _ _ _ queue_is counts_are (sym (add-zero f.owed))
     ∙ sym (polled_some v c.args.hold (gave_of (answers.Buffer buf)) p (poll_leaves c.args.hold v.queue) given.0 refl)
-    ∙ ap (λ (s : ChannelState). after s (Poll c.args.hold (gave_of (answers.Buffer buf)))) c.self.view_is
+    ∙ ap (λ (s : ChannelState). after s (Poll c.args.hold (gave_of (answers.Buffer buf)))) view_is

@@ -2,21 +2,22 @@ use Rattle.std.proofs.Common.{◌≡◌, ℕ, ◌+◌, ◌-◌, ◌<◌, length,
 use Rattle.circular_buffer.specs.Buffer.{Buffer}
 use Rattle.input_channel.specs.Counts.{exclusive_held}
 use Rattle.input_channel.specs.States.{ChannelState, exclusive_here}
-use Rattle.input_channel.specs.Kept.{HaveLength, counts_of}
+use Rattle.input_channel.specs.Kept.{HaveLength, counts_of, IsKept, state_of}
 use Rattle.input_channel.proofs.LineLemmas.{keep_last-fits}
 use Rattle.input_channel.proofs.KeptLemmas.{lengths-more, lengths-less}
 use Rattle.input_channel.proofs.channel.InputChannel.recycle.Goals as goal
 
-pub invariant_of-self : goal.invariant_of-self
-invariant_of-self c =
-    let f = c.self.inside in
-    let is = c.self.invariant in
+pub invariant_of-self-then-floating-gt0 : goal.invariant_of-self-then-floating-gt0
+invariant_of-self-then-floating-gt0 c =
+    let f = c.deref_mut-parts.result.now in
+    let is : IsKept f = subst IsKept (sym c.deref_mut-parts.ensures.value) c.self.invariant in
+    let view_is : state_of f ≡ c.args.self.now = ap state_of c.deref_mut-parts.ensures.value ∙ c.self.view_is in
     let segment = c.args.buf.segment in
     let ex : c.args.buf.exclusive ≡ true = search rules in
     let given : exclusive_here c.args.self.now < 2 = c.requires.given ex in
     let here : length f.exclusive.items + exclusive_held (counts_of f.exclusive.items f.floating.items f.queue f.pending f.required f.is_shut) < 2 =
-    subst (λ (s : ChannelState). exclusive_here s < 2) (sym c.self.view_is) given in
-    let size : length segment ≡ f.size = c.requires.size ∙ sym (ap (λ (s : ChannelState). s.size) c.self.view_is) in
+    subst (λ (s : ChannelState). exclusive_here s < 2) (sym view_is) given in
+    let size : length segment ≡ f.size = c.requires.size ∙ sym (ap (λ (s : ChannelState). s.size) view_is) in
     let places : f.exclusive.capacity ≡ 2 = is.exclusive_places in
     let fits : length f.exclusive.items < f.exclusive.capacity = omega (arith, here, places) in
     let held : c.push_back.new.self.items ≡ f.exclusive.items ++ segment ∷ [] =
@@ -37,19 +38,23 @@ invariant_of-self c =
       floating_sizes = subst (HaveLength f.size) (sym left) (lengths-less f.size f.floating.items is.floating_sizes);
       queue_sizes = is.queue_sizes;
       resumptions = is.resumptions;
+      announced = is.announced;
+      received = is.received;
+      last = is.last;
       end = is.end;
     }
 
 pub invariant_of-self-2 : goal.invariant_of-self-2
 invariant_of-self-2 c =
-    let f = c.self.inside in
-    let is = c.self.invariant in
+    let f = c.deref_mut-parts.result.now in
+    let is : IsKept f = subst IsKept (sym c.deref_mut-parts.ensures.value) c.self.invariant in
+    let view_is : state_of f ≡ c.args.self.now = ap state_of c.deref_mut-parts.ensures.value ∙ c.self.view_is in
     let segment = c.args.buf.segment in
     let ex : c.args.buf.exclusive ≡ true = search rules in
     let given : exclusive_here c.args.self.now < 2 = c.requires.given ex in
     let here : length f.exclusive.items + exclusive_held (counts_of f.exclusive.items f.floating.items f.queue f.pending f.required f.is_shut) < 2 =
-    subst (λ (s : ChannelState). exclusive_here s < 2) (sym c.self.view_is) given in
-    let size : length segment ≡ f.size = c.requires.size ∙ sym (ap (λ (s : ChannelState). s.size) c.self.view_is) in
+    subst (λ (s : ChannelState). exclusive_here s < 2) (sym view_is) given in
+    let size : length segment ≡ f.size = c.requires.size ∙ sym (ap (λ (s : ChannelState). s.size) view_is) in
     let places : f.exclusive.capacity ≡ 2 = is.exclusive_places in
     let fits : length f.exclusive.items < f.exclusive.capacity = omega (arith, here, places) in
     let held : c.push_back.new.self.items ≡ f.exclusive.items ++ segment ∷ [] =
@@ -67,5 +72,8 @@ invariant_of-self-2 c =
       floating_sizes = is.floating_sizes;
       queue_sizes = is.queue_sizes;
       resumptions = is.resumptions;
+      announced = is.announced;
+      received = is.received;
+      last = is.last;
       end = is.end;
     }

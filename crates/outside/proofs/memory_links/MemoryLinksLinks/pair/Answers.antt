@@ -1,4 +1,4 @@
-use Rattle.std.proofs.Common.{rules, ◌≡◌, true, false, inl, ◌∙◌, ap, Err}
+use Rattle.std.proofs.Common.{rules, ◌≡◌, true, false, ◌∙◌, ap, Err}
 use Rattle.std.proofs.lemmas.Result.{err_from_is_err_and}
 use Rattle.outside.specs.Memory.{is_listed, counted}
 use Rattle.outside.proofs.memory_links.MemoryLinksLinks.pair.Goals as goal
@@ -6,7 +6,7 @@ use Rattle.outside.proofs.memory_links.MemoryLinksLinks.pair.Goals as goal
 pub returns-then-contains-clause-step : goal.returns-then-contains-clause-step
 returns-then-contains-clause-step c =
     let listed : is_listed c.args.self.now.pairs (counted c.args.self.now.calls) ≡ true = search rules in
-    (inl listed, search rules)
+    (listed, search rules)
 
 pub returns-in_err-reserve-clause-step : goal.returns-in_err-reserve-clause-step
 returns-in_err-reserve-clause-step c =

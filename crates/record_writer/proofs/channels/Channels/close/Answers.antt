@@ -1,9 +1,9 @@
-use Rattle.std.proofs.Common.{◌<◌, sym, refl, subst, ◌∙◌, arith, length, get_or}
+use Rattle.std.proofs.Common.{◌<◌, refl, ◌∙◌, arith, length, get_or}
 use Rattle.std.proofs.lemmas.Result.{on_ok_weaker, on_err_weaker}
-use Rattle.turn_cell.specs.Passes.{mine}
-use Rattle.record_writer.specs.Lists.{laid_of}
-use Rattle.record_writer.specs.Writers.{place_of, PutAll, PutSome}
-use Rattle.record_writer.proofs.Lending.{own_now, laid_was, own_else, held_elsewhere, parts_many, parts_fit, own_lent, cell_there}
+use Rattle.subpartition.specs.declared.entry.SendEntry.TheVariants.{Finish}
+use Rattle.record_writer.specs.Writers.{place_of}
+use Rattle.record_writer.specs.Channels.{WasEndedAt, WasStoppedAt}
+use Rattle.record_writer.proofs.Lending.{said_there, own_was, own_now, laid_was, own_else, held_elsewhere, parts_many, parts_fit, own_lent, cell_there}
 use Rattle.record_writer.proofs.channels.Channels.close.Goals as goal
 
 pub returns-clause-channels : goal.returns-clause-channels
@@ -34,14 +34,16 @@ pub returns-clause-finished : goal.returns-clause-finished
 returns-clause-finished g c =
     let old = c.args.self.now in
     let many : c.args.number < length old.parts.items = omega (arith, c.requires.channels.parts_are, c.requires.within) in
-    let was = laid_was old.passes.items c.as_mut_slice.result.now old.parts.items c.as_mut_slice-2.result.now c.args.number c.index-as_mut_slice-number.result c.index-as_mut_slice-number-2.result c.as_mut_slice.ensures.value c.as_mut_slice-2.ensures.value c.requires.within many c.index-as_mut_slice-number.is c.index-as_mut_slice-number-2.is in
+    let was = own_was old.passes.items c.as_mut_slice.result.now old.parts.items c.as_mut_slice-2.result.now c.args.number c.index-as_mut_slice-number.result c.index-as_mut_slice-number-2.result c.as_mut_slice.ensures.value c.as_mut_slice-2.ensures.value c.requires.within many c.index-as_mut_slice-number.is c.index-as_mut_slice-number-2.is in
     let now = own_now old.passes.items c.as_mut_slice.result.now old.parts.items c.as_mut_slice-2.result.now c.args.number c.index-as_mut_slice-number.result c.index-as_mut_slice-number-2.result c.as_mut_slice.ensures.value c.as_mut_slice-2.ensures.value c.requires.within many c.index-as_mut_slice-number.is c.index-as_mut_slice-number-2.is c.close.new.pass c.close.new.part in
-    on_ok_weaker c.close.result (λ h. subst (λ es. PutAll c.args.supply.now.size es (laid_of old c.args.number)) (sym now) (subst (PutAll c.args.supply.now.size (mine c.close.new.pass)) (sym was) h)) c.close.ensures.finished
+    let laid = laid_was old.passes.items c.as_mut_slice.result.now old.parts.items c.as_mut_slice-2.result.now c.args.number c.index-as_mut_slice-number.result c.index-as_mut_slice-number-2.result c.as_mut_slice.ensures.value c.as_mut_slice-2.ensures.value c.requires.within many c.index-as_mut_slice-number.is c.index-as_mut_slice-number-2.is in
+    on_ok_weaker c.close.result (λ h. said_there (WasEndedAt c.args.supply.now.size) _ _ _ _ _ _ was now laid h) c.close.ensures.finished
 
 pub returns-clause-stopped : goal.returns-clause-stopped
 returns-clause-stopped g c =
     let old = c.args.self.now in
     let many : c.args.number < length old.parts.items = omega (arith, c.requires.channels.parts_are, c.requires.within) in
-    let was = laid_was old.passes.items c.as_mut_slice.result.now old.parts.items c.as_mut_slice-2.result.now c.args.number c.index-as_mut_slice-number.result c.index-as_mut_slice-number-2.result c.as_mut_slice.ensures.value c.as_mut_slice-2.ensures.value c.requires.within many c.index-as_mut_slice-number.is c.index-as_mut_slice-number-2.is in
+    let was = own_was old.passes.items c.as_mut_slice.result.now old.parts.items c.as_mut_slice-2.result.now c.args.number c.index-as_mut_slice-number.result c.index-as_mut_slice-number-2.result c.as_mut_slice.ensures.value c.as_mut_slice-2.ensures.value c.requires.within many c.index-as_mut_slice-number.is c.index-as_mut_slice-number-2.is in
     let now = own_now old.passes.items c.as_mut_slice.result.now old.parts.items c.as_mut_slice-2.result.now c.args.number c.index-as_mut_slice-number.result c.index-as_mut_slice-number-2.result c.as_mut_slice.ensures.value c.as_mut_slice-2.ensures.value c.requires.within many c.index-as_mut_slice-number.is c.index-as_mut_slice-number-2.is c.close.new.pass c.close.new.part in
-    on_err_weaker c.close.result (λ h. (subst (λ es. PutSome c.args.supply.now.size es (laid_of old c.args.number)) (sym now) (subst (PutSome c.args.supply.now.size (mine c.close.new.pass)) (sym was) h.0), h.1)) c.close.ensures.stopped
+    let laid = laid_was old.passes.items c.as_mut_slice.result.now old.parts.items c.as_mut_slice-2.result.now c.args.number c.index-as_mut_slice-number.result c.index-as_mut_slice-number-2.result c.as_mut_slice.ensures.value c.as_mut_slice-2.ensures.value c.requires.within many c.index-as_mut_slice-number.is c.index-as_mut_slice-number-2.is in
+    on_err_weaker c.close.result (λ h. (said_there (WasStoppedAt c.args.supply.now.size Finish) _ _ _ _ _ _ was now laid h.0, h.1)) c.close.ensures.stopped

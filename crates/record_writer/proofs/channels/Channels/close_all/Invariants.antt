@@ -1,6 +1,5 @@
 use Rattle.std.proofs.Common.{◌<◌, ◌≤◌, ℕ, length}
-use Rattle.record_writer.specs.Writers.{PutAll}
-use Rattle.record_writer.specs.Channels.{IsSupply, IsSameSupply}
+use Rattle.record_writer.specs.Channels.{WasEndedAt, IsSupply, IsSameSupply}
 use Rattle.record_writer.specs.Lists.{AreChannels, AreSame, IsSameAt, own_of, laid_of}
 use Rattle.record_writer.proofs.channels.Channels.close_all.Given as goal
 
@@ -10,6 +9,6 @@ invariant-loop-number g l = let was = l.initial.self in let size = l.initial.sup
   same : IsSameSupply l.initial.supply l.supply;
   channels : AreChannels size (length was.passes.items) l.self;
   same_cells : AreSame was l.self;
-  closed : (c : ℕ) → c < l.number → PutAll size (own_of l.self c) (laid_of was c);
+  closed : (c : ℕ) → c < l.number → WasEndedAt size (own_of was c) (own_of l.self c) (laid_of was c);
   others : (c : ℕ) → l.number ≤ c → IsSameAt c was l.self;
 }

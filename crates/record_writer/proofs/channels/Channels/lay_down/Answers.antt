@@ -1,9 +1,11 @@
 use Rattle.std.proofs.Common.{◌<◌, ◌++◌, sym, refl, ap, subst, ◌∙◌, arith, length, get_or}
 use Rattle.std.proofs.lemmas.Result.{on_ok_weaker, on_err_weaker}
 use Rattle.flow_defs.specs.Records.{encoded}
+use Rattle.turn_cell.specs.Passes.{mine}
+use Rattle.record_writer.specs.Lists.{own_of}
 use Rattle.record_writer.specs.Channels.{IsOpenAt}
-use Rattle.record_writer.specs.Writers.{place_of}
-use Rattle.record_writer.proofs.Lending.{some_there, own_now, laid_was, laid_now, own_else, held_elsewhere, parts_many, parts_fit, own_lent, cell_there}
+use Rattle.record_writer.specs.Writers.{place_of, GrewByData}
+use Rattle.record_writer.proofs.Lending.{some_there, own_was, own_now, laid_was, laid_now, own_else, held_elsewhere, parts_many, parts_fit, own_lent, cell_there}
 use Rattle.record_writer.proofs.channels.Channels.lay_down.Goals as goal
 
 pub returns-clause-channels : goal.returns-clause-channels
@@ -51,3 +53,11 @@ returns-clause-stopped g c =
     let was = laid_was old.passes.items c.as_mut_slice.result.now old.parts.items c.as_mut_slice-2.result.now c.args.number c.index-as_mut_slice-number.result c.index-as_mut_slice-number-2.result c.as_mut_slice.ensures.value c.as_mut_slice-2.ensures.value c.requires.within many c.index-as_mut_slice-number.is c.index-as_mut_slice-number-2.is in
     let now = laid_now old.passes.items c.as_mut_slice.result.now old.parts.items c.as_mut_slice-2.result.now c.args.number c.index-as_mut_slice-number.result c.index-as_mut_slice-number-2.result c.as_mut_slice.ensures.value c.as_mut_slice-2.ensures.value c.requires.within many c.index-as_mut_slice-number.is c.index-as_mut_slice-number-2.is c.lay_down.new.pass c.lay_down.new.part in
     on_err_weaker c.lay_down.result (λ h. (some_there (ap (λ l. l ++ encoded c.args.line.now) was) now h.0, h.1)) c.lay_down.ensures.stopped
+
+pub returns-clause-entries : goal.returns-clause-entries
+returns-clause-entries g c =
+    let old = c.args.self.now in
+    let many : c.args.number < length old.parts.items = omega (arith, c.requires.channels.parts_are, c.requires.within) in
+    let was = own_was old.passes.items c.as_mut_slice.result.now old.parts.items c.as_mut_slice-2.result.now c.args.number c.index-as_mut_slice-number.result c.index-as_mut_slice-number-2.result c.as_mut_slice.ensures.value c.as_mut_slice-2.ensures.value c.requires.within many c.index-as_mut_slice-number.is c.index-as_mut_slice-number-2.is in
+    let now = own_now old.passes.items c.as_mut_slice.result.now old.parts.items c.as_mut_slice-2.result.now c.args.number c.index-as_mut_slice-number.result c.index-as_mut_slice-number-2.result c.as_mut_slice.ensures.value c.as_mut_slice-2.ensures.value c.requires.within many c.index-as_mut_slice-number.is c.index-as_mut_slice-number-2.is c.lay_down.new.pass c.lay_down.new.part in
+    subst (λ es. GrewByData (own_of old c.args.number) es) (sym now) (subst (λ es. GrewByData es (mine c.lay_down.new.pass)) (sym was) c.lay_down.ensures.entries)

@@ -9,9 +9,9 @@ use Rattle.snapshot_channel.proofs.Words.{is_collector, all_received}
 use Rattle.snapshot_channel.proofs.opened.SnapshotChannel.close.Goals as goal
 
 pub learn_as-requires-clause-rule : goal.learn_as-requires-clause-rule
-learn_as-requires-clause-rule c = learns_any _ _ (is_collector _ _ c.gather_all.ensures.collecting.collector_is)
+learn_as-requires-clause-rule c = learns_any _ _ (is_collector _ _ c.take_all_back.ensures.collecting.collector_is)
 
 pub returns : goal.returns
 returns c =
-    subst (λ (l : List Snapshot). All (IsReceivedOf (opening_of c.args.self) l) c.args.passes.items) c.gather_all.ensures.received
-    (All-from_recursion _ _ (all_received (opening_of c.args.self) (view c.gather_all.new.collecting.pass) c.learn_as.ensures.rule.0 c.args.passes.items _ c.gather_all.ensures.collecting.collector_is c.gather_all.ensures.back c.learn_as.ensures.rule.1))
+    subst (λ (l : List Snapshot). All (IsReceivedOf (opening_of c.args.self) l) c.args.passes.items) c.take_all_back.ensures.received
+    (All-from_recursion _ _ (all_received (opening_of c.args.self) (view c.take_all_back.new.collecting.pass) c.learn_as.ensures.rule.0 c.args.passes.items _ c.take_all_back.ensures.collecting.collector_is c.take_all_back.ensures.back c.learn_as.ensures.rule.1))

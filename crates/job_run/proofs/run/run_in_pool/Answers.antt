@@ -1,0 +1,20 @@
+use Rattle.std.specs.Prelude.{All}
+use Rattle.outside.specs.Links.{NeverFails}
+use Rattle.job_run.specs.Wires.{IsLinkGround, IsPeerGround}
+use Rattle.job_run.proofs.RunLaws.{link_before, peer_before, run_with}
+use Rattle.job_run.proofs.run.run_in_pool.Goals as goal
+
+pub returns-in-Ok-open_wires-clause-run : goal.returns-in-Ok-open_wires-clause-run
+returns-in-Ok-open_wires-clause-run g c =
+    let sure = All (NeverFails g.N.Out.LinkOut.never_fails g.N.In.LinkIn.never_fails) c.in-Ok-open_wires.wires.items in
+    let never = g.N.Links.never_fails c.args.net.now in
+    let first = g.N.Links.faults c.args.net.now in
+    let opened = g.N.Links.faults c.open_wires.new.net in
+    let last = g.N.Links.faults c.run_over_wires.new.net in
+    run_with g.S.Source.left g.S.Source.faults g.N.Out.LinkOut.sent g.N.In.LinkIn.got c.args.job.now c.args.inputs.now.items c.run_over_wires.new.inputs.items
+    (IsLinkGround sure opened last) (IsLinkGround never first last)
+    (IsPeerGround g.N.Out.LinkOut.sent g.N.In.LinkIn.got g.N.In.LinkIn.ended c.args.job.now (g.N.Links.wires c.open_wires.new.net) (g.N.Links.wires c.run_over_wires.new.net))
+    (IsPeerGround g.N.Out.LinkOut.sent g.N.In.LinkIn.got g.N.In.LinkIn.ended c.args.job.now (g.N.Links.wires c.args.net.now) (g.N.Links.wires c.run_over_wires.new.net))
+    (link_before sure never first opened last c.in-Ok-open_wires.ensures.sure c.in-Ok-open_wires.ensures.never_falls)
+    (peer_before g.N.Out.LinkOut.sent g.N.In.LinkIn.got g.N.In.LinkIn.ended c.args.job.now (g.N.Links.wires c.args.net.now) (g.N.Links.wires c.open_wires.new.net) (g.N.Links.wires c.run_over_wires.new.net) c.in-Ok-open_wires.ensures.same)
+    c.run_over_wires.result c.run_over_wires.ensures.run

@@ -1,5 +1,5 @@
 -- What is written piece by piece.
-use Rattle.std.proofs.Common.{◌≡◌, ◌↔◌, Result, Err, ℕ, suc, ◌+◌, ◌<◌, ◌≤◌, ◌^◌, true, false, List, [], ◌∷◌, ◌++◌, length, drop, refl, sym, ap, subst, ◌∙◌, append_assoc, arith}
+use Rattle.std.proofs.Common.{◌≡◌, ◌↔◌, Result, Ok, Err, ℕ, suc, ◌+◌, ◌<◌, ◌≤◌, ◌^◌, true, false, List, [], ◌∷◌, ◌++◌, length, drop, refl, sym, ap, subst, ◌∙◌, append_assoc, arith}
 use Rattle.std.specs.Prelude.{flat_map, All}
 use Rattle.std.specs.List.{zip, list_all, AllByRecursion}
 use Rattle.std.specs.FinMap.{entries}
@@ -17,7 +17,7 @@ use Rattle.flow_defs.specs.Rows.{row_pair, row_pairs}
 use Rattle.flow_defs.specs.declared.table.Row.{Row}
 use Rattle.plain_machine.specs.Images.{HasShortKeys}
 use Rattle.channel_state.specs.declared.fault.WriteFault.{WriteFault}
-use Rattle.channel_state.specs.declared.fault.WriteFault.TheVariants.{TooBig}
+use Rattle.channel_state.specs.declared.fault.WriteFault.TheVariants.{Memory, TooBig}
 use Rattle.channel_state.specs.Contents.{is_count, has_counts}
 
 pub two_parts : (old middle new a b : List ℕ) → middle ≡ old ++ a → new ≡ middle ++ b → new ≡ old ++ (a ++ b)
@@ -86,6 +86,12 @@ too_big image r is has = (λ _. cannot image has, λ _. is)
 
 pub not_big : (image : Image) (r : Result (Items ℕ) WriteFault) → (r ≡ Err TooBig → ⊥) → CanSpell image → (r ≡ Err TooBig) ↔ (CanSpell image → ⊥)
 not_big image r other can = (λ is. absurd (other is), λ none. absurd (none can))
+
+pub spelled : (image : Image) (bytes : Items ℕ) → CanSpell image → (◌≡◌ {A = Result (Items ℕ) WriteFault} (Ok bytes) (Err TooBig)) ↔ (CanSpell image → ⊥)
+spelled image bytes can = not_big image (Ok bytes) (λ is. grind (arith, is)) can
+
+pub no_memory : (image : Image) → CanSpell image → (◌≡◌ {A = Result (Items ℕ) WriteFault} (Err Memory) (Err TooBig)) ↔ (CanSpell image → ⊥)
+no_memory image can = not_big image (Err Memory) (λ is. grind (arith, is)) can
 
 -- ---- keys are short
 

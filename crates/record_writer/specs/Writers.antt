@@ -2,7 +2,7 @@
 -- selects, laid end to end with the others of that channel in buffers of its result partition; an aligned barrier travels in line with
 -- them. That one buffer of each channel is filled at a time, and goes when it is full, before a barrier or at the end, is this project's
 -- own choice.
-use Rattle.std.specs.Prelude.{◌≡◌, ℕ, suc, ◌+◌, ◌*◌, ◌<◌, ◌≤◌, ◌⊎◌, ⊤, true, false, List, [], ◌∷◌, ◌++◌, length, map, take, slice_get, Option, Some, None, IfSome}
+use Rattle.std.specs.Prelude.{◌≡◌, ◌≢◌, ℕ, suc, ◌+◌, ◌*◌, ◌<◌, ◌≤◌, ◌⊎◌, ⊤, true, false, List, [], ◌∷◌, ◌++◌, length, map, take, slice_get, Option, Some, None, IfSome}
 use Rattle.std.specs.Option.{option_map_or}
 use Rattle.turn_cell.specs.declared.cell.TurnCell.{TurnCell}
 use Rattle.turn_cell.specs.declared.pass.Pass.{Pass}
@@ -164,6 +164,17 @@ pub record IsSame (w w' : Writer) : Type 0 where
   pub pool : w'.pool ≡ w.pool
   pub stop : w'.stop ≡ w.stop
   pub stop_pass : IsSamePass w.stop_pass w'.stop_pass
+
+-- Besides, it has put, laid down and emitted nothing more.
+pub record IsStill (w w' : Writer) : Type 0 where
+  pub same : IsSame w w'
+  pub passes : w'.passes ≡ w.passes
+  pub filling : w'.filling ≡ w.filling
+  pub emitted : w'.emitted ≡ w.emitted
+
+-- Its pass of the stop cell has seen a fault.
+abbrev pub HasSeenFault : Writer → Type 0
+HasSeenFault w = seen w.stop_pass ≢ []
 
 -- What is being filled.
 abbrev pub bytes_in : Part → List ℕ

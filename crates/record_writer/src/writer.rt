@@ -4,7 +4,7 @@ ghost use Rattle.turn_cell.specs.Passes.{IsPassOf};
 ghost use Rattle.flow_defs.specs.Records.{IsShort};
 ghost use Rattle.record_writer.specs.Partitions.{IsPartitionOf, IsWriterOf};
 ghost use Rattle.subpartition.specs.declared.entry.SendEntry.TheVariants.{PutInline, Finish};
-ghost use Rattle.record_writer.specs.Writers.{IsSame, IsOpen, IsNew, IsNextBarrier, HasEmitted, WasStopped, HasFinished, HasMarked, HasPutData, HasPutTowards, AreOwnAt, ways_on};
+ghost use Rattle.record_writer.specs.Writers.{IsSame, IsStill, IsOpen, IsNew, HasSeenFault, IsNextBarrier, HasEmitted, WasStopped, HasFinished, HasMarked, HasPutData, HasPutTowards, AreOwnAt, ways_on};
 
 use crate::channels::Channels;
 use crate::part::new_parts;
@@ -13,7 +13,7 @@ use crate::router::Router;
 use crate::supply::Supply;
 use flow_defs::Job;
 use local_pool::HeldPool;
-use outside::StopState;
+use outside::{StopState, look_for_stop};
 use std::alloc::Global;
 use std::marker::Model;
 use std::sync::Wait;
@@ -148,6 +148,17 @@ impl<'a, 'p> RecordWriter<'a, 'p> {
         ensures entries { OnErr result (HasPutTowards Finish self.old self.new) }
     {
         self.channels.close_all(rt, &mut self.supply)
+    }
+
+    /// Looks whether another worker has met a fault, as a caller does that waits for something else.
+    pub fn look_for_stop<R: Wait>(&mut self, rt: &R) -> Result<(), WriterStopped>
+        ensures still { IsStill self.old self.new }
+        ensures stopped { OnErr result (HasSeenFault self.new) }
+    {
+        match look_for_stop(rt, self.supply.stop, &mut self.supply.stop_pass) {
+            Some(_) => Err(WriterStopped),
+            None => Ok(()),
+        }
     }
 
     /// How many records were emitted, modulo 2^64.

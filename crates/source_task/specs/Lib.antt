@@ -1,0 +1,4 @@
+pub mod Emitting
+pub mod Cutting
+pub mod Sources
+pub mod Accounts

@@ -1,0 +1,110 @@
+-- What a source did. As in Flink it emits its lines, and its snapshots say how far it was. That it tells so whatever its cause is this
+-- project's own choice.
+use Rattle.std.specs.Prelude.{◌≡◌, ◌≢◌, ℕ, ◌<◌, ◌≤◌, ◌⊎◌, ⊤, true, List, [], ◌++◌, length, Option, IfSome}
+use Rattle.std.specs.List.{AllByRecursion}
+use Rattle.turn_cell.specs.History.{StartsWith}
+use Rattle.turn_cell.specs.Passes.{IsPassOf, number, seen, mine}
+use Rattle.flow_defs.specs.declared.cause.Cause.{Cause}
+use Rattle.flow_defs.specs.declared.cause.Cause.TheVariants as causes
+use Rattle.flow_defs.specs.declared.job.Job.{Job}
+use Rattle.flow_defs.specs.declared.image.Snapshot.{Snapshot}
+use Rattle.flow_defs.specs.Lines.{lines}
+use Rattle.flow_defs.specs.Records.{IsShort}
+use Rattle.plain_machine.specs.Emitting.{receiver_on}
+use Rattle.checkpoint_laws.specs.Chapters.{task_at}
+use Rattle.outside.specs.Faults.{HasRisen}
+use Rattle.outside.specs.Stops.{told_of}
+use Rattle.job_plan.specs.Limits.{HasLongLine}
+use Rattle.job_plan.specs.declared.limits.TheConstants.{SOURCE_MAX}
+use Rattle.conn_parts.specs.Shares.{mine_at}
+use Rattle.conn_parts.specs.Stopping.{StopCell, StopPass}
+use Rattle.record_writer.specs.Partitions.{IsPartitionOf}
+use Rattle.record_writer.specs.Writers.{SendPass, AreOwnAt, HasSeenFault, ways_on}
+use Rattle.snapshot_channel.specs.Passes as channels
+use Rattle.snapshot_channel.specs.Passes.{sent_by}
+use Rattle.task_output.specs.Outputs.{BegunOn, FinishedOn, all_of, end_of}
+use Rattle.source_task.specs.declared.output.LineFault.{LineFault}
+use Rattle.source_task.specs.declared.output.SourceOutput.{SourceOutput}
+use Rattle.source_task.specs.declared.source.SourceTaskEnd.{SourceTaskEnd}
+use Rattle.source_task.specs.declared.source.SourceWorld.{SourceWorld}
+use Rattle.source_task.specs.Emitting.{AreSnapshots, HasBroken, HasEnded, has_ended}
+use Rattle.source_task.specs.Cutting.{BrokeOff, cause_of_line}
+
+-- A source ends so only where its own input failed, or is over a limit.
+abbrev pub IsSourceCause : ℕ → Option (List ℕ) → ℕ → ℕ → Cause → Type 0
+IsSourceCause a left fell rose causes.Done = ⊤
+IsSourceCause a left fell rose causes.Stopped = ⊤
+IsSourceCause a left fell rose (causes.Input source) = (source ≡ a) × HasRisen fell rose
+IsSourceCause a left fell rose causes.Link = ⊥
+IsSourceCause a left fell rose (causes.LongLine source) = (source ≡ a) × IfSome left (λ bytes. HasLongLine (lines bytes))
+IsSourceCause a left fell rose (causes.BigSource source) = (source ≡ a) × IfSome left (λ bytes. SOURCE_MAX < length bytes)
+IsSourceCause a left fell rose (causes.OverCredit channel received announced) = ⊥
+IsSourceCause a left fell rose (causes.Peer fault) = ⊥
+IsSourceCause a left fell rose causes.Memory = ⊤
+
+-- What source a did by its passes: it emitted lines of its input from the first on, where that is told, with a barrier and a snapshot
+-- behind each group of them. Behind a snapshot that it sent at its end no line follows, and none is left. It was done only where it has
+-- sent such a one, and then ended its channels.
+pub record SourceAccount (job : Job) (a size : ℕ) (every : Option ℕ) (passes : List SendPass) (sent : List Snapshot) (left : Option (List ℕ)) (fell rose : ℕ) (cause : Cause) : Type 0 where
+  pub groups : List (List (List ℕ))
+  pub rest : List (List ℕ)
+  pub begun : List (List ℕ)
+  pub snapshots : AreSnapshots a every 0 0 0 groups sent
+  pub put : (c : ℕ) → c < ways_on job 0 → BegunOn (receiver_on job 0 a) groups (end_of job 0 a c) size (rest ++ begun) (mine_at c passes)
+  pub short : AllByRecursion IsShort (all_of groups ++ (rest ++ begun))
+  pub front : IfSome left (λ bytes. StartsWith (lines bytes) (all_of groups ++ (rest ++ begun)))
+  pub at_end : has_ended sent ≡ true → IfSome left (λ bytes. lines bytes ≡ all_of groups) × (rest ++ begun ≡ [])
+  pub done : cause ≡ causes.Done → (has_ended sent ≡ true) × ((c : ℕ) → c < ways_on job 0 → FinishedOn (receiver_on job 0 a) groups (end_of job 0 a c) size [] (mine_at c passes))
+  pub within : cause ≡ causes.Done → IfSome left (λ bytes. length bytes ≤ SOURCE_MAX)
+  pub never_falls : fell ≤ rose
+  pub cause_is : IsSourceCause a left fell rose cause
+
+-- It has its account, and was stopped only where its writer's pass had seen a fault.
+pub record SourceEnd (job : Job) (size : ℕ) (out : SourceOutput) (left : Option (List ℕ)) (fell rose : ℕ) (cause : Cause) : Type 0 where
+  pub account : SourceAccount job out.index size out.every out.output.writer.passes (sent_by out.pass) left fell rose cause
+  pub stopped : cause ≡ causes.Stopped → HasSeenFault out.output.writer
+
+-- A source that had read its input to the end, with this line begun, emitted that too and ended behind its last checkpoint; or it broke
+-- off on the way there.
+abbrev pub EndedAs : Job → ℕ → SourceOutput → List (List ℕ) → List ℕ → ℕ → Cause → Type 0
+EndedAs job size out ended line source cause =
+    (AllByRecursion IsShort (ended ++ lines (line ++ [])) × (((cause ≡ causes.Done) × HasEnded job size out (ended ++ lines (line ++ [])))
+    ⊎ ((cause ≢ causes.Done) × (cause ≡ causes.Stopped → HasSeenFault out.output.writer) × ((cause ≡ causes.Memory) ⊎ (cause ≡ causes.Stopped)) × HasBroken job size out (ended ++ lines (line ++ [])) [])))
+    ⊎ ((fault : LineFault) × (cause ≡ cause_of_line source fault) × BrokeOff job size out ended (line ++ []) fault)
+
+-- ---- what it is lent, and how it ends
+
+-- Source a is lent its partition and fresh passes: of the channel of snapshots, which is opened from the start on for this interval, of
+-- the cell of the last image, and of the stop cell. An interval has at least one line.
+pub record IsLent (a : ℕ) (every : Option ℕ) (world : SourceWorld) : Type 0 where
+  pub partition : IsPartitionOf world.job.now 0 a world.partition
+  pub interval : IfSome every (λ n. 1 ≤ n)
+  pub pass : channels.IsFresh world.snapshots.now world.snapshot_pass
+  pub task : channels.task_of world.snapshot_pass ≡ task_at 0 a
+  pub base : (channels.opening_of world.snapshots.now).base ≡ 0
+  pub every_is : (channels.opening_of world.snapshots.now).every ≡ every
+  pub last_pass : IsPassOf world.last_image.now world.last_pass
+  pub stop : IsPassOf world.stop.now world.stop_pass × (mine world.stop_pass ≡ [])
+
+-- It ends with its cause, or was stopped where it was done.
+abbrev pub EndsAs : Cause → Cause → Type 0
+EndsAs cause told = (told ≡ cause) ⊎ ((cause ≡ causes.Done) × (told ≡ causes.Stopped))
+
+-- A fault was told to the stop cell, and nothing else. It was done only where its pass had seen none.
+pub record ToldAtEnd (cell : StopCell) (cause told_cause : Cause) (before after : StopPass) : Type 0 where
+  pub pass : IsPassOf cell after
+  pub number_is : number after ≡ number before
+  pub told : mine after ≡ mine before ++ told_of told_cause
+  pub stopped : told_cause ≡ causes.Stopped → (cause ≡ causes.Stopped) ⊎ (seen after ≢ [])
+  pub done : told_cause ≡ causes.Done → seen after ≡ []
+  pub later : StartsWith (seen after) (seen before)
+
+-- The end hands back the passes of what the source emitted by.
+pub record IsEndOf (cell : StopCell) (out : SourceOutput) (cause : Cause) (end : SourceTaskEnd) : Type 0 where
+  pub own : AreOwnAt out.output.writer.cells out.output.writer.first out.output.writer.stride (ways_on out.output.writer.job out.output.writer.edge) end.partition.subpartitions.items
+  pub passes_are : end.partition.subpartitions.items ≡ out.output.writer.passes
+  pub pool : IsPassOf out.output.writer.pool end.partition.pool
+  pub snapshots : end.snapshot_pass ≡ out.pass
+  pub last_image : end.last_pass ≡ out.last_pass
+  pub ends : EndsAs cause end.cause
+  pub told : ToldAtEnd cell cause end.cause out.output.writer.stop_pass end.stop_pass

@@ -1,0 +1,228 @@
+// What a source emits by, and where it stands.
+ghost use Rattle.std.specs.Prelude.{◌≡◌, ◌++◌, [], ◌∷◌, ◌<◌, ℕ, List, Bool, true, false, OnOk, OnErr, IfOk, IfErr, MatchResult};
+ghost use Rattle.flow_defs.specs.declared.job.Job.{Job};
+ghost use Rattle.flow_defs.specs.Records.{IsShort};
+ghost use Rattle.record_writer.specs.Writers.{HasSeenFault};
+ghost use Rattle.snapshot_channel.specs.Passes.{sent_by};
+ghost use Rattle.source_task.specs.Emitting.{IsInterval, IsSnapshotAt, IsSource, IsReading, HasOwnPasses, IsSameSource, HasEmitted, HasBroken, HasEnded, LineEmitted, CheckpointTaken, BreaksFor, has_ended};
+
+use flow_defs::{ListOf, Snapshot, Table, TaskId};
+use outside::{LastImage, Pause, look_for_stored};
+use plain_machine::laws::emits_in_parts;
+use record_writer::WriterStopped;
+use snapshot_channel::{SnapshotChannel, TaskPass};
+use std::alloc::Global;
+use std::sync::Wait;
+use task_output::laws::what_was_sent_was_begun;
+use task_output::{TaskOutput, send_snapshot};
+use turn_cell::{Pass, TurnCell};
+
+/// Why a source emits no further.
+#[derive(Clone, Copy, Debug, PartialEq, Eq)]
+pub enum LineFault {
+    /// A line is longer than a record may be.
+    TooLong,
+    Memory,
+    /// The source was stopped.
+    Stopped,
+}
+
+/// What a source emits by, and where it stands.
+#[derive(Drop)]
+pub struct SourceOutput<'a, 'p> {
+    pub output: TaskOutput<'a, 'p>,
+    pub snapshots: &'a SnapshotChannel,
+    pub pass: TaskPass,
+    pub last_image: &'a TurnCell<LastImage>,
+    pub last_pass: Pass<LastImage>,
+    /// The index of the source.
+    pub index: u32,
+    /// How many lines it reads between two barriers, from 1. None: it reads to its end.
+    pub every: Option<u64>,
+    /// How many barriers it has put.
+    pub barriers: u64,
+    /// How many lines it has emitted.
+    pub offset: u64,
+    /// How many of them behind its last barrier.
+    pub since: u64,
+}
+
+impl<'a, 'p> SourceOutput<'a, 'p> {
+    /// Emits a line, and then takes a checkpoint if one is due.
+    pub fn emit_line<R: Wait>(
+        &mut self,
+        rt: &R,
+        alloc: Global,
+        line: &[u8],
+    ) -> Result<(), LineFault>
+        requires reading { IsReading self.old }
+        requires short { IsShort line.now }
+        ensures same { IsSameSource self.old self.new }
+        ensures own { HasOwnPasses self.new }
+        ensures reading { OnOk result (IsReading self.new) }
+        ensures fault { IfErr result (λ fault. BreaksFor fault self.new) }
+        ensures emitted { (job : Job) (size : ℕ) (lines : List (List ℕ)) → HasEmitted job size self.old lines →
+            LineEmitted job size self.new lines line.now result }
+    {
+        what_was_sent_was_begun();
+        let (Some(offset), Some(since)) = (self.offset.checked_add(1), self.since.checked_add(1))
+        else {
+            return Err(LineFault::Memory);
+        };
+        match self.output.emit(rt, line) {
+            Ok(()) => {}
+            Err(_) => return Err(LineFault::Stopped),
+        }
+        self.offset = offset;
+        self.since = since;
+        let Some(interval) = self.every else {
+            return Ok(());
+        };
+        if since < interval {
+            return Ok(());
+        }
+        match self.take_checkpoint(rt, alloc, false) {
+            Ok(_) => Ok(()),
+            Err(fault) => Err(fault),
+        }
+    }
+
+    /// Takes a checkpoint behind the lines that were emitted: puts a barrier and sends a snapshot. It waits
+    /// until the image of the checkpoint before is stored. Whether all sources are ended in that one, so
+    /// that this checkpoint is the last, is the answer.
+    pub fn take_checkpoint<R: Wait>(
+        &mut self,
+        rt: &R,
+        alloc: Global,
+        ended: bool,
+    ) -> Result<bool, LineFault>
+        requires source { IsSource self.old }
+        requires interval { IsInterval self.old.every self.old.since ended }
+        requires at_end { has_ended (sent_by self.old.pass) ≡ true → ended ≡ true }
+        ensures same { IsSameSource self.old self.new }
+        ensures own { HasOwnPasses self.new }
+        ensures source { OnOk result (IsSource self.new) }
+        ensures since { OnOk result (self.new.since ≡ 0) }
+        ensures kept { OnErr result (sent_by self.new.pass ≡ sent_by self.old.pass) }
+        ensures ended { OnOk result ((ended ≡ true → has_ended (sent_by self.new.pass) ≡ true) × (ended ≡ false → has_ended (sent_by self.new.pass) ≡ has_ended (sent_by self.old.pass))) }
+        ensures fault { IfErr result (λ fault. BreaksFor fault self.new) }
+        ensures taken { (job : Job) (size : ℕ) (lines : List (List ℕ)) → HasEmitted job size self.old lines →
+            CheckpointTaken job size self.new lines result }
+    {
+        what_was_sent_was_begun();
+        emits_in_parts();
+        let Some(k) = self.barriers.checked_add(1) else {
+            return Err(LineFault::Memory);
+        };
+        let last = match self.wait_for_image(rt) {
+            Ok(last) => last,
+            Err(_) => return Err(LineFault::Stopped),
+        };
+        match self.output.mark(rt, k) {
+            Ok(()) => {}
+            Err(_) => return Err(LineFault::Stopped),
+        }
+        let snapshot = self.snapshot(alloc, k, ended);
+        match send_snapshot(
+            rt,
+            self.snapshots,
+            &mut self.pass,
+            &mut self.output,
+            snapshot,
+        ) {
+            Ok(()) => {}
+            Err(_) => return Err(LineFault::Stopped),
+        }
+        self.barriers = k;
+        self.since = 0;
+        Ok(last)
+    }
+
+    /// Takes checkpoints behind the last line until the last of the job, and then ends the channels.
+    pub fn end<R: Wait>(&mut self, rt: &R, alloc: Global) -> Result<(), LineFault>
+        requires { IsReading self.old }
+        ensures same { IsSameSource self.old self.new }
+        ensures own { HasOwnPasses self.new }
+        ensures fault { IfErr result (λ fault. BreaksFor fault self.new) }
+        ensures ended { (job : Job) (size : ℕ) (lines : List (List ℕ)) → HasEmitted job size self.old lines →
+            MatchResult result (λ _. HasEnded job size self.new lines) (λ _. HasBroken job size self.new lines []) }
+    {
+        for _checkpoint in rt.forever() {
+            match self.take_checkpoint(rt, alloc, true) {
+                Ok(last) => {
+                    if last || self.every.is_none() {
+                        return self.finish(rt);
+                    }
+                }
+                Err(fault) => return Err(fault),
+            }
+        }
+        unreachable!()
+    }
+
+    // Ends the channels of a source at its end, behind its last barrier.
+    fn finish<R: Wait>(&mut self, rt: &R) -> Result<(), LineFault>
+        requires source { IsSource self.old }
+        requires at_end { has_ended (sent_by self.old.pass) ≡ true }
+        ensures same { IsSameSource self.old self.new }
+        ensures own { HasOwnPasses self.new }
+        ensures fault { IfErr result (λ fault. BreaksFor fault self.new) }
+        ensures ended { (job : Job) (size : ℕ) (lines : List (List ℕ)) → HasEmitted job size self.old lines →
+            MatchResult result (λ _. HasEnded job size self.new lines) (λ _. HasBroken job size self.new lines []) }
+    {
+        match self.output.finish(rt) {
+            Ok(()) => {}
+            Err(_) => return Err(LineFault::Stopped),
+        }
+        Ok(())
+    }
+
+    // The snapshot for checkpoint k, behind the lines that were emitted. It takes no memory.
+    fn snapshot(&self, alloc: Global, k: u64, ended: bool) -> Snapshot
+        ensures at { IsSnapshotAt self.now.index k self.now.offset self.now.output.emitted result }
+        ensures ended { result.ended ≡ ended }
+    {
+        Snapshot {
+            task: TaskId {
+                stage: 0,
+                index: self.index,
+            },
+            number: k,
+            offset: self.offset,
+            ended,
+            emitted: self.output.emitted(),
+            table: Table::new(alloc),
+            takes: ListOf::new(alloc),
+            saved_in: ListOf::new(alloc),
+            saved_out: ListOf::new(alloc),
+        }
+    }
+
+    // Waits until the image of the last checkpoint is stored, and answers whether all sources are ended in
+    // it. Before the first checkpoint there is none, and none is.
+    fn wait_for_image<R: Wait>(&mut self, rt: &R) -> Result<bool, WriterStopped>
+        requires { IsSource self.old }
+        ensures same { IsSameSource self.old self.new }
+        ensures kept { (self.new.pass ≡ self.old.pass) × (self.new.barriers ≡ self.old.barriers) × (self.new.offset ≡ self.old.offset) × (self.new.since ≡ self.old.since) }
+        ensures source { IsSource self.new }
+        ensures emitted { (job : Job) (size : ℕ) (lines : List (List ℕ)) → HasEmitted job size self.old lines → HasEmitted job size self.new lines }
+        ensures stopped { OnErr result (HasSeenFault self.new.output.writer) }
+    {
+        if self.barriers == 0 {
+            return Ok(false);
+        }
+        let mut pause = Pause::new();
+        for _round in rt.forever() {
+            match look_for_stored(rt, self.last_image, &mut self.last_pass) {
+                Some(stored) if stored.number >= self.barriers => return Ok(stored.all_ended),
+                _ => {}
+            }
+            match self.output.look_for_stop(rt) {
+                Ok(()) => {}
+                Err(stopped) => return Err(stopped),
+            }
+            pause.wait(rt);
+        }
+        unreachable!()
+    }
+}

@@ -1,0 +1,4 @@
+pub mod Entries
+pub mod OnChannel
+pub mod Sending
+pub mod Begun

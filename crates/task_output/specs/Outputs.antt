@@ -1,0 +1,118 @@
+-- What a task sends on its channels: records, and the barriers between them. As in Flink an aligned barrier travels in line behind the
+-- records that were emitted before it. That what a task emitted is told by what it emitted from each barrier to the next is this project's
+-- own choice.
+use Rattle.std.specs.Prelude.{◌≡◌, ◌≢◌, ℕ, suc, ◌<◌, List, [], ◌∷◌, ◌++◌, length, flat_map, map, slice_get}
+use Rattle.std.specs.Option.{option_map_or}
+use Rattle.turn_cell.specs.Passes.{seen}
+use Rattle.flow_defs.specs.Items.{Items}
+use Rattle.flow_defs.specs.declared.job.Job.{Job}
+use Rattle.flow_defs.specs.declared.parcel.Parcel.{Parcel}
+use Rattle.flow_defs.specs.declared.parcel.Parcel.TheVariants.{Data, Barrier, End}
+use Rattle.flow_defs.specs.declared.task.BarrierKind.TheVariants.{Inline}
+use Rattle.flow_defs.specs.Jobs.{exchange}
+use Rattle.flow_defs.specs.Records.{all_encoded}
+use Rattle.plain_machine.specs.Emitting.{receiver_on, emit, count_after}
+use Rattle.checkpoint_laws.specs.Puts.{stretches}
+use Rattle.subpartition.specs.declared.entry.SendEntry.{SendEntry}
+use Rattle.subpartition.specs.declared.entry.SendEntry.TheVariants.{Put, PutInline, Finish, Take, Size}
+use Rattle.record_writer.specs.Writers.{Writer, IsOpen, IsNextBarrier, PutSome, PutAll, ways_on, receiver_at, own_at}
+
+-- ---- what is put on a channel
+
+-- What these entries put, in the order in which it was put.
+abbrev pub parcels_put : List SendEntry → List Parcel
+parcels_put [] = []
+parcels_put (Put bytes ∷ es) = Data bytes ∷ parcels_put es
+parcels_put (PutInline k ∷ es) = Barrier k Inline ∷ parcels_put es
+parcels_put (Finish ∷ es) = End ∷ parcels_put es
+parcels_put (Take ∷ es) = parcels_put es
+parcels_put (Size n ∷ es) = parcels_put es
+
+-- What these groups of records bring to a task, group by group, where the first record is emitted from the count n on.
+abbrev pub brought : (ℕ → List ℕ → ℕ) → ℕ → List (List (List ℕ)) → ℕ → List (List ℕ)
+brought to n [] b = []
+brought to n (group ∷ groups) b = all_encoded (emit to n group b) ∷ brought to (count_after n group) groups b
+
+-- All records of the groups, and the count behind them.
+abbrev pub all_of : List (List (List ℕ)) → List (List ℕ)
+all_of groups = flat_map (λ (group : List (List ℕ)). group) groups
+
+abbrev pub count_behind : List (List (List ℕ)) → ℕ
+count_behind groups = count_after 0 (all_of groups)
+
+-- Where records go: the task that gets each, and how many of them each task gets.
+module _ (to : ℕ → List ℕ → ℕ) (groups : List (List (List ℕ))) (b : ℕ) where
+  -- On the channel to task b the groups were put, each before its barrier, and behind the last barrier these records are laid down.
+  pub record SentOn (records : List (List ℕ)) (own : List SendEntry) (filling : List ℕ) : Type 0 where
+    pub behind : List ℕ
+    pub cut : stretches (parcels_put own) ≡ brought to 0 groups b ++ behind ∷ []
+    pub laid : behind ++ filling ≡ all_encoded (emit to (count_behind groups) records b)
+
+  -- The groups were put, each before its barrier, and of these records some.
+  pub record BegunOn (size : ℕ) (records : List (List ℕ)) (own : List SendEntry) : Type 0 where
+    pub more : List (List ℕ)
+    pub cut : stretches (parcels_put own) ≡ brought to 0 groups b ++ more
+    pub some : PutSome size own (all_encoded (emit to 0 (all_of groups ++ records) b))
+
+  -- The groups were put, each before its barrier, and then all of these records and the end.
+  pub record FinishedOn (size : ℕ) (records : List (List ℕ)) (own : List SendEntry) : Type 0 where
+    pub cut : stretches (parcels_put own) ≡ brought to 0 groups b ++ all_encoded (emit to (count_behind groups) records b) ∷ []
+    pub all : PutAll size own (all_encoded (emit to 0 (all_of groups ++ records) b))
+
+-- ---- what a task sent
+
+-- A task's writer, and how many records the task has emitted by it.
+pub record Output : Type 0 where
+  pub writer : Writer
+  pub emitted : ℕ
+
+-- The writer writes for task a before edge e of the job, in segments of this size.
+pub record WritesFor (job : Job) (e a size : ℕ) (w : Writer) : Type 0 where
+  pub job_is : w.job ≡ job
+  pub edge : w.edge ≡ e
+  pub index : w.index ≡ a
+  pub size_is : w.size ≡ size
+
+-- The bytes of channel c that are in a buffer.
+abbrev pub filling_at : Writer → ℕ → List ℕ
+filling_at w c = option_map_or (λ (bytes : List ℕ). bytes) (slice_get w.filling c) []
+
+-- The task at the end of channel c.
+abbrev pub end_of : Job → ℕ → ℕ → ℕ → ℕ
+end_of job e a c = receiver_at (exchange job e) a c
+
+-- The task has emitted these groups of records, put a barrier behind each, and then emitted these records. It goes on.
+pub record HasSent (job : Job) (e a size : ℕ) (out : Output) (groups : List (List (List ℕ))) (records : List (List ℕ)) : Type 0 where
+  pub writes_for : WritesFor job e a size out.writer
+  pub is_open : IsOpen out.writer
+  pub next : IsNextBarrier out.writer (suc (length groups))
+  pub counted : out.emitted ≡ count_after (count_behind groups) records
+  pub agrees : out.writer.emitted ≡ out.emitted
+  pub each : (c : ℕ) → c < ways_on job e → SentOn (receiver_on job e a) groups (end_of job e a c) records (own_at out.writer c) (filling_at out.writer c)
+
+-- It has emitted these records behind the barriers, and had begun to emit those.
+pub record HasBegun (job : Job) (e a size : ℕ) (out : Output) (groups : List (List (List ℕ))) (records begun : List (List ℕ)) : Type 0 where
+  pub counted : out.emitted ≡ count_after (count_behind groups) records
+  pub each : (c : ℕ) → c < ways_on job e → BegunOn (receiver_on job e a) groups (end_of job e a c) size (records ++ begun) (own_at out.writer c)
+
+-- It was stopped among them.
+pub record HasStopped (job : Job) (e a size : ℕ) (out : Output) (groups : List (List (List ℕ))) (records begun : List (List ℕ)) : Type 0 where
+  pub fault : seen out.writer.stop_pass ≢ []
+  pub begun_them : HasBegun job e a size out groups records begun
+
+-- It has ended its channels.
+pub record HasFinished (job : Job) (e a size : ℕ) (out : Output) (groups : List (List (List ℕ))) (records : List (List ℕ)) : Type 0 where
+  pub counted : out.emitted ≡ count_after (count_behind groups) records
+  pub each : (c : ℕ) → c < ways_on job e → FinishedOn (receiver_on job e a) groups (end_of job e a c) size records (own_at out.writer c)
+
+-- Of these further records it has emitted the first ones, and had begun the one behind them.
+pub record StoppedAmong (job : Job) (e a size : ℕ) (out : Output) (groups : List (List (List ℕ))) (records further : List (List ℕ)) : Type 0 where
+  pub done : List (List ℕ)
+  pub begun : List (List ℕ)
+  pub rest : List (List ℕ)
+  pub parts : further ≡ done ++ (begun ++ rest)
+  pub stopped : HasStopped job e a size out groups (records ++ done) begun
+
+-- The bytes of each of these.
+abbrev pub bytes_of : List (Items ℕ) → List (List ℕ)
+bytes_of lines = map (λ (line : Items ℕ). line.items) lines

@@ -1,0 +1,15 @@
+//! What else is known of what a task sent. Each function does nothing; what it ensures is the law.
+ghost use Rattle.task_output.specs.Laws.{SentIsBegun, FinishedIsBegun, BarrierIsLeftAside};
+
+use checkpoint_laws::laws::stretches_grow;
+use plain_machine::laws::emits_in_parts;
+
+/// What a task sent, told for one that may have been stopped.
+pub fn what_was_sent_was_begun()
+    ensures sent { SentIsBegun }
+    ensures finished { FinishedIsBegun }
+    ensures aside { BarrierIsLeftAside }
+{
+    stretches_grow();
+    emits_in_parts();
+}

@@ -1,0 +1,6 @@
+pub mod Noting
+pub mod Told
+pub mod Senders
+pub mod InStep
+pub mod Groups
+pub mod Samples

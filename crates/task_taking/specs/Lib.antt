@@ -1,0 +1,4 @@
+pub mod Runs
+pub mod Takings
+pub mod Steps
+pub mod Samples

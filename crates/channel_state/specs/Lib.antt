@@ -1,1 +1,5 @@
 pub mod Contents
+pub mod Reading
+pub mod ImageFaults
+pub mod Outcomes
+pub mod Building

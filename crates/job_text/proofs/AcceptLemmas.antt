@@ -31,7 +31,7 @@ no_spaces : (word : List ℕ) → has_no_space word ≡ true → All (λ b. eqb 
 no_spaces [] is = All-nil (λ b. eqb b 32 ≡ false)
 no_spaces (b ∷ word) is = let parts = and_parts _ _ is in All-cons (λ c. eqb c 32 ≡ false) b word (not-true _ parts.0) (no_spaces word parts.1)
 
-visible_no_space : (word : List ℕ) → All (λ b. (33 ≤ b) × (b ≤ 126)) word → has_no_space word ≡ true
+pub visible_no_space : (word : List ℕ) → All (λ b. (33 ≤ b) × (b ≤ 126)) word → has_no_space word ≡ true
 visible_no_space [] is = refl
 visible_no_space (b ∷ word) is =
     let here = All-head (λ c. (33 ≤ c) × (c ≤ 126)) b word is in

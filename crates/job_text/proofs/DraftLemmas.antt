@@ -20,7 +20,7 @@ use Rattle.job_text.proofs.Lists.{fit_push, last_push, widths_of, counts_of, arg
 
 -- ---- one more line
 
-onto : (text : List ℕ) (all front : List (List ℕ)) (left rest : List (List ℕ)) (l : List ℕ) → all ≡ front ++ left → left ≡ text ∷ rest → text ≡ l → all ≡ (front ++ l ∷ []) ++ rest
+pub onto : (text : List ℕ) (all front : List (List ℕ)) (left rest : List (List ℕ)) (l : List ℕ) → all ≡ front ++ left → left ≡ text ∷ rest → text ≡ l → all ≡ (front ++ l ∷ []) ++ rest
 onto text all front left rest l all_are left_are text_is = all_are ∙ ap (λ x. front ++ x) left_are ∙ ap (λ t. front ++ t ∷ rest) text_is ∙ sym (append_assoc front (l ∷ []) rest)
 
 one_stage_more : (sources : List (Items ℕ)) (stages : List Stage) (s : Stage) → head_lines sources (stages ++ s ∷ []) ≡ head_lines sources stages ++ stage_line s ∷ []

@@ -1,21 +1,20 @@
 -- The tasks and edges that a text says are those of its lines.
-use Rattle.std.proofs.Common.{◌≡◌, ℕ, zero, suc, ◌<◌, ◌≤◌, List, [], ◌∷◌, ◌++◌, length, map, get_or, refl, sym, ap, ◌∙◌, subst, Option, Some, None, arith, append_assoc, lit<}
-use Rattle.std.specs.Prelude.{codes, decimal, slice_get}
+use Rattle.std.proofs.Common.{◌≡◌, ℕ, zero, suc, ◌<◌, ◌≤◌, List, [], ◌∷◌, ◌++◌, length, map, get_or, refl, sym, ap, ◌∙◌, subst, Option, Some, arith, append_assoc, lit<}
+use Rattle.std.specs.Prelude.{codes, decimal}
 use Rattle.std.specs.Option.{option_map_or}
 use Rattle.std.specs.List.{AllByRecursion}
 use Rattle.flow_defs.specs.Items.{Items}
 use Rattle.flow_defs.specs.Stages.{IsArgument, pieces}
-use Rattle.flow_defs.specs.Jobs.{last_edge, tasks, exchange}
+use Rattle.flow_defs.specs.Jobs.{last_edge, tasks}
 use Rattle.flow_defs.specs.declared.job.TheConstants.{TASKS_MAX}
 use Rattle.flow_defs.specs.declared.job.Job.{Job}
 use Rattle.flow_defs.specs.declared.job.Stage.{Stage}
 use Rattle.flow_defs.specs.declared.job.AggKind.{AggKind}
 use Rattle.flow_defs.specs.declared.job.Exchange.{Exchange}
-use Rattle.flow_defs.specs.declared.job.Exchange.TheVariants.{Hash}
 use Rattle.stage_fns.specs.Functions.{Functions}
 use Rattle.job_text.specs.JobText.{IsJobText, source_line, kind_word, exchange_word, agg_word, stage_line, aggregate_line}
 use Rattle.job_text.specs.JobFaults.{number_of, exchange_of}
-use Rattle.job_text.specs.Laws.{HaveSameTasks, JobTextSaysTasks}
+use Rattle.job_text.specs.Laws.{JobTextSaysTasks}
 use Rattle.job_text.proofs.Lists.{tasks_in, exchange_in}
 use Rattle.job_text.proofs.SpellingLemmas.{decimal_number, exchange_spelled}
 use Rattle.job_text.proofs.AcceptLemmas.{words_of_line, kind_no_space, decimal_no_space, exchange_no_space, agg_no_space}
@@ -39,12 +38,12 @@ pub record IsGood (s : Stage) : Type 0 where
   pub argument : IsArgument s.kind s.arg.items
   pub bounds : (1 ≤ s.tasks) × (s.tasks ≤ TASKS_MAX)
 
-stage_words : (s : Stage) → IsGood s → pieces 32 (stage_line s) ≡ codes "stage" ∷ kind_word s.kind s.arg.items ∷ decimal s.tasks ∷ exchange_word s.exchange ∷ []
+pub stage_words : (s : Stage) → IsGood s → pieces 32 (stage_line s) ≡ codes "stage" ∷ kind_word s.kind s.arg.items ∷ decimal s.tasks ∷ exchange_word s.exchange ∷ []
 stage_words s good =
     words_of_line (codes "stage") (kind_word s.kind s.arg.items ∷ decimal s.tasks ∷ exchange_word s.exchange ∷ []) refl
     (kind_no_space s.kind s.arg.items good.argument, (decimal_no_space s.tasks good.bounds.0 (let high = good.bounds.1 in omega arith), (exchange_no_space s.exchange, tt)))
 
-agg_words : (kind : AggKind) (n : ℕ) → (1 ≤ n) × (n ≤ TASKS_MAX) → pieces 32 (aggregate_line kind n) ≡ codes "aggregate" ∷ agg_word kind ∷ decimal n ∷ []
+pub agg_words : (kind : AggKind) (n : ℕ) → (1 ≤ n) × (n ≤ TASKS_MAX) → pieces 32 (aggregate_line kind n) ≡ codes "aggregate" ∷ agg_word kind ∷ decimal n ∷ []
 agg_words kind n bounds =
     words_of_line (codes "aggregate") (agg_word kind ∷ decimal n ∷ []) refl (agg_no_space kind, (decimal_no_space n bounds.0 (let high = bounds.1 in omega arith), tt))
 
@@ -96,10 +95,10 @@ good_stages : (agg : ℕ) (stages : List Stage) → AllByRecursion (λ (s : Stag
 good_stages agg [] arguments counts = tt
 good_stages agg (s ∷ stages) arguments counts = (record { argument = arguments.0; bounds = counts 0 (omega arith) }, good_stages agg stages arguments.1 (λ i low. counts (suc i) (omega arith)))
 
-good_job : (functions : Functions) (text : List ℕ) (job : Job) → IsJobText functions text job → AllByRecursion IsGood job.stages.items
+pub good_job : (functions : Functions) (text : List ℕ) (job : Job) → IsJobText functions text job → AllByRecursion IsGood job.stages.items
 good_job functions text job is = good_stages job.agg_tasks job.stages.items is.is_job.arguments (λ i low. is.is_job.counts (suc i) (omega arith))
 
-good_agg : (functions : Functions) (text : List ℕ) (job : Job) → IsJobText functions text job → (1 ≤ job.agg_tasks) × (job.agg_tasks ≤ TASKS_MAX)
+pub good_agg : (functions : Functions) (text : List ℕ) (job : Job) → IsJobText functions text job → (1 ≤ job.agg_tasks) × (job.agg_tasks ≤ TASKS_MAX)
 good_agg functions text job is =
     let past : tasks job (suc (last_edge job)) ≡ job.agg_tasks = ap (λ (o : Option Stage). option_map_or (λ (s : Stage). s.tasks) o job.agg_tasks) (slice_get_past job.stages.items (last_edge job) (omega arith)) in
     subst (λ n. (1 ≤ n) × (n ≤ TASKS_MAX)) past (is.is_job.counts (suc (last_edge job)) (omega arith))

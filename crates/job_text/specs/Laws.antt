@@ -6,6 +6,7 @@ use Rattle.flow_defs.specs.declared.job.Job.{Job}
 use Rattle.stage_fns.specs.Functions.{Functions}
 use Rattle.job_text.specs.JobText.{IsJobText}
 use Rattle.job_text.specs.JobFaults.{first_fault}
+use Rattle.job_text.specs.Shapes.{said, shape_of}
 use Rattle.job_text.specs.declared.words.Command.{Command}
 use Rattle.job_text.specs.declared.words.RunOptions.{RunOptions}
 use Rattle.job_text.specs.Words.{IsCommand, IsRun, HasRange, usage_fault}
@@ -33,6 +34,10 @@ pub record HaveSameTasks (job other : Job) : Type 0 where
 -- All jobs of a text have the same tasks and edges.
 abbrev pub JobTextSaysTasks : Type 0
 JobTextSaysTasks = (functions : Functions) (text : List ℕ) (job other : Job) → IsJobText functions text job → IsJobText functions text other → HaveSameTasks job other
+
+-- A text says the shape of its job.
+abbrev pub JobTextSaysShape : Type 0
+JobTextSaysShape = (functions : Functions) (text : List ℕ) (job : Job) → IsJobText functions text job → said text ≡ shape_of job
 
 -- The words of a command have no fault.
 abbrev pub CommandHasNoFault : Type 0

@@ -49,7 +49,7 @@ pub fn read_grammar(alloc: Global, bytes: &[u8]) -> Result<Job, JobReadFault>
 }
 
 // Reads the text to its end or its first fault.
-fn check(bytes: &[u8], functions: Known) -> Result<(), JobReadFault>
+pub(crate) fn check(bytes: &[u8], functions: Known) -> Result<(), JobReadFault>
     ensures ok { OnOk result (first_fault (known functions.entry) bytes.now ≡ None) }
     ensures err { IfErr result (λ told. IsTold told (first_fault (known functions.entry) bytes.now)) }
 {

@@ -11,6 +11,7 @@ mod known;
 pub mod laws;
 mod lines;
 mod options;
+mod shape;
 mod spelling;
 #[cfg(test)]
 mod tests;
@@ -18,4 +19,5 @@ mod words;
 
 pub use fault::{JobFault, JobReadFault};
 pub use job::{read_grammar, read_job};
+pub use shape::{JobShape, StageShape, read_shape};
 pub use words::{Command, LINES_MAX, RunOptions, UsageKind, WordFault, read_words};

@@ -1,4 +1,5 @@
 use Rattle.job_text.proofs.TaskLemmas.{says_tasks}
+use Rattle.job_text.proofs.ShapeLemmas.{says_shape}
 use Rattle.job_text.proofs.FileLemmas.{names_its_files}
 use Rattle.job_text.proofs.Law.{accepted}
 use Rattle.job_text.proofs.laws.job_texts_are_clear.Goals as goal
@@ -11,3 +12,6 @@ returns-clause-files c = names_its_files
 
 pub returns-clause-tasks : goal.returns-clause-tasks
 returns-clause-tasks c = says_tasks
+
+pub returns-clause-shape : goal.returns-clause-shape
+returns-clause-shape c = says_shape

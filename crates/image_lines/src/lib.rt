@@ -6,5 +6,7 @@
 #![tactic(auto)]
 
 mod lines;
+#[cfg(test)]
+mod tests;
 
 pub use lines::image_lines;

@@ -65,9 +65,11 @@ module _ (share : ConnShare) (after : SharePasses) (w e f : Option Bool) (left m
   ended_by k l m causes.Done le h cut = ((h.0.0 ++ more, ap (λ l. l ++ more) h.0.1 ∙ append_assoc closing h.0.0 more), h.1)
   ended_by k l m causes.Stopped le h cut = tt
   ended_by k l m (causes.Input source) le h cut = absurd h
+  ended_by k l m causes.Keeper le h cut = absurd h
   ended_by k l m causes.Link le h cut = risen_after k l m h le
   ended_by k l m (causes.LongLine source) le h cut = absurd h
   ended_by k l m (causes.BigSource source) le h cut = absurd h
+  ended_by k l m causes.BigImage le h cut = absurd h
   ended_by k l m (causes.OverCredit channel received announced) le h cut = absurd h
   ended_by k l m (causes.Peer fault) le h cut = met_peer fault h cut
   ended_by k l m causes.Memory le h cut = tt

@@ -64,9 +64,11 @@ module _ (cells : ControlCells) (first a : ControlPasses) (readers : a.readers â
   }
   round_handled b o w k x y (Some causes.Stopped) empty h = absurd h
   round_handled b o w k x y (Some (causes.Input source)) empty h = absurd h
+  round_handled b o w k x y (Some causes.Keeper) empty h = absurd h
   round_handled b o w k x y (Some causes.Link) empty h = absurd h
   round_handled b o w k x y (Some (causes.LongLine source)) empty h = absurd h
   round_handled b o w k x y (Some (causes.BigSource source)) empty h = absurd h
+  round_handled b o w k x y (Some causes.BigImage) empty h = absurd h
   round_handled b o w k x y (Some (causes.OverCredit channel received announced)) empty h = absurd h
   round_handled b o w k x y (Some (causes.Peer fault)) empty h = record {
     messages = h.0;
@@ -83,6 +85,7 @@ module _ (cells : ControlCells) (first a : ControlPasses) (readers : a.readers â
   round_read o p w e k l x y (Some causes.Done) h = absurd h
   round_read o p w e k l x y (Some causes.Stopped) h = absurd h
   round_read o p w e k l x y (Some (causes.Input source)) h = absurd h
+  round_read o p w e k l x y (Some causes.Keeper) h = absurd h
   round_read o p w e k l x y (Some causes.Link) h = record {
     messages = [];
     left = x ++ [];
@@ -92,6 +95,7 @@ module _ (cells : ControlCells) (first a : ControlPasses) (readers : a.readers â
   }
   round_read o p w e k l x y (Some (causes.LongLine source)) h = absurd h
   round_read o p w e k l x y (Some (causes.BigSource source)) h = absurd h
+  round_read o p w e k l x y (Some causes.BigImage) h = absurd h
   round_read o p w e k l x y (Some (causes.OverCredit channel received announced)) h = absurd h
   round_read o p w e k l x y (Some (causes.Peer peers.BadFrame)) h = absurd h
   round_read o p w e k l x y (Some (causes.Peer peers.Sequence)) h = absurd h
@@ -138,9 +142,11 @@ risen_end : (channels : List ChannelId) (size : â„•) (history : List (â„• Ã— Rea
 risen_end channels size history w e left k l m causes.Done le h = h
 risen_end channels size history w e left k l m causes.Stopped le h = h
 risen_end channels size history w e left k l m (causes.Input source) le h = h
+risen_end channels size history w e left k l m causes.Keeper le h = h
 risen_end channels size history w e left k l m causes.Link le h = risen_before k l m le h
 risen_end channels size history w e left k l m (causes.LongLine source) le h = h
 risen_end channels size history w e left k l m (causes.BigSource source) le h = h
+risen_end channels size history w e left k l m causes.BigImage le h = h
 risen_end channels size history w e left k l m (causes.OverCredit channel received announced) le h = h
 risen_end channels size history w e left k l m (causes.Peer fault) le h = h
 risen_end channels size history w e left k l m causes.Memory le h = h

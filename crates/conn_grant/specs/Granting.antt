@@ -129,9 +129,11 @@ module _ (share : ConnShare) (after : SharePasses) (was_ended ended : Option Boo
   EndedBy fell rose causes.Done = StartsWith left closing × HasNoneOverdue (ledger_after share.channels.now (seen_readers after))
   EndedBy fell rose causes.Stopped = Unit {0}
   EndedBy fell rose (causes.Input source) = ⊥
+  EndedBy fell rose causes.Keeper = ⊥
   EndedBy fell rose causes.Link = HasRisen fell rose
   EndedBy fell rose (causes.LongLine source) = ⊥
   EndedBy fell rose (causes.BigSource source) = ⊥
+  EndedBy fell rose causes.BigImage = ⊥
   EndedBy fell rose (causes.OverCredit channel received announced) = ⊥
   EndedBy fell rose (causes.Peer fault) = MetPeer fault
   EndedBy fell rose causes.Memory = Unit {0}

@@ -139,9 +139,11 @@ module _ (channels : List ChannelId) (size : ℕ) (history : List (ℕ × Reader
   EndsBy fell rose causes.Done = StartsWith left closing × HasNoneOverdue (ledger_after channels history)
   EndsBy fell rose causes.Stopped = Unit {0}
   EndsBy fell rose (causes.Input source) = ⊥
+  EndsBy fell rose causes.Keeper = ⊥
   EndsBy fell rose causes.Link = HasRisen fell rose
   EndsBy fell rose (causes.LongLine source) = ⊥
   EndsBy fell rose (causes.BigSource source) = ⊥
+  EndsBy fell rose causes.BigImage = ⊥
   EndsBy fell rose (causes.OverCredit channel received announced) = ⊥
   EndsBy fell rose (causes.Peer fault) = MeetsPeer fault
   EndsBy fell rose causes.Memory = Unit {0}

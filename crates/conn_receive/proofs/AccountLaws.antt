@@ -75,9 +75,11 @@ module _ (share : ConnShare) (after : SharePasses) (was ended : Option Bool) (le
   ended_by fell rose causes.Done h = starts_more left more h
   ended_by fell rose causes.Stopped h = absurd h
   ended_by fell rose (causes.Input source) h = absurd h
+  ended_by fell rose causes.Keeper h = absurd h
   ended_by fell rose causes.Link h = absurd h
   ended_by fell rose (causes.LongLine source) h = absurd h
   ended_by fell rose (causes.BigSource source) h = absurd h
+  ended_by fell rose causes.BigImage h = absurd h
   ended_by fell rose (causes.OverCredit channel received announced) h = record {
     place = h.place;
     is = h.is;

@@ -164,9 +164,11 @@ module _ (channels : List ChannelId) (after : List InputPass) (left : List ℕ) 
   EndsBy causes.Done = StartsWith left closing
   EndsBy causes.Stopped = ⊥
   EndsBy (causes.Input source) = ⊥
+  EndsBy causes.Keeper = ⊥
   EndsBy causes.Link = ⊥
   EndsBy (causes.LongLine source) = ⊥
   EndsBy (causes.BigSource source) = ⊥
+  EndsBy causes.BigImage = ⊥
   EndsBy (causes.OverCredit channel received announced) = WasShutAt channel received announced
   EndsBy (causes.Peer fault) = EndsByPeer fault
   EndsBy causes.Memory = Unit {0}

@@ -4,7 +4,7 @@ use Rattle.std.specs.Prelude.{slice_get, Option, Some, Ok, Err}
 use Rattle.std.proofs.Math.Seq.{take-append-add}
 use Rattle.flow_defs.specs.declared.task.ChannelId.{ChannelId}
 use Rattle.flow_defs.specs.declared.cause.Cause.{Cause}
-use Rattle.flow_defs.specs.declared.cause.Cause.TheVariants.{Done, Stopped, Input, Link, LongLine, BigSource, OverCredit, Peer, Memory}
+use Rattle.flow_defs.specs.declared.cause.Cause.TheVariants.{Done, Stopped, Input, Keeper, Link, LongLine, BigSource, BigImage, OverCredit, Peer, Memory}
 use Rattle.net_frames.specs.Frames.{AreFrames, all_spelled}
 use Rattle.outside.specs.Faults.{HasRisen}
 use Rattle.outside.specs.Links.{Appended}
@@ -160,25 +160,31 @@ module _ (messages : List Message) (frames : AreFrames messages) (direction : Ar
     was_done = λ e. absurd (cc);
   })
   closes (Input s) after is written closed = absurd is
+  closes Keeper after is written closed = absurd is
   closes (LongLine s) after is written closed = absurd is
   closes (BigSource s) after is written closed = absurd is
+  closes BigImage after is written closed = absurd is
   closes (OverCredit c n a) after is written closed = absurd is
   closes (Peer fault) after is written closed = absurd is
   closes Done Done is written closed = record { wrote = wrote_whole Done (λ e. cc) written closed; cause_is = tt; was_done = λ e. refl }
   closes Done Stopped is written closed = failed_closing Done written Stopped closed
   closes Done (Input s) is written closed = failed_closing Done written (Input s) closed
+  closes Done Keeper is written closed = failed_closing Done written Keeper closed
   closes Done Link is written closed = failed_closing Done written Link closed
   closes Done (LongLine s) is written closed = failed_closing Done written (LongLine s) closed
   closes Done (BigSource s) is written closed = failed_closing Done written (BigSource s) closed
+  closes Done BigImage is written closed = failed_closing Done written BigImage closed
   closes Done Memory is written closed = failed_closing Done written Memory closed
   closes Done (OverCredit c n a) is written closed = failed_closing Done written (OverCredit c n a) closed
   closes Done (Peer fault) is written closed = failed_closing Done written (Peer fault) closed
   closes Stopped Stopped is written closed = record { wrote = wrote_whole Stopped (λ e. cc) written closed; cause_is = tt; was_done = λ e. absurd (cc) }
   closes Stopped Done is written closed = failed_closing Stopped written Done closed
   closes Stopped (Input s) is written closed = failed_closing Stopped written (Input s) closed
+  closes Stopped Keeper is written closed = failed_closing Stopped written Keeper closed
   closes Stopped Link is written closed = failed_closing Stopped written Link closed
   closes Stopped (LongLine s) is written closed = failed_closing Stopped written (LongLine s) closed
   closes Stopped (BigSource s) is written closed = failed_closing Stopped written (BigSource s) closed
+  closes Stopped BigImage is written closed = failed_closing Stopped written BigImage closed
   closes Stopped Memory is written closed = failed_closing Stopped written Memory closed
   closes Stopped (OverCredit c n a) is written closed = failed_closing Stopped written (OverCredit c n a) closed
   closes Stopped (Peer fault) is written closed = failed_closing Stopped written (Peer fault) closed

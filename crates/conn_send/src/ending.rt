@@ -55,9 +55,11 @@ pub fn end_half<O: LinkOut, R: Wait>(
                 Cause::Link
             }
             Cause::Input { .. } => cause,
+            Cause::Keeper => cause,
             Cause::Link => Cause::Link,
             Cause::LongLine { .. } => cause,
             Cause::BigSource { .. } => cause,
+            Cause::BigImage => cause,
             Cause::OverCredit { .. } => cause,
             Cause::Peer { .. } => cause,
             Cause::Memory => Cause::Memory,

@@ -41,6 +41,8 @@ pub enum Cause {
     Input {
         source: u32,
     },
+    /// The keeper failed.
+    Keeper,
     /// Its half of a link failed.
     Link,
     /// A line of the source is longer than a record may be.
@@ -51,6 +53,9 @@ pub enum Cause {
     BigSource {
         source: u32,
     },
+    /// A number of keys or of runs of an image, or the length of a piece saved in it, is above
+    /// 4,294,967,295.
+    BigImage,
     /// A data frame came whose number on its channel is above the credit announced there. Both numbers
     /// are modulo 2^64.
     OverCredit {

@@ -36,9 +36,11 @@ module _ {S : Type 0} (left : S → Option (List ℕ)) (faults : S → ℕ) (bef
   no_link never_fails fell rose peer causes.Done sure is = is
   no_link never_fails fell rose peer causes.Stopped sure is = is
   no_link never_fails fell rose peer (causes.Input a) sure is = is
+  no_link never_fails fell rose peer causes.Keeper sure is = is
   no_link never_fails fell rose peer causes.Link sure is = is.may_fail sure
   no_link never_fails fell rose peer (causes.LongLine a) sure is = is
   no_link never_fails fell rose peer (causes.BigSource a) sure is = is
+  no_link never_fails fell rose peer causes.BigImage sure is = is
   no_link never_fails fell rose peer (causes.OverCredit channel received announced) sure is = is
   no_link never_fails fell rose peer (causes.Peer fault) sure is = tt
   no_link never_fails fell rose peer causes.Memory sure is = tt
@@ -56,9 +58,11 @@ module _ {S : Type 0} (left : S → Option (List ℕ)) (faults : S → ℕ) (bef
     fault_of_run causes.Done is = absurd is
     fault_of_run causes.Stopped is = absurd is
     fault_of_run (causes.Input a) is = (let inside = slice_get_within before a is.old is.was in omega (arith, many, inside), whatever (contents (source_name job a)))
+    fault_of_run causes.Keeper is = absurd is
     fault_of_run causes.Link is = absurd is
     fault_of_run (causes.LongLine a) is = is_source a (λ bytes. HasLongLine (lines bytes)) is
     fault_of_run (causes.BigSource a) is = is_source a (λ bytes. SOURCE_MAX < length bytes) is
+    fault_of_run causes.BigImage is = absurd is
     fault_of_run (causes.OverCredit channel received announced) is = is
     fault_of_run (causes.Peer fault) is = tt
     fault_of_run causes.Memory is = tt
@@ -68,9 +72,11 @@ module _ {S : Type 0} (left : S → Option (List ℕ)) (faults : S → ℕ) (bef
     faulty_input causes.Done is four = absurd is
     faulty_input causes.Stopped is four = absurd is
     faulty_input (causes.Input a) is four = (a, is.new, is.is, above (faults is.old) (faults is.new) (told a is.old is.was).1 is.holds)
+    faulty_input causes.Keeper is four = absurd is
     faulty_input causes.Link is four = absurd (cc)
     faulty_input (causes.LongLine a) is four = absurd (cc)
     faulty_input (causes.BigSource a) is four = absurd (cc)
+    faulty_input causes.BigImage is four = absurd is
     faulty_input (causes.OverCredit channel received announced) is four = absurd (cc)
     faulty_input (causes.Peer fault) is four = absurd (cc)
     faulty_input causes.Memory is four = absurd (cc)
@@ -80,9 +86,11 @@ pub no_output : (cause : Cause) → status_of (of_cause cause) ≡ 7 → ⊥
 no_output causes.Done seven = cc
 no_output causes.Stopped seven = cc
 no_output (causes.Input a) seven = cc
+no_output causes.Keeper seven = cc
 no_output causes.Link seven = cc
 no_output (causes.LongLine a) seven = cc
 no_output (causes.BigSource a) seven = cc
+no_output causes.BigImage seven = cc
 no_output (causes.OverCredit channel received announced) seven = cc
 no_output (causes.Peer fault) seven = cc
 no_output causes.Memory seven = cc

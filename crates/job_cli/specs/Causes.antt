@@ -26,14 +26,17 @@ of_source source InputTooBig = BigSource source
 of_source source InputLongLine = LongLine source
 of_source source InputMemory = Memory
 
--- The fault of a run whose workers ended so. A run that has no table is neither done nor stopped.
+-- The fault of a run whose workers ended so. A run that has no table is neither done nor stopped, and none of its workers stores an
+-- image.
 abbrev pub of_cause : Cause → Fault
 of_cause causes.Done = Memory
 of_cause causes.Stopped = Memory
 of_cause (causes.Input a) = SourceInput a
+of_cause causes.Keeper = Memory
 of_cause causes.Link = Link
 of_cause (causes.LongLine a) = LongLine a
 of_cause (causes.BigSource a) = BigSource a
+of_cause causes.BigImage = Memory
 of_cause (causes.OverCredit channel received announced) = OverCredit channel received announced
 of_cause (causes.Peer fault) = Peer fault
 of_cause causes.Memory = Memory

@@ -144,7 +144,8 @@ fn table_of_inputs<R: Threads + Wait + Sync, S: Source + Send + Drop>(
     )
 }
 
-// The fault of a run whose workers ended so. One that has no table is neither done nor stopped.
+// The fault of a run whose workers ended so. One that has no table is neither done nor stopped, and none of
+// its workers stores an image.
 fn fault_of(cause: Cause) -> Fault
     ensures { result ≡ of_cause cause }
 {
@@ -163,6 +164,8 @@ fn fault_of(cause: Cause) -> Fault
             announced,
         },
         Cause::Peer { fault } => Fault::Peer { fault },
-        Cause::Done | Cause::Stopped | Cause::Memory => Fault::Memory,
+        Cause::Done | Cause::Stopped | Cause::Keeper | Cause::BigImage | Cause::Memory => {
+            Fault::Memory
+        }
     }
 }

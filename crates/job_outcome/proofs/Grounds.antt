@@ -51,6 +51,7 @@ module _ {S : Type 0} (left : S → Option (List ℕ)) (faults : S → ℕ) (bef
   of_source a b old new (causes.Input source) same was is h d s =
       let here : a ≡ source = sym (h.0 ∙ same) in
       record { old = old; new = new; was = subst (λ (k : ℕ). slice_get before k ≡ Some old) here was; is = subst (λ (k : ℕ). slice_get after k ≡ Some new) here is; holds = h.1 }
+  of_source a b old new causes.Keeper same was is h d s = absurd h
   of_source a b old new causes.Link same was is h d s = absurd h
   of_source a b old new (causes.LongLine source) same was is h d s =
       let here : a ≡ source = sym (h.0 ∙ same) in
@@ -58,6 +59,7 @@ module _ {S : Type 0} (left : S → Option (List ℕ)) (faults : S → ℕ) (bef
   of_source a b old new (causes.BigSource source) same was is h d s =
       let here : a ≡ source = sym (h.0 ∙ same) in
       record { old = old; new = new; was = subst (λ (k : ℕ). slice_get before k ≡ Some old) here was; is = subst (λ (k : ℕ). slice_get after k ≡ Some new) here is; holds = h.1 }
+  of_source a b old new causes.BigImage same was is h d s = absurd h
   of_source a b old new (causes.OverCredit channel received announced) same was is h d s = absurd h
   of_source a b old new (causes.Peer fault) same was is h d s = absurd h
   of_source a b old new causes.Memory same was is h d s = tt
@@ -66,9 +68,11 @@ module _ {S : Type 0} (left : S → Option (List ℕ)) (faults : S → ℕ) (bef
   of_taker found causes.Done h d s = absurd (d refl)
   of_taker found causes.Stopped h d s = absurd (s refl)
   of_taker found (causes.Input source) h d s = absurd h
+  of_taker found causes.Keeper h d s = absurd h
   of_taker found causes.Link h d s = absurd h
   of_taker found (causes.LongLine source) h d s = absurd h
   of_taker found (causes.BigSource source) h d s = absurd h
+  of_taker found causes.BigImage h d s = absurd h
   of_taker found (causes.OverCredit channel received announced) h d s = absurd h
   of_taker found (causes.Peer peers.Left) h d s = found peers.Left tt
   of_taker found (causes.Peer peers.Barrier) h d s = found peers.Barrier tt
@@ -87,9 +91,11 @@ module _ {S : Type 0} (left : S → Option (List ℕ)) (faults : S → ℕ) (bef
   of_sender causes.Done h l d s = absurd (d refl)
   of_sender causes.Stopped h l d s = absurd (s refl)
   of_sender (causes.Input source) h l d s = absurd h
+  of_sender causes.Keeper h l d s = absurd h
   of_sender causes.Link h l d s = l refl
   of_sender (causes.LongLine source) h l d s = absurd h
   of_sender (causes.BigSource source) h l d s = absurd h
+  of_sender causes.BigImage h l d s = absurd h
   of_sender (causes.OverCredit channel received announced) h l d s = absurd h
   of_sender (causes.Peer fault) h l d s = absurd h
   of_sender causes.Memory h l d s = tt
@@ -98,9 +104,11 @@ module _ {S : Type 0} (left : S → Option (List ℕ)) (faults : S → ℕ) (bef
   of_announcer causes.Done h l d s = absurd (d refl)
   of_announcer causes.Stopped h l d s = absurd (s refl)
   of_announcer (causes.Input source) h l d s = absurd h
+  of_announcer causes.Keeper h l d s = absurd h
   of_announcer causes.Link h l d s = l refl
   of_announcer (causes.LongLine source) h l d s = absurd h
   of_announcer (causes.BigSource source) h l d s = absurd h
+  of_announcer causes.BigImage h l d s = absurd h
   of_announcer (causes.OverCredit channel received announced) h l d s = absurd h
   of_announcer (causes.Peer fault) h l d s = absurd h
   of_announcer causes.Memory h l d s = tt
@@ -111,9 +119,11 @@ module _ {S : Type 0} (left : S → Option (List ℕ)) (faults : S → ℕ) (bef
   of_control share passes was_ended ended rest fell rose causes.Done h l p d s = absurd (d refl)
   of_control share passes was_ended ended rest fell rose causes.Stopped h l p d s = absurd (s refl)
   of_control share passes was_ended ended rest fell rose (causes.Input source) h l p d s = absurd h
+  of_control share passes was_ended ended rest fell rose causes.Keeper h l p d s = absurd h
   of_control share passes was_ended ended rest fell rose causes.Link h l p d s = l h
   of_control share passes was_ended ended rest fell rose (causes.LongLine source) h l p d s = absurd h
   of_control share passes was_ended ended rest fell rose (causes.BigSource source) h l p d s = absurd h
+  of_control share passes was_ended ended rest fell rose causes.BigImage h l p d s = absurd h
   of_control share passes was_ended ended rest fell rose (causes.OverCredit channel received announced) h l p d s = absurd h
   of_control share passes was_ended ended rest fell rose (causes.Peer fault) h l p d s = p fault h
   of_control share passes was_ended ended rest fell rose causes.Memory h l p d s = tt
@@ -124,9 +134,11 @@ module _ {S : Type 0} (left : S → Option (List ℕ)) (faults : S → ℕ) (bef
   of_items share passes was_ended ended rest fell rose causes.Done h l p d s = absurd (d refl)
   of_items share passes was_ended ended rest fell rose causes.Stopped h l p d s = absurd (s refl)
   of_items share passes was_ended ended rest fell rose (causes.Input source) h l p d s = absurd h
+  of_items share passes was_ended ended rest fell rose causes.Keeper h l p d s = absurd h
   of_items share passes was_ended ended rest fell rose causes.Link h l p d s = l h
   of_items share passes was_ended ended rest fell rose (causes.LongLine source) h l p d s = absurd h
   of_items share passes was_ended ended rest fell rose (causes.BigSource source) h l p d s = absurd h
+  of_items share passes was_ended ended rest fell rose causes.BigImage h l p d s = absurd h
   of_items share passes was_ended ended rest fell rose (causes.OverCredit channel received announced) h l p d s =
       let w = h.refused in is_over_by_one w.state h.history (arrival_with w.sequence w.backlog w.what) w.content received announced w.stands w.refused
   of_items share passes was_ended ended rest fell rose (causes.Peer fault) h l p d s = p fault h

@@ -80,9 +80,11 @@ module _ {S : Type 0} (left : S → Option (List ℕ)) (faults : S → ℕ) (bef
   IsRunCause link peer causes.Done = ⊥
   IsRunCause link peer causes.Stopped = ⊥
   IsRunCause link peer (causes.Input a) = IsOfInput a (λ told fell rose. HasRisen fell rose)
+  IsRunCause link peer causes.Keeper = ⊥
   IsRunCause link peer causes.Link = link
   IsRunCause link peer (causes.LongLine a) = IsOfInput a (λ told fell rose. IfSome told (λ bytes. HasLongLine (lines bytes)))
   IsRunCause link peer (causes.BigSource a) = IsOfInput a (λ told fell rose. IfSome told (λ bytes. SOURCE_MAX < length bytes))
+  IsRunCause link peer causes.BigImage = ⊥
   IsRunCause link peer (causes.OverCredit channel received announced) = IsOverByOne received announced
   IsRunCause link peer (causes.Peer fault) = peer fault
   IsRunCause link peer causes.Memory = ⊤

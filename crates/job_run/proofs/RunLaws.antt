@@ -36,9 +36,11 @@ cause_with : {S : Type 0} (left : S → Option (List ℕ)) (faults : S → ℕ) 
 cause_with left faults before after L M P Q f h causes.Done x = x
 cause_with left faults before after L M P Q f h causes.Stopped x = x
 cause_with left faults before after L M P Q f h (causes.Input a) x = x
+cause_with left faults before after L M P Q f h causes.Keeper x = x
 cause_with left faults before after L M P Q f h causes.Link x = f x
 cause_with left faults before after L M P Q f h (causes.LongLine a) x = x
 cause_with left faults before after L M P Q f h (causes.BigSource a) x = x
+cause_with left faults before after L M P Q f h causes.BigImage x = x
 cause_with left faults before after L M P Q f h (causes.OverCredit channel received announced) x = x
 cause_with left faults before after L M P Q f h (causes.Peer fault) x = h fault x
 cause_with left faults before after L M P Q f h causes.Memory x = x
@@ -130,9 +132,11 @@ is_memory : (cause : Cause) → (cause ≡ causes.Memory) ⊎ (cause ≢ causes.
 is_memory causes.Done = inr (λ e. absurd (cc))
 is_memory causes.Stopped = inr (λ e. absurd (cc))
 is_memory (causes.Input a) = inr (λ e. absurd (cc))
+is_memory causes.Keeper = inr (λ e. absurd (cc))
 is_memory causes.Link = inr (λ e. absurd (cc))
 is_memory (causes.LongLine a) = inr (λ e. absurd (cc))
 is_memory (causes.BigSource a) = inr (λ e. absurd (cc))
+is_memory causes.BigImage = inr (λ e. absurd (cc))
 is_memory (causes.OverCredit channel received announced) = inr (λ e. absurd (cc))
 is_memory (causes.Peer fault) = inr (λ e. absurd (cc))
 is_memory causes.Memory = inl refl

@@ -45,9 +45,11 @@ taker_end : (gate : Account) (cause : Cause) → IsTakerCause gate cause → IsT
 taker_end gate causes.Done is = tt
 taker_end gate causes.Stopped is = tt
 taker_end gate (causes.Input source) is = is
+taker_end gate causes.Keeper is = is
 taker_end gate causes.Link is = is
 taker_end gate (causes.LongLine source) is = is
 taker_end gate (causes.BigSource source) is = is
+taker_end gate causes.BigImage is = is
 taker_end gate (causes.OverCredit channel received announced) is = is
 taker_end gate (causes.Peer peers.BadFrame) is = is
 taker_end gate (causes.Peer peers.Sequence) is = is

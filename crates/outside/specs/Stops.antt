@@ -1,7 +1,7 @@
 -- What stops the workers of a job: the faults that were met, of which the first counts. This is this project's own choice.
 use Rattle.std.specs.Prelude.{◌≡◌, ◌≢◌, ℕ, Bool, true, false, List, [], ◌∷◌, ◌++◌, Option, Some, None}
 use Rattle.flow_defs.specs.declared.cause.Cause.{Cause}
-use Rattle.flow_defs.specs.declared.cause.Cause.TheVariants.{Done, Stopped, Input, Link, LongLine, BigSource, OverCredit, Peer, Memory}
+use Rattle.flow_defs.specs.declared.cause.Cause.TheVariants.{Done, Stopped, Input, Keeper, Link, LongLine, BigSource, BigImage, OverCredit, Peer, Memory}
 use Rattle.outside.specs.declared.stop.StopEntry.{StopEntry}
 use Rattle.outside.specs.declared.stop.StopEntry.TheVariants.{Met}
 use Rattle.outside.specs.declared.stop.StopState.{StopState}
@@ -11,9 +11,11 @@ abbrev pub is_fault : Cause → Bool
 is_fault Done = false
 is_fault Stopped = false
 is_fault (Input source) = true
+is_fault Keeper = true
 is_fault Link = true
 is_fault (LongLine source) = true
 is_fault (BigSource source) = true
+is_fault BigImage = true
 is_fault (OverCredit channel received announced) = true
 is_fault (Peer fault) = true
 is_fault Memory = true
@@ -38,9 +40,11 @@ abbrev pub told_of : Cause → List StopEntry
 told_of Done = []
 told_of Stopped = []
 told_of (Input source) = Met (Input source) ∷ []
+told_of Keeper = Met Keeper ∷ []
 told_of Link = Met Link ∷ []
 told_of (LongLine source) = Met (LongLine source) ∷ []
 told_of (BigSource source) = Met (BigSource source) ∷ []
+told_of BigImage = Met BigImage ∷ []
 told_of (OverCredit channel received announced) = Met (OverCredit channel received announced) ∷ []
 told_of (Peer fault) = Met (Peer fault) ∷ []
 told_of Memory = Met Memory ∷ []

@@ -149,9 +149,11 @@ pub fn tell_cause<R: Wait>(
         Cause::Done => {}
         Cause::Stopped => {}
         Cause::Input { .. } => tell_stop(rt, cell, pass, cause),
+        Cause::Keeper => tell_stop(rt, cell, pass, cause),
         Cause::Link => tell_stop(rt, cell, pass, cause),
         Cause::LongLine { .. } => tell_stop(rt, cell, pass, cause),
         Cause::BigSource { .. } => tell_stop(rt, cell, pass, cause),
+        Cause::BigImage => tell_stop(rt, cell, pass, cause),
         Cause::OverCredit { .. } => tell_stop(rt, cell, pass, cause),
         Cause::Peer { .. } => tell_stop(rt, cell, pass, cause),
         Cause::Memory => tell_stop(rt, cell, pass, cause),

@@ -110,9 +110,11 @@ abbrev pub IsSourceCause : ℕ → Option (List ℕ) → ℕ → ℕ → Cause �
 IsSourceCause a left fell rose causes.Done = ⊤
 IsSourceCause a left fell rose causes.Stopped = ⊤
 IsSourceCause a left fell rose (causes.Input source) = (source ≡ a) × HasRisen fell rose
+IsSourceCause a left fell rose causes.Keeper = ⊥
 IsSourceCause a left fell rose causes.Link = ⊥
 IsSourceCause a left fell rose (causes.LongLine source) = (source ≡ a) × IfSome left (λ bytes. HasLongLine (lines bytes))
 IsSourceCause a left fell rose (causes.BigSource source) = (source ≡ a) × IfSome left (λ bytes. SOURCE_MAX < length bytes)
+IsSourceCause a left fell rose causes.BigImage = ⊥
 IsSourceCause a left fell rose (causes.OverCredit channel received announced) = ⊥
 IsSourceCause a left fell rose (causes.Peer fault) = ⊥
 IsSourceCause a left fell rose causes.Memory = ⊤

@@ -8,10 +8,10 @@ use Rattle.std.specs.Cmp.Lexicographic.{pointwise, slice_cmp, texts_ties, same_t
 use Rattle.std.specs.Ordering.{nat_cmp}
 use Rattle.std.specs.FinMap.{find, get, insert, empty, from_entries, same_map, get-from_entries, get-insert, get-empty, slice_cmp-IsAntisymmetric, nat_cmp-IsAntisymmetric}
 use Rattle.std.specs.Map.{lookup, set_value, keys_of}
-use Rattle.std.specs.List.{AllByRecursion}
+use Rattle.std.specs.List.{AllByRecursion, IsDistinct}
 use Rattle.std.specs.List.Sorted.{IsStrictlySortedBy}
 use Rattle.std.proofs.lemmas.Cmp.{nat_list_cmp_total, eq_by_cmp_equiv, on_equiv}
-use Rattle.std.proofs.lemmas.Map.Keys.{sorted_head, sorted_tail}
+use Rattle.std.proofs.lemmas.Map.Keys.{sorted_head, sorted_tail, IsDistinct-head, IsDistinct-tail}
 use Rattle.flow_defs.specs.Items.{Items}
 use Rattle.flow_defs.specs.Tables.{Values, key_cmp}
 use Rattle.job_plan.specs.Entries.{entry_pairs}
@@ -154,3 +154,34 @@ all_put_is sorted others ordered same =
     by_order : (bytes : List ℕ) (entries : List (Key × ℕ)) → lookup (λ (k : Key). is_eq (slice_cmp nat_cmp bytes k.items)) entries ≡ find key_cmp bytes (entry_pairs entries)
     by_order bytes [] = refl
     by_order bytes (e ∷ entries) = ap (cond (eq_by_cmp key_cmp bytes e.0.items) (Some e.1)) (by_order bytes entries)
+
+-- ---- entries with distinct keys, put in one after another
+
+abbrev same_key : Key → Key → Bool
+same_key k l = pointwise nat_eq k.items l.items
+
+none_apart : (key : Key) (entries : List (Key × ℕ)) → AllByRecursion (λ k. same_key key k ≡ false) (keys_of entries) → find key_cmp key.items (entry_pairs entries) ≡ None
+none_apart key [] apart = refl
+none_apart key (e ∷ entries) apart =
+    ap (λ b. cond b (Some e.1) (find key_cmp key.items (entry_pairs entries))) (sym (texts_ties key.items e.0.items) ∙ apart.0)
+    ∙ none_apart key entries apart.1
+
+get-all_put_distinct : (entries : List (Key × ℕ)) (table : Values) → IsDistinct same_key (keys_of entries) → (bytes : List ℕ)
+    → get (all_put table (entry_pairs entries)) bytes ≡ option_or (find key_cmp bytes (entry_pairs entries)) (get table bytes)
+get-all_put_distinct [] table distinct bytes = refl
+get-all_put_distinct (e ∷ entries) table distinct bytes =
+    get-all_put_distinct entries (insert table e.0.items e.1) (IsDistinct-tail same_key e.0 (keys_of entries) distinct) bytes
+    ∙ ap (option_or (find key_cmp bytes (entry_pairs entries))) (get-insert nat_list_cmp_total table e.0.items e.1 bytes)
+    ∙ elim (eq_by_cmp key_cmp bytes e.0.items) as (λ b. eq_by_cmp key_cmp bytes e.0.items ≡ b → option_or (find key_cmp bytes (entry_pairs entries)) (cond b (Some e.1) (get table bytes)) ≡ option_or (cond b (Some e.1) (find key_cmp bytes (entry_pairs entries))) (get table bytes)) [
+      | true ↦ λ here. ap (λ (r : Option ℕ). option_or r (Some e.1)) (ap (λ l. find key_cmp l (entry_pairs entries)) (exact bytes e.0.items here) ∙ none_apart e.0 entries (IsDistinct-head same_key e.0 (keys_of entries) distinct))
+      | false ↦ λ _. refl
+    ] refl
+
+-- put into an empty table they make the map of them all
+pub all_put_distinct : (entries : List (Key × ℕ)) → IsDistinct same_key (keys_of entries) → all_put empty (entry_pairs entries) ≡ from_entries (entry_pairs entries)
+all_put_distinct entries distinct =
+    same_map nat_list_cmp_total (slice_cmp-IsAntisymmetric nat_cmp-IsAntisymmetric) _ _ (λ bytes.
+    get-all_put_distinct entries empty distinct bytes
+    ∙ ap (option_or (find key_cmp bytes (entry_pairs entries))) (get-empty key_cmp bytes)
+    ∙ or_none (find key_cmp bytes (entry_pairs entries))
+    ∙ sym (get-from_entries nat_list_cmp_total (entry_pairs entries) bytes))

@@ -1,6 +1,8 @@
 -- The entries of std's maps from records to counts.
 use Rattle.std.specs.Prelude.{ℕ, List, map}
+use Rattle.std.specs.FinMap.{from_entries}
 use Rattle.flow_defs.specs.Items.{Items}
+use Rattle.flow_defs.specs.Tables.{Values}
 
 -- An entry as the pair of its bytes and its count.
 abbrev pub entry_pair : Items ℕ × ℕ → List ℕ × ℕ
@@ -8,3 +10,7 @@ entry_pair entry = (entry.0.items, entry.1)
 
 abbrev pub entry_pairs : List (Items ℕ × ℕ) → List (List ℕ × ℕ)
 entry_pairs entries = map entry_pair entries
+
+-- The entries as a finite map.
+abbrev pub map_of : List (Items ℕ × ℕ) → Values
+map_of entries = from_entries (entry_pairs entries)

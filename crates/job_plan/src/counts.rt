@@ -5,6 +5,7 @@ ghost use Rattle.flow_defs.specs.Aggregates.{key_of, value_of, folded};
 ghost use Rattle.flow_defs.specs.Records.{IsShort};
 ghost use Rattle.flow_defs.specs.Tables.{add};
 ghost use Rattle.stage_fns.specs.Meets.{MeetsAgg};
+ghost use Rattle.job_plan.specs.Entries.{map_of};
 
 use flow_defs::{AggKind, Bytes, Table};
 use stage_fns::AggFn;
@@ -71,6 +72,19 @@ impl Counts {
         }
     }
 
+    /// A copy of the counts as a table, as a snapshot holds it. It costs what copying the counts and
+    /// `into_table` do.
+    pub fn to_table(&self) -> Result<Table, AllocError>
+        ensures { IfOk result (λ table. table ≡ self.now) }
+    {
+        let copy = Counts {
+            alloc: self.alloc,
+            numbers: copy_of(self.alloc, &self.numbers)?,
+            key: Bytes::new(self.alloc),
+        };
+        copy.into_table()
+    }
+
     /// The counts as a table, whose rows are made in one pass over std's ordered map.
     pub fn into_table(self) -> Result<Table, AllocError>
         ensures { IfOk result (λ table. table ≡ self) }
@@ -82,6 +96,17 @@ impl Counts {
         }
         Ok(table)
     }
+}
+
+// A copy of the values of keys.
+fn copy_of(alloc: Global, numbers: &HashMap<Bytes, u64>) -> Result<HashMap<Bytes, u64>, AllocError>
+    ensures { IfOk result (λ copy. map_of copy.entries ≡ map_of numbers.now.entries) }
+{
+    let mut copy = HashMap::new(alloc);
+    for (key, number) in numbers.iter() {
+        copy.insert(Bytes::of(alloc, key.as_slice())?, *number)?;
+    }
+    Ok(copy)
 }
 
 // What the function of an aggregate of this kind answers.

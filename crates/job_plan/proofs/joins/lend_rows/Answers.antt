@@ -1,5 +1,4 @@
 use Rattle.std.proofs.Common.{◌++◌, ◌∷◌, [], List, ℕ, sym, ap, ◌∙◌, arith, append_assoc, take}
-use Rattle.flow_defs.specs.declared.table.Row.{Row}
 use Rattle.flow_defs.specs.Rows.{row_pair, row_pairs}
 use Rattle.job_plan.specs.Joins.{lent_pairs}
 use Rattle.job_plan.proofs.JoinLemmas.{one_lent, one_row}

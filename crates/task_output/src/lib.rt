@@ -9,6 +9,8 @@
 mod acks;
 pub mod laws;
 mod output;
+mod waiting;
 
 pub use acks::send_snapshot;
 pub use output::TaskOutput;
+pub use waiting::wait_for_image;

@@ -18,7 +18,8 @@ use Rattle.snapshot_channel.specs.Passes.{sent_by}
 use Rattle.task_output.specs.Outputs.{WritesFor, HasSent, BegunOn, end_of}
 use Rattle.source_task.specs.declared.output.SourceOutput.{SourceOutput}
 use Rattle.source_task.specs.Emitting.{AreSnapshots, HasEmitted, has_ended}
-use Rattle.source_task.specs.Sources.{SourceAccount, IsSourceCause, EndsAs, ToldAtEnd}
+use Rattle.source_task.specs.Sources.{SourceAccount, IsSourceCause}
+use Rattle.task_output.specs.Ending.{EndsAs, ToldAtEnd}
 
 -- ---- where it begins
 

@@ -23,6 +23,7 @@ use Rattle.record_writer.specs.Writers.{SendPass, AreOwnAt, HasSeenFault, ways_o
 use Rattle.snapshot_channel.specs.Passes as channels
 use Rattle.snapshot_channel.specs.Passes.{sent_by}
 use Rattle.task_output.specs.Outputs.{BegunOn, FinishedOn, all_of, end_of}
+use Rattle.task_output.specs.Ending.{EndsAs, ToldAtEnd}
 use Rattle.source_task.specs.declared.output.LineFault.{LineFault}
 use Rattle.source_task.specs.declared.output.SourceOutput.{SourceOutput}
 use Rattle.source_task.specs.declared.source.SourceTaskEnd.{SourceTaskEnd}
@@ -87,19 +88,6 @@ pub record IsLent (a : ℕ) (every : Option ℕ) (world : SourceWorld) : Type 0 
   pub every_is : (channels.opening_of world.snapshots.now).every ≡ every
   pub last_pass : IsPassOf world.last_image.now world.last_pass
   pub stop : IsPassOf world.stop.now world.stop_pass × (mine world.stop_pass ≡ [])
-
--- It ends with its cause, or was stopped where it was done.
-abbrev pub EndsAs : Cause → Cause → Type 0
-EndsAs cause told = (told ≡ cause) ⊎ ((cause ≡ causes.Done) × (told ≡ causes.Stopped))
-
--- A fault was told to the stop cell, and nothing else. It was done only where its pass had seen none.
-pub record ToldAtEnd (cell : StopCell) (cause told_cause : Cause) (before after : StopPass) : Type 0 where
-  pub pass : IsPassOf cell after
-  pub number_is : number after ≡ number before
-  pub told : mine after ≡ mine before ++ told_of told_cause
-  pub stopped : told_cause ≡ causes.Stopped → (cause ≡ causes.Stopped) ⊎ (seen after ≢ [])
-  pub done : told_cause ≡ causes.Done → seen after ≡ []
-  pub later : StartsWith (seen after) (seen before)
 
 -- The end hands back the passes of what the source emitted by.
 pub record IsEndOf (cell : StopCell) (out : SourceOutput) (cause : Cause) (end : SourceTaskEnd) : Type 0 where

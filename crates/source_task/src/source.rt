@@ -1,20 +1,20 @@
 // The task of a source.
-ghost use Rattle.std.specs.Prelude.{◌≡◌, ◌≤◌, [], IfSome};
+ghost use Rattle.std.specs.Prelude.{◌≡◌};
 ghost use Rattle.turn_cell.specs.Passes.{IsPassOf, mine};
 ghost use Rattle.record_writer.specs.Partitions.{ArePassesOf, IsPartitionOf};
 ghost use Rattle.snapshot_channel.specs.Passes as channels;
 ghost use Rattle.conn_parts.specs.Stopping.{ToldStop};
-ghost use Rattle.source_task.specs.Sources.{SourceAccount, IsLent, IsEndOf, EndsAs, ToldAtEnd};
+ghost use Rattle.source_task.specs.Sources.{SourceAccount, IsLent, IsEndOf};
 
 use crate::SourceOutput;
 use crate::reading::emit_lines;
 use flow_defs::{Cause, Job};
-use outside::{LastImage, Source, StopState, look_for_stop, tell_cause};
+use outside::{LastImage, Source, StopState};
 use record_writer::{Partition, PartitionPasses, RecordWriter};
 use snapshot_channel::{SnapshotChannel, TaskPass};
 use std::alloc::Global;
 use std::sync::Wait;
-use task_output::TaskOutput;
+use task_output::{TaskOutput, end_task};
 use turn_cell::{Pass, TurnCell};
 
 /// What a source shares with others: the job, the partition on which it sends, the channel of snapshots, the
@@ -137,27 +137,4 @@ fn end_output<'p, R: Wait>(
         stop_pass,
         cause,
     }
-}
-
-// Tells the other workers of a fault, and answers the cause with which the task ends: one that did its work
-// was stopped where another worker had met a fault before.
-fn end_task<R: Wait>(
-    rt: &R,
-    stop: &TurnCell<StopState>,
-    pass: &mut Pass<StopState>,
-    cause: Cause,
-) -> Cause
-    requires { IsPassOf stop.now pass.old }
-    ensures cause { EndsAs cause result }
-    ensures told { ToldAtEnd stop.now cause result pass.old pass.new }
-{
-    let told = match cause {
-        Cause::Done => match look_for_stop(rt, stop, pass) {
-            Some(_) => Cause::Stopped,
-            None => Cause::Done,
-        },
-        _ => cause,
-    };
-    tell_cause(rt, stop, pass, told);
-    told
 }

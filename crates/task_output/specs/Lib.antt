@@ -1,3 +1,4 @@
 pub mod Outputs
 pub mod Laws
 pub mod Waiting
+pub mod Ending

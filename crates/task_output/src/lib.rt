@@ -7,10 +7,12 @@
 #![tactic(auto)]
 
 mod acks;
+mod ending;
 pub mod laws;
 mod output;
 mod waiting;
 
 pub use acks::send_snapshot;
+pub use ending::end_task;
 pub use output::TaskOutput;
 pub use waiting::wait_for_image;

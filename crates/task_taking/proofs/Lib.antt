@@ -4,3 +4,4 @@ pub mod Senders
 pub mod InStep
 pub mod Groups
 pub mod Samples
+pub mod Giving

@@ -2,3 +2,4 @@ pub mod Runs
 pub mod Takings
 pub mod Steps
 pub mod Samples
+pub mod Endings

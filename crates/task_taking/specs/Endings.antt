@@ -1,0 +1,58 @@
+-- How a task that takes ends, and what its gate told it up to there. As in Flink a task goes on until all its channels have ended. That it
+-- ends only behind the last checkpoint of the job, which it has acknowledged, is this project's own choice.
+use Rattle.std.specs.Prelude.{◌≡◌, ◌≢◌, ℕ, zero, suc, ◌<◌, ◌⊎◌, ⊤, Bool, true, false, List, [], ◌∷◌, ◌++◌, length, Option}
+use Rattle.flow_defs.specs.declared.cause.Cause.{Cause}
+use Rattle.flow_defs.specs.declared.cause.Cause.TheVariants as causes
+use Rattle.flow_defs.specs.declared.cause.PeerFault.TheVariants as peers
+use Rattle.flow_defs.specs.declared.job.Job.{Job}
+use Rattle.barriers.specs.Alignments.{is_open}
+use Rattle.outside.specs.declared.last_image.Stored.{Stored}
+use Rattle.record_writer.specs.Writers.{ways_into}
+use Rattle.input_gate.specs.Gates.{Account, AllOver, stops_in}
+use Rattle.task_output.specs.Waiting.{KnowsLast}
+use Rattle.task_taking.specs.Takings.{Taking, HasTaken, IsAtBarrier, start_of, stop_if, told_of}
+use Rattle.task_taking.specs.Steps.{GaveFront, IsCutShort}
+
+-- ---- what the gate told
+
+-- Of each channel the gate told the lines of these groups, with a barrier behind each, and then those of the rest. Some channels may wait
+-- behind the next barrier.
+abbrev pub Gave : Job → ℕ → ℕ → Account → List (List (ℕ × List ℕ)) → List (ℕ × List ℕ) → Type 0
+Gave job e b gate groups rest =
+    (c : ℕ) → c < ways_into job e → (waits : Bool) × (gate.told c ≡ told_of (start_of job e b c) 1 groups rest ++ stop_if waits (suc (length groups)))
+
+-- So it did where the task takes on,
+abbrev pub TakenIsGiven : Type 0
+TakenIsGiven = (job : Job) (e b : ℕ) (gate : Account) (t : Taking) (groups : List (List (ℕ × List ℕ))) (took : List (ℕ × List ℕ)) → HasTaken job e b gate t groups took → Gave job e b gate groups took
+
+-- where it is at the next barrier,
+abbrev pub BarrierIsGiven : Type 0
+BarrierIsGiven = (job : Job) (e b : ℕ) (gate : Account) (t : Taking) (groups : List (List (ℕ × List ℕ))) (took : List (ℕ × List ℕ)) → IsAtBarrier job e b gate t groups took → Gave job e b gate groups took
+
+-- and where it has resumed its channels behind that, and has not acknowledged it.
+abbrev pub ResumedIsGiven : Type 0
+ResumedIsGiven =
+    (job : Job) (e b : ℕ) (gate : Account) (t : Taking) (groups : List (List (ℕ × List ℕ))) (took : List (ℕ × List ℕ)) →
+    HasTaken job e b gate t (groups ++ took ∷ []) [] → is_open t.alignment ≡ false → Gave job e b gate groups took
+
+-- ---- why it ends
+
+-- Whether the last of so many checkpoints that it has acknowledged is the last of the job, as it has seen.
+abbrev pub LastIs : Option ℕ → List (ℕ × Stored) → ℕ → Bool → Type 0
+LastIs every history zero last = last ≡ false
+LastIs every history (suc before) last = KnowsLast every history before last
+
+-- All channels ended before it had acknowledged the last checkpoint, or a line or a barrier came after it had.
+abbrev pub BreaksOrder : Option ℕ → List (ℕ × Stored) → Account → List (List (ℕ × List ℕ)) → List (ℕ × List ℕ) → Type 0
+BreaksOrder every history gate groups rest =
+    (LastIs every history (length groups) false × AllOver gate)
+    ⊎ (LastIs every history (length groups) true × ((rest ≢ []) ⊎ ((c : ℕ) → c < gate.channels → stops_in (gate.told c) ≡ suc (length groups))))
+
+-- Where it acknowledged a checkpoint behind each of these groups and took the rest, it ends so only for these reasons.
+abbrev pub IsTakerEnd : Option ℕ → List (ℕ × Stored) → Account → List (List (ℕ × List ℕ)) → List (ℕ × List ℕ) → Cause → Type 0
+IsTakerEnd every history gate groups rest causes.Done = AllOver gate × (rest ≡ []) × LastIs every history (length groups) true
+IsTakerEnd every history gate groups rest causes.Stopped = ⊤
+IsTakerEnd every history gate groups rest (causes.Peer peers.Left) = IsCutShort gate
+IsTakerEnd every history gate groups rest (causes.Peer peers.Barrier) = GaveFront gate ⊎ BreaksOrder every history gate groups rest
+IsTakerEnd every history gate groups rest causes.Memory = ⊤
+IsTakerEnd every history gate groups rest other = ⊥

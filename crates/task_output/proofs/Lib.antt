@@ -2,3 +2,4 @@ pub mod Entries
 pub mod OnChannel
 pub mod Sending
 pub mod Begun
+pub mod SeenLaws

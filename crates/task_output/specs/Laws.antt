@@ -1,7 +1,7 @@
 -- What else is known of what a task sent. Each is proved as a clause of a function of `laws`.
-use Rattle.std.specs.Prelude.{◌≡◌, ℕ, List, [], ◌∷◌, ◌++◌}
+use Rattle.std.specs.Prelude.{ℕ, List, [], ◌∷◌, ◌++◌}
 use Rattle.flow_defs.specs.declared.job.Job.{Job}
-use Rattle.task_output.specs.Outputs.{Output, HasSent, HasBegun, HasStopped, HasFinished}
+use Rattle.task_output.specs.Outputs.{Output, HasSent, HasBegun, HasFinished}
 
 -- A task that goes on has begun nothing more than it emitted.
 abbrev pub SentIsBegun : Type 0

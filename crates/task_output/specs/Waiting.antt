@@ -1,6 +1,7 @@
 -- What a task learns of the images that were stored. As with Flink's default one checkpoint is open at a time. That a task tells the last
 -- checkpoint of a job by the image before it is this project's own choice.
-use Rattle.std.specs.Prelude.{◌≡◌, ℕ, zero, suc, ◌≤◌, Bool, true, false, List, Option, Some, None}
+use Rattle.std.specs.Prelude.{◌≡◌, ℕ, zero, suc, ◌≤◌, ⊤, Bool, true, false, List, Contains, Option, Some, None}
+use Rattle.turn_cell.specs.History.{StartsWith, entries_of}
 use Rattle.outside.specs.declared.last_image.Stored.{Stored}
 use Rattle.outside.specs.LastImages.{last_stored}
 
@@ -17,3 +18,18 @@ abbrev pub KnowsLast : Option ℕ → List (ℕ × Stored) → ℕ → Bool → 
 KnowsLast None history before last = last ≡ true
 KnowsLast (Some interval) history zero last = last ≡ false
 KnowsLast (Some interval) history (suc before) last = HasSeenStored history (suc before) last
+
+-- Where a task has sent so many snapshots one by one, it has seen by this history the image before the last of them, or one behind that.
+-- Before the first there is none.
+abbrev pub HasWaited : ℕ → List (ℕ × Stored) → Type 0
+HasWaited zero history = ⊤
+HasWaited (suc zero) history = ⊤
+HasWaited (suc (suc before)) history = (stored : Stored) × Contains (entries_of history) stored × (suc before ≤ stored.number)
+
+-- So it has where it has seen that one.
+abbrev pub SeenIsWaited : Type 0
+SeenIsWaited = (history : List (ℕ × Stored)) (number : ℕ) (all_ended : Bool) → HasSeenStored history number all_ended → HasWaited (suc number) history
+
+-- And it stays so.
+abbrev pub WaitedStays : Type 0
+WaitedStays = (count : ℕ) (history later : List (ℕ × Stored)) → StartsWith later history → HasWaited count history → HasWaited count later

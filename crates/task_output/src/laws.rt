@@ -1,5 +1,6 @@
 //! What else is known of what a task sent. Each function does nothing; what it ensures is the law.
 ghost use Rattle.task_output.specs.Laws.{SentIsBegun, FinishedIsBegun, BarrierIsLeftAside};
+ghost use Rattle.task_output.specs.Waiting.{SeenIsWaited, WaitedStays};
 
 use checkpoint_laws::laws::stretches_grow;
 use plain_machine::laws::emits_in_parts;
@@ -13,3 +14,9 @@ pub fn what_was_sent_was_begun()
     stretches_grow();
     emits_in_parts();
 }
+
+/// What a task has seen of the images that were stored.
+pub fn what_was_seen_stays()
+    ensures seen { SeenIsWaited }
+    ensures stays { WaitedStays }
+{}

@@ -1,9 +1,11 @@
 -- How what a source emitted grows.
-use Rattle.std.proofs.Common.{ℕ, List, refl, ◌∙◌}
+use Rattle.std.proofs.Common.{ℕ, List, length, refl, ◌∙◌}
 use Rattle.turn_cell.specs.Passes as passes
 use Rattle.flow_defs.specs.declared.job.Job.{Job}
 use Rattle.record_writer.specs.Writers.{Writer, IsSame}
 use Rattle.task_output.specs.Outputs.{Output, HasSent}
+use Rattle.task_output.specs.Waiting.{HasWaited}
+use Rattle.snapshot_channel.specs.Passes.{sent_by}
 use Rattle.source_task.specs.declared.output.SourceOutput.{SourceOutput}
 use Rattle.source_task.specs.Emitting.{LastPass, HasEmitted, IsSource, IsSameSource}
 
@@ -61,13 +63,13 @@ module _ (out : SourceOutput) (o : Output) (p : LastPass)
     at_end = was.at_end;
   }
 
-  pub still_source : passes.IsPassOf out.last_image.now p → IsSource out → IsSource after
-  still_source pass was = record {
+  pub still_source : passes.IsPassOf out.last_image.now p → HasWaited (length (sent_by out.pass)) (passes.seen p) → IsSource out → IsSource after
+  still_source pass waited was = record {
     job = was.job;
     size = was.size;
     lines = was.lines;
     emitted = still_emitted was.job was.size was.lines was.emitted;
-    own = record { pass = was.own.pass; task = was.own.task; last_pass = pass };
+    own = record { pass = was.own.pass; task = was.own.task; last_pass = pass; waited = waited };
     base = was.base;
     every_is = was.every_is;
   }

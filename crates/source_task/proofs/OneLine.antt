@@ -38,7 +38,7 @@ module _ (out : SourceOutput) (line : List ℕ) (short : IsShort line) (not_ende
       size = source.size;
       lines = source.lines ++ line ∷ [];
       emitted = line_emitted source.job source.size source.lines source.emitted sent;
-      own = record { pass = source.own.pass; task = source.own.task; last_pass = source.own.last_pass };
+      own = record { pass = source.own.pass; task = source.own.task; last_pass = source.own.last_pass; waited = source.own.waited };
       base = source.base;
       every_is = source.every_is;
     }

@@ -20,6 +20,8 @@ use Rattle.snapshot_channel.specs.Snapshots.{AreTakesAt, FitsTask, LeadsTo, Come
 use Rattle.snapshot_channel.specs.Passes.{opening_of, sent_by, task_of}
 use Rattle.task_output.specs.Outputs.{Output, HasSent, HasBegun, HasStopped, all_of, count_behind}
 use Rattle.task_output.specs.Laws.{SentIsBegun, BarrierIsLeftAside}
+use Rattle.task_output.specs.Waiting.{HasWaited}
+use Rattle.turn_cell.specs.Passes.{seen}
 use Rattle.source_task.specs.declared.output.SourceOutput.{SourceOutput}
 use Rattle.source_task.specs.Emitting.{IsSnapshotAt, IsInterval, AreSnapshots, HasEmitted, HasBroken, IsSource, has_ended}
 use Rattle.source_task.proofs.Snapshots.{all_more, as_many, snapshots_more}
@@ -134,3 +136,14 @@ may_send out k counted x source at next interval at_end = record {
 pub interval_same : (every every' : Option ℕ) (lines lines' : ℕ) (ended ended' : Bool) → every' ≡ every → lines' ≡ lines → ended' ≡ ended → IsInterval every lines ended → IsInterval every' lines' ended'
 interval_same every every' lines lines' ended ended' first second third interval =
     subst (λ (e : Option ℕ). IsInterval e lines' ended') (sym first) (subst (λ (n : ℕ). IsInterval every n ended') (sym second) (subst (λ (b : Bool). IsInterval every lines b) (sym third) interval))
+
+-- ---- what it has waited for
+
+pub waited_more : (out : SourceOutput) (pass : TaskPass) (x : Snapshot) → IsSource out → sent_by pass ≡ sent_by out.pass ++ x ∷ [] → HasWaited (suc out.barriers) (seen out.last_pass) → HasWaited (length (sent_by pass)) (seen out.last_pass)
+waited_more out pass x source sent waited = subst (λ n. HasWaited n (seen out.last_pass)) many waited
+  where
+    as_sent : length (sent_by out.pass) ≡ length source.emitted.groups
+    as_sent = as_many out.index out.every 0 0 0 source.emitted.groups (sent_by out.pass) source.emitted.snapshots
+
+    many : suc out.barriers ≡ length (sent_by pass)
+    many = omega (arith, source.emitted.barriers_are, as_sent, length-append (sent_by out.pass) (x ∷ []), ap length sent)

@@ -5,6 +5,7 @@ use Rattle.std.specs.List.{AllByRecursion, list_any}
 use Rattle.std.specs.FinMap.{empty}
 use Rattle.turn_cell.specs.declared.pass.Pass.{Pass}
 use Rattle.turn_cell.specs.Passes as passes
+use Rattle.turn_cell.specs.Passes.{seen}
 use Rattle.flow_defs.specs.declared.job.Job.{Job}
 use Rattle.flow_defs.specs.declared.image.Snapshot.{Snapshot}
 use Rattle.flow_defs.specs.Records.{IsShort}
@@ -15,6 +16,7 @@ use Rattle.outside.specs.declared.last_image.Stored.{Stored}
 use Rattle.record_writer.specs.Writers.{IsSame, HasSeenFault}
 use Rattle.snapshot_channel.specs.Passes.{IsPassOf, opening_of, sent_by, task_of}
 use Rattle.task_output.specs.Outputs.{HasSent, HasBegun, HasFinished, all_of}
+use Rattle.task_output.specs.Waiting.{HasWaited}
 use Rattle.source_task.specs.declared.output.SourceOutput.{SourceOutput}
 use Rattle.source_task.specs.declared.output.LineFault.{LineFault}
 use Rattle.source_task.specs.declared.output.LineFault.TheVariants as faults
@@ -91,11 +93,12 @@ pub record HasEnded (job : Job) (size : ℕ) (out : SourceOutput) (lines : List 
   pub snapshots : AreSnapshots out.index out.every 0 0 0 groups (sent_by out.pass)
   pub ended : has_ended (sent_by out.pass) ≡ true
 
--- Its passes are of its cells and its channel.
+-- Its passes are of its cells and its channel. It has sent a snapshot only where it had seen the image of the checkpoint before.
 pub record HasOwnPasses (out : SourceOutput) : Type 0 where
   pub pass : IsPassOf out.snapshots.now out.pass
   pub task : task_of out.pass ≡ task_at 0 out.index
   pub last_pass : passes.IsPassOf out.last_image.now out.last_pass
+  pub waited : HasWaited (length (sent_by out.pass)) (seen out.last_pass)
 
 -- What a source has at hand is its own: it has emitted some lines, and its channel of snapshots is opened from the start on for its
 -- interval.

@@ -3,7 +3,7 @@
 use Rattle.std.specs.Prelude.{◌≡◌, ◌≢◌, ℕ, ◌<◌, ◌≤◌, ◌⊎◌, ⊤, true, List, [], ◌++◌, length, Option, IfSome}
 use Rattle.std.specs.List.{AllByRecursion}
 use Rattle.turn_cell.specs.History.{StartsWith}
-use Rattle.turn_cell.specs.Passes.{IsPassOf, number, seen, mine}
+use Rattle.turn_cell.specs.Passes.{IsPassOf, mine}
 use Rattle.flow_defs.specs.declared.cause.Cause.{Cause}
 use Rattle.flow_defs.specs.declared.cause.Cause.TheVariants as causes
 use Rattle.flow_defs.specs.declared.job.Job.{Job}
@@ -13,11 +13,10 @@ use Rattle.flow_defs.specs.Records.{IsShort}
 use Rattle.plain_machine.specs.Emitting.{receiver_on}
 use Rattle.checkpoint_laws.specs.Chapters.{task_at}
 use Rattle.outside.specs.Faults.{HasRisen}
-use Rattle.outside.specs.Stops.{told_of}
 use Rattle.job_plan.specs.Limits.{HasLongLine}
 use Rattle.job_plan.specs.declared.limits.TheConstants.{SOURCE_MAX}
 use Rattle.conn_parts.specs.Shares.{mine_at}
-use Rattle.conn_parts.specs.Stopping.{StopCell, StopPass}
+use Rattle.conn_parts.specs.Stopping.{StopCell}
 use Rattle.record_writer.specs.Partitions.{IsPartitionOf}
 use Rattle.record_writer.specs.Writers.{SendPass, AreOwnAt, HasSeenFault, ways_on}
 use Rattle.snapshot_channel.specs.Passes as channels

@@ -1,20 +1,22 @@
 // What a source emits by, and where it stands.
-ghost use Rattle.std.specs.Prelude.{◌≡◌, ◌++◌, [], ◌∷◌, ◌<◌, ℕ, List, Bool, true, false, OnOk, OnErr, IfOk, IfErr, MatchResult};
+ghost use Rattle.std.specs.Prelude.{suc, ◌≡◌, ◌++◌, [], ◌∷◌, ◌<◌, ℕ, List, Bool, true, false, OnOk, OnErr, IfOk, IfErr, MatchResult};
 ghost use Rattle.flow_defs.specs.declared.job.Job.{Job};
 ghost use Rattle.flow_defs.specs.Records.{IsShort};
 ghost use Rattle.record_writer.specs.Writers.{HasSeenFault};
 ghost use Rattle.snapshot_channel.specs.Passes.{sent_by};
+ghost use Rattle.task_output.specs.Waiting.{HasWaited};
+ghost use Rattle.turn_cell.specs.Passes.{seen};
 ghost use Rattle.source_task.specs.Emitting.{IsInterval, IsSnapshotAt, IsSource, IsReading, HasOwnPasses, IsSameSource, HasEmitted, HasBroken, HasEnded, LineEmitted, CheckpointTaken, BreaksFor, has_ended};
 
 use flow_defs::{ListOf, Snapshot, Table, TaskId};
-use outside::{LastImage, Pause, look_for_stored};
+use outside::LastImage;
 use plain_machine::laws::emits_in_parts;
 use record_writer::WriterStopped;
 use snapshot_channel::{SnapshotChannel, TaskPass};
 use std::alloc::Global;
 use std::sync::Wait;
-use task_output::laws::what_was_sent_was_begun;
-use task_output::{TaskOutput, send_snapshot};
+use task_output::laws::{what_was_seen_stays, what_was_sent_was_begun};
+use task_output::{TaskOutput, send_snapshot, wait_for_image};
 use turn_cell::{Pass, TurnCell};
 
 /// Why a source emits no further.
@@ -206,23 +208,19 @@ impl<'a, 'p> SourceOutput<'a, 'p> {
         ensures kept { (self.new.pass ≡ self.old.pass) × (self.new.barriers ≡ self.old.barriers) × (self.new.offset ≡ self.old.offset) × (self.new.since ≡ self.old.since) }
         ensures source { IsSource self.new }
         ensures emitted { (job : Job) (size : ℕ) (lines : List (List ℕ)) → HasEmitted job size self.old lines → HasEmitted job size self.new lines }
+        ensures waited { OnOk result (HasWaited (suc self.new.barriers) (seen self.new.last_pass)) }
         ensures stopped { OnErr result (HasSeenFault self.new.output.writer) }
     {
+        what_was_seen_stays();
         if self.barriers == 0 {
             return Ok(false);
         }
-        let mut pause = Pause::new();
-        for _round in rt.forever() {
-            match look_for_stored(rt, self.last_image, &mut self.last_pass) {
-                Some(stored) if stored.number >= self.barriers => return Ok(stored.all_ended),
-                _ => {}
-            }
-            match self.output.look_for_stop(rt) {
-                Ok(()) => {}
-                Err(stopped) => return Err(stopped),
-            }
-            pause.wait(rt);
-        }
-        unreachable!()
+        wait_for_image(
+            rt,
+            self.last_image,
+            &mut self.last_pass,
+            &mut self.output,
+            self.barriers,
+        )
     }
 }

@@ -1,9 +1,10 @@
 // The task of a source.
-ghost use Rattle.std.specs.Prelude.{◌≡◌};
-ghost use Rattle.turn_cell.specs.Passes.{IsPassOf, mine};
-ghost use Rattle.record_writer.specs.Partitions.{ArePassesOf, IsPartitionOf};
+ghost use Rattle.std.specs.Prelude.{◌≡◌, length};
+ghost use Rattle.turn_cell.specs.Passes.{IsPassOf, seen};
+ghost use Rattle.record_writer.specs.Partitions.{ArePassesOf};
 ghost use Rattle.snapshot_channel.specs.Passes as channels;
 ghost use Rattle.conn_parts.specs.Stopping.{ToldStop};
+ghost use Rattle.task_output.specs.Waiting.{HasWaited};
 ghost use Rattle.source_task.specs.Sources.{SourceAccount, IsLent, IsEndOf};
 
 use crate::SourceOutput;
@@ -61,6 +62,7 @@ pub fn run_source<'a, 'p, S: Source, R: Wait>(
     ensures partition { ArePassesOf world.entry.job.now 0 world.entry.partition result.partition }
     ensures snapshots { channels.IsPassOf world.entry.snapshots.now result.snapshot_pass × (channels.task_of result.snapshot_pass ≡ channels.task_of world.entry.snapshot_pass) }
     ensures last_image { IsPassOf world.entry.last_image.now result.last_pass }
+    ensures waited { HasWaited (length (channels.sent_by result.snapshot_pass)) (seen result.last_pass) }
     ensures account { SourceAccount world.entry.job.now index world.entry.partition.size every result.partition.subpartitions.items (channels.sent_by result.snapshot_pass) (S.left input.old) (S.faults input.old) (S.faults input.new) result.cause }
     ensures stop { ToldStop world.entry.stop.now result.cause world.entry.stop_pass result.stop_pass }
 {

@@ -1,5 +1,7 @@
-use Rattle.std.proofs.Common.{[], ap, sym, subst, ◌∙◌, refl, arith}
-use Rattle.turn_cell.specs.Passes.{IsSamePass}
+use Rattle.std.proofs.Common.{List, [], length, ap, sym, subst, ◌∙◌, refl, arith}
+use Rattle.turn_cell.specs.Passes.{IsSamePass, seen}
+use Rattle.flow_defs.specs.declared.image.Snapshot.{Snapshot}
+use Rattle.task_output.specs.Waiting.{HasWaited}
 use Rattle.flow_defs.specs.declared.cause.Cause.TheVariants as causes
 use Rattle.record_writer.specs.declared.partition.PartitionPasses.{PartitionPasses}
 use Rattle.record_writer.specs.Writers.{Writer}
@@ -20,7 +22,7 @@ emit_lines-cause-requires g c =
         size = c.args.world.partition.size;
         lines = [];
         emitted = emitted_none c.args.world.job.now c.args.world.partition c.in-Ok.writer out c.in-Ok.ensures.is_of.0 c.in-Ok.ensures.new c.new-in-Ok.ensures.none lent.pass.1 refl refl refl;
-        own = record { pass = lent.pass.0; task = lent.task; last_pass = lent.last_pass };
+        own = record { pass = lent.pass.0; task = lent.task; last_pass = lent.last_pass; waited = subst (λ (xs : List Snapshot). HasWaited (length xs) (seen c.args.world.last_pass)) (sym lent.pass.1) tt };
         base = lent.base;
         every_is = lent.every_is;
       };

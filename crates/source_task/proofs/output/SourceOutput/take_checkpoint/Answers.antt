@@ -1,7 +1,7 @@
 use Rattle.std.proofs.Common.{rules, ◌≡◌, ◌+◌, ◌++◌, ◌∷◌, [], ap, sym, ◌∙◌}
 use Rattle.snapshot_channel.specs.Passes.{sent_by}
 use Rattle.source_task.specs.Emitting.{has_ended}
-use Rattle.source_task.proofs.Taking.{broken_still, broken_at_barrier, broken_behind_barrier, taken, may_send, interval_same}
+use Rattle.source_task.proofs.Taking.{waited_more, broken_still, broken_at_barrier, broken_behind_barrier, taken, may_send, interval_same}
 use Rattle.source_task.proofs.output.SourceOutput.take_checkpoint.Goals as goal
 
 pub returns-in_default-clause-taken : goal.returns-in_default-clause-taken
@@ -60,7 +60,23 @@ returns-clause-source g c =
       emitted = taken c.emits_in_parts.ensures.count out c.send_snapshot.new.output c.send_snapshot.new.pass c.in-Some.k x c.mark.new.self.emitted c.snapshot-snapshot.ensures.at next
           (interval_same c.args.self.now.every out.every c.args.self.now.since out.since c.args.ended x.ended c.wait_for_image.ensures.same.every_is c.wait_for_image.ensures.kept.3 c.snapshot-snapshot.ensures.ended c.requires.interval)
           c.in-Ok-send_snapshot.ensures.sent source.job source.size source.lines was (c.send_snapshot.ensures.still source.job 0 out.index source.size (was.groups ++ was.rest ∷ []) [] marked) marked.counted;
-      own = record { pass = c.send_snapshot.ensures.pass.0; task = c.send_snapshot.ensures.pass.1 ∙ source.own.task; last_pass = source.own.last_pass };
+      own = record {
+        pass = c.send_snapshot.ensures.pass.0;
+        task = c.send_snapshot.ensures.pass.1 ∙ source.own.task;
+        last_pass = source.own.last_pass;
+        waited = waited_more out c.send_snapshot.new.pass x source c.in-Ok-send_snapshot.ensures.sent c.in-Ok.ensures.waited;
+      };
       base = source.base;
       every_is = source.every_is;
+    }
+
+pub returns-clause-own : goal.returns-clause-own
+returns-clause-own g c =
+    let out = c.wait_for_image.new.self in
+    let source = c.wait_for_image.ensures.source in
+    record {
+      pass = c.send_snapshot.ensures.pass.0;
+      task = c.send_snapshot.ensures.pass.1 ∙ source.own.task;
+      last_pass = source.own.last_pass;
+      waited = waited_more out c.send_snapshot.new.pass c.snapshot-snapshot.result source c.in-Ok-send_snapshot.ensures.sent c.in-Ok.ensures.waited;
     }

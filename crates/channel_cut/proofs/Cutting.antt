@@ -1,23 +1,22 @@
 -- What was put before a barrier is what was taken before it.
-use Rattle.std.proofs.Common.{◌≡◌, ℕ, zero, suc, ◌+◌, ◌<◌, Bool, true, false, cond, eqb, List, [], ◌∷◌, ◌++◌, length, take, flat_map, refl, sym, ap, subst, ◌∙◌, append-nil, append_assoc, arith}
+use Rattle.std.proofs.Common.{◌≡◌, ℕ, zero, suc, ◌<◌, true, false, cond, eqb, List, [], ◌∷◌, ◌++◌, length, take, flat_map, refl, sym, ap, subst, ◌∙◌, append-nil, append_assoc, arith}
 use Rattle.std.specs.Prelude.{map}
 use Rattle.std.specs.List.{AllByRecursion}
 use Rattle.std.proofs.lemmas.List.Concat.{flat_map-append}
-use Rattle.turn_cell.specs.History.{StartsWith}
 use Rattle.flow_defs.specs.declared.task.BarrierKind.TheVariants.{Inline, Front}
 use Rattle.flow_defs.specs.declared.parcel.Parcel.{Parcel}
 use Rattle.flow_defs.specs.declared.parcel.Parcel.TheVariants.{Data, Barrier, End}
-use Rattle.flow_defs.specs.Records.{all_encoded, encoded, spans, IsShort}
+use Rattle.flow_defs.specs.Records.{all_encoded, encoded, spans}
 use Rattle.plain_machine.specs.Images.{AreSpans}
 use Rattle.plain_machine.specs.Histories.{of_sender}
 use Rattle.plain_machine.specs.Theorems.{SpansAreRecords}
 use Rattle.checkpoint_laws.specs.Puts.{stretches, onto_first, put_before}
 use Rattle.input_gate.specs.Gates.{Told, Line, Stop, stops_in}
-use Rattle.input_gate.specs.Told.{behind_spans, past, told, current, but}
+use Rattle.input_gate.specs.Told.{behind_spans, past, current, but}
 use Rattle.input_gate.proofs.Growing.{left-rest}
 use Rattle.task_taking.specs.Takings.{told_of, lines_of, stop_if}
 use Rattle.task_taking.proofs.Told.{stops-append}
-use Rattle.channel_cut.specs.Travelling.{IsInline, AreInline}
+use Rattle.channel_cut.specs.Travelling.{AreInline}
 use Rattle.channel_cut.specs.Cuts.{CutAtBarrier, taken_in}
 
 -- ---- stretches
@@ -88,7 +87,7 @@ module _ (law : SpansAreRecords) (s : ℕ) (more : List (ℕ × List ℕ)) (last
   first_is j given bytes n group groups is spanned =
       let whole = are_whole law bytes spanned in
       let parts = same_first (spans bytes) (of_sender s group) j n (past (behind_spans bytes) given ++ rest) (told_of s (suc n) groups more ++ last)
-              (sym (append_assoc (map Line (spans bytes)) (Stop j ∷ past (behind_spans bytes) given) rest) ∙ is ∙ append_assoc (lines_of s group) (Stop n ∷ told_of s (suc n) groups more) last) in
+      (sym (append_assoc (map Line (spans bytes)) (Stop j ∷ past (behind_spans bytes) given) rest) ∙ is ∙ append_assoc (lines_of s group) (Stop n ∷ told_of s (suc n) groups more) last) in
       record {
         here = append-nil bytes ∙ whole.are ∙ ap all_encoded (sym whole.given ∙ parts.0);
         later = ap (λ l. past l given ++ rest) (sym whole.none_left) ∙ parts.1;

@@ -1,3 +1,4 @@
 pub mod Lines
 pub mod Polling
 pub mod Cutting
+pub mod Running

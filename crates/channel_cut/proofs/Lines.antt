@@ -1,7 +1,6 @@
 -- What travels in line.
-use Rattle.std.proofs.Common.{◌≡◌, ℕ, Bool, true, false, cond, List, [], ◌∷◌, ◌++◌, Option, Some, None, refl, sym, ap, subst, ◌∙◌, append-nil, append_assoc}
-use Rattle.std.specs.Prelude.{option_to_list, drop, ◌&&◌}
-use Rattle.std.specs.List.{AllByRecursion}
+use Rattle.std.proofs.Common.{◌≡◌, Bool, true, false, cond, List, [], ◌∷◌, ◌++◌, refl, sym, ap, subst, ◌∙◌, append-nil, append_assoc}
+use Rattle.std.specs.Prelude.{option_to_list, ◌&&◌}
 use Rattle.turn_cell.specs.History.{StartsWith}
 use Rattle.flow_defs.specs.declared.task.BarrierKind.TheVariants.{Inline, Front}
 use Rattle.flow_defs.specs.declared.parcel.Parcel.{Parcel}
@@ -13,7 +12,7 @@ use Rattle.input_channel.specs.declared.entry.ReceiveEntry.{ReceiveEntry}
 use Rattle.input_channel.specs.declared.entry.ReceiveEntry.TheVariants as receives
 use Rattle.input_channel.specs.Inboxes.{Inbox, Arrived, WasPolled, Waits, inbox, pushed, waiting, front_waits, due, first_parcel, first_barrier, poll_first, poll_barrier, poll_due, is_barrier, polled_one, received_from, empty_inbox}
 use Rattle.task_output.specs.Outputs.{parcels_put}
-use Rattle.channel_cut.specs.Travelling.{IsInline, AreInline, PutIsInline, GivenBeginsPut}
+use Rattle.channel_cut.specs.Travelling.{AreInline, PutIsInline, GivenBeginsPut}
 
 -- ---- lists
 

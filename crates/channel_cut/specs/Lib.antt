@@ -1,2 +1,3 @@
 pub mod Travelling
 pub mod Cuts
+pub mod Runs

@@ -19,9 +19,9 @@ use Rattle.plain_machine.specs.Theorems.{EmittedAreShort}
 use Rattle.checkpoint_laws.specs.Puts.{stretches}
 use Rattle.checkpoint_laws.specs.Chapters.{Linked, GoesOn, Chapter, opening, Step}
 use Rattle.record_writer.specs.Writers.{ways, receiver_at}
-use Rattle.task_output.specs.Outputs.{brought, all_of}
+use Rattle.task_output.specs.Outputs.{brought, all_of, place_to, parcels_to}
 use Rattle.source_task.specs.Emitting.{IsInterval, AreSnapshots, has_ended}
-use Rattle.source_task.specs.Accounts.{SourceHasAccount, place_to, parcels_to}
+use Rattle.source_task.specs.Accounts.{SourceHasAccount}
 use Rattle.source_task.proofs.Snapshots.{or_first, or_second}
 
 -- ---- lists
@@ -141,7 +141,7 @@ source_has_account short_law job all base a size every passes sent bytes fell ro
     let front = was.front in
     let whole : all a ≡ [] ++ (all_of was.groups ++ (rest ++ front.0)) = all_is ∙ front.1 ∙ append_assoc (all_of was.groups) rest front.0 in
     let chapters = chapters_of job a 0 was.groups sent in
-    let more : ℕ → List (List ℕ) = λ b. drop (length was.groups) (stretches (parcels_to job passes b)) in (
+    let more : ℕ → List (List ℕ) = λ b. drop (length was.groups) (stretches (parcels_to job 0 passes b)) in (
       chapters,
       more,
       record {
@@ -156,7 +156,7 @@ source_has_account short_law job all base a size every passes sent bytes fell ro
             let parts = and_parts _ _ channel in
             let place = place_of (exchange job 0) a (tasks job 1) b (ltb-true b (tasks job 1) (and_parts _ _ parts.0).1) parts.1 in
             let on = was.put (place_to (exchange job 0) b) place.inside in
-            let cut : stretches (parcels_to job passes b) ≡ brought to 0 was.groups b ++ on.more = on.cut ∙ ap (λ t. brought to 0 was.groups t ++ on.more) place.leads in
+            let cut : stretches (parcels_to job 0 passes b) ≡ brought to 0 was.groups b ++ on.more = on.cut ∙ ap (λ t. brought to 0 was.groups t ++ on.more) place.leads in
             cut ∙ ap (λ l. l ++ on.more) (sym (puts_are job a every b 0 0 0 was.groups sent was.snapshots))
             ∙ ap (λ l. map (λ (c : Chapter). c.put b) chapters ++ l) (sym (ap (drop (length was.groups)) cut ∙ drop_front (brought to 0 was.groups b) on.more (length was.groups) (many_brought job a to 0 was.groups b)));
       },

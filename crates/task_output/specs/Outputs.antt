@@ -5,6 +5,8 @@ use Rattle.std.specs.Prelude.{◌≡◌, ◌≢◌, ℕ, suc, ◌<◌, List, [],
 use Rattle.std.specs.Option.{option_map_or}
 use Rattle.turn_cell.specs.Passes.{seen}
 use Rattle.flow_defs.specs.Items.{Items}
+use Rattle.flow_defs.specs.declared.job.Exchange.{Exchange}
+use Rattle.flow_defs.specs.declared.job.Exchange.TheVariants.{Hash, Rebalance, Forward}
 use Rattle.flow_defs.specs.declared.job.Job.{Job}
 use Rattle.flow_defs.specs.declared.parcel.Parcel.{Parcel}
 use Rattle.flow_defs.specs.declared.parcel.Parcel.TheVariants.{Data, Barrier, End}
@@ -15,7 +17,8 @@ use Rattle.plain_machine.specs.Emitting.{receiver_on, emit, count_after}
 use Rattle.checkpoint_laws.specs.Puts.{stretches}
 use Rattle.subpartition.specs.declared.entry.SendEntry.{SendEntry}
 use Rattle.subpartition.specs.declared.entry.SendEntry.TheVariants.{Put, PutInline, Finish, Take, Size}
-use Rattle.record_writer.specs.Writers.{Writer, IsOpen, IsNextBarrier, PutSome, PutAll, ways_on, receiver_at, own_at}
+use Rattle.conn_parts.specs.Shares.{mine_at}
+use Rattle.record_writer.specs.Writers.{Writer, SendPass, IsOpen, IsNextBarrier, PutSome, PutAll, ways_on, receiver_at, own_at}
 
 -- ---- what is put on a channel
 
@@ -58,6 +61,18 @@ module _ (to : ℕ → List ℕ → ℕ) (groups : List (List (List ℕ))) (b : 
   pub record FinishedOn (size : ℕ) (records : List (List ℕ)) (own : List SendEntry) : Type 0 where
     pub cut : stretches (parcels_put own) ≡ brought to 0 groups b ++ all_encoded (emit to (count_behind groups) records b) ∷ []
     pub all : PutAll size own (all_encoded (emit to 0 (all_of groups ++ records) b))
+
+-- ---- the channel to a task
+
+-- The place of the channel to task b among those of a task.
+abbrev pub place_to : Exchange → ℕ → ℕ
+place_to Hash b = b
+place_to Rebalance b = b
+place_to Forward b = 0
+
+-- What a task before edge e put on the channel to task b.
+abbrev pub parcels_to : Job → ℕ → List SendPass → ℕ → List Parcel
+parcels_to job e passes b = parcels_put (mine_at (place_to (exchange job e) b) passes)
 
 -- ---- what a task sent
 

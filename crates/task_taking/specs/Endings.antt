@@ -6,11 +6,15 @@ use Rattle.flow_defs.specs.declared.cause.Cause.TheVariants as causes
 use Rattle.flow_defs.specs.declared.cause.PeerFault.TheVariants as peers
 use Rattle.flow_defs.specs.declared.job.Job.{Job}
 use Rattle.barriers.specs.Alignments.{is_open}
+use Rattle.turn_cell.specs.Passes.{IsPassOf, number, seen, mine}
+use Rattle.outside.specs.Stops.{told_of}
+use Rattle.conn_parts.specs.Stopping.{StopCell, StopPass}
 use Rattle.outside.specs.declared.last_image.Stored.{Stored}
 use Rattle.record_writer.specs.Writers.{ways_into}
 use Rattle.input_gate.specs.Gates.{Account, AllOver, stops_in}
 use Rattle.task_output.specs.Waiting.{KnowsLast}
-use Rattle.task_taking.specs.Takings.{Taking, HasTaken, IsAtBarrier, start_of, stop_if, told_of}
+use Rattle.task_taking.specs.Takings.{Taking, HasTaken, IsAtBarrier, start_of, stop_if}
+use Rattle.task_taking.specs.Takings as takings
 use Rattle.task_taking.specs.Steps.{GaveFront, IsCutShort}
 
 -- ---- what the gate told
@@ -19,7 +23,7 @@ use Rattle.task_taking.specs.Steps.{GaveFront, IsCutShort}
 -- behind the next barrier.
 abbrev pub Gave : Job → ℕ → ℕ → Account → List (List (ℕ × List ℕ)) → List (ℕ × List ℕ) → Type 0
 Gave job e b gate groups rest =
-    (c : ℕ) → c < ways_into job e → (waits : Bool) × (gate.told c ≡ told_of (start_of job e b c) 1 groups rest ++ stop_if waits (suc (length groups)))
+    (c : ℕ) → c < ways_into job e → (waits : Bool) × (gate.told c ≡ takings.told_of (start_of job e b c) 1 groups rest ++ stop_if waits (suc (length groups)))
 
 -- So it did where the task takes on,
 abbrev pub TakenIsGiven : Type 0
@@ -56,3 +60,14 @@ IsTakerEnd every history gate groups rest (causes.Peer peers.Left) = IsCutShort 
 IsTakerEnd every history gate groups rest (causes.Peer peers.Barrier) = GaveFront gate ⊎ BreaksOrder every history gate groups rest
 IsTakerEnd every history gate groups rest causes.Memory = ⊤
 IsTakerEnd every history gate groups rest other = ⊥
+
+-- ---- what it tells of its end
+
+-- A fault was told to the stop cell by the task's own pass, and nothing else. It was stopped only where its pass had seen a fault, or
+-- its gate had, and was done only where its pass had seen none.
+pub record ToldStop (cell : StopCell) (saw_at_gate : Type 0) (cause : Cause) (before after : StopPass) : Type 0 where
+  pub pass : IsPassOf cell after
+  pub number_is : number after ≡ number before
+  pub told : mine after ≡ mine before ++ told_of cause
+  pub stopped : cause ≡ causes.Stopped → saw_at_gate ⊎ (seen after ≢ [])
+  pub done : cause ≡ causes.Done → seen after ≡ []

@@ -1,0 +1,64 @@
+-- How an aggregate task begins and ends.
+use Rattle.std.proofs.Common.{◌≡◌, ◌≢◌, ◌⊎◌, ℕ, false, List, [], ◌∷◌, ◌++◌, Option, refl, sym, ap, subst, ◌∙◌, inl, inr}
+use Rattle.turn_cell.specs.History.{StartsWith}
+use Rattle.turn_cell.specs.Passes.{IsSamePass, seen}
+use Rattle.flow_defs.specs.declared.cause.Cause.{Cause}
+use Rattle.flow_defs.specs.declared.cause.Cause.TheVariants as causes
+use Rattle.flow_defs.specs.declared.image.Snapshot.{Snapshot}
+use Rattle.flow_defs.specs.declared.image.TakeRun.{TakeRun}
+use Rattle.flow_defs.specs.declared.job.Job.{Job}
+use Rattle.outside.specs.declared.last_image.Stored.{Stored}
+use Rattle.outside.specs.Stops.{told_of}
+use Rattle.conn_parts.specs.Stopping.{StopCell, StopPass}
+use Rattle.input_gate.specs.Gates.{Account, IsNew}
+use Rattle.task_output.specs.Ending.{EndsAs, ToldAtEnd}
+use Rattle.task_taking.specs.Endings.{IsTakerEnd}
+use Rattle.aggregate_task.specs.Aggregates.{AggregateAccount}
+use Rattle.task_taking.specs.Endings.{ToldStop}
+
+-- it found no memory at its start
+pub account_unsent : (job : Job) (b : ℕ) (every : Option ℕ) (gate : Account) (sent : List Snapshot) (history : List (ℕ × Stored)) (takes : List TakeRun) → IsNew gate → sent ≡ [] → takes ≡ [] → AggregateAccount job b every gate sent history takes causes.Memory
+account_unsent job b every gate sent history takes new unsent none = record {
+  groups = [];
+  rest = [];
+  given = λ c within. (false, new.told c);
+  snapshots = rw unsent tt;
+  takes_are = rw none (record { senders_are = refl; are_runs = tt; short = tt });
+  waited = rw unsent tt;
+  cause_is = tt;
+}
+
+-- what was done may end as stopped
+pub account_ended : (job : Job) (b : ℕ) (every : Option ℕ) (gate : Account) (sent : List Snapshot) (history : List (ℕ × Stored)) (takes : List TakeRun) (cause told : Cause) → EndsAs cause told → AggregateAccount job b every gate sent history takes cause → AggregateAccount job b every gate sent history takes told
+account_ended job b every gate sent history takes cause told ends was = record {
+  groups = was.groups;
+  rest = was.rest;
+  given = was.given;
+  snapshots = was.snapshots;
+  takes_are = was.takes_are;
+  waited = was.waited;
+  cause_is = elim ends [
+    | inl same ↦ subst (IsTakerEnd every history gate was.groups was.rest) (sym same) was.cause_is
+    | inr stopped ↦ subst (IsTakerEnd every history gate was.groups was.rest) (sym stopped.1) tt
+  ];
+}
+
+seen_later : {X : Type 0} (xs ys : List X) → StartsWith xs ys → ys ≢ [] → xs ≢ []
+seen_later xs [] more some = absurd (some refl)
+seen_later xs (y ∷ ys) more some = λ none. (let e : (y ∷ ys) ++ more.0 ≡ [] = sym more.1 ∙ none in absurd (cc))
+
+-- the stop cell was told, and the task was stopped for what it or its gate saw
+pub told_stop : (cell : StopCell) (saw : Type 0) (cause told : Cause) (before mid after : StopPass) → IsSamePass before mid → (cause ≡ causes.Stopped → saw ⊎ (seen mid ≢ [])) → ToldAtEnd cell cause told mid after → ToldStop cell saw told before after
+told_stop cell saw cause told before mid after same why was = record {
+  pass = was.pass;
+  number_is = was.number_is ∙ same.0;
+  told = was.told ∙ ap (λ l. l ++ told_of told) same.1;
+  stopped = λ is. elim (was.stopped is) [
+    | inl before_it ↦ elim (why before_it) [
+      | inl gate ↦ inl gate
+      | inr some ↦ inr (seen_later (seen after) (seen mid) was.later some)
+    ]
+    | inr some ↦ inr some
+  ];
+  done = was.done;
+}

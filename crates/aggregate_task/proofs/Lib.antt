@@ -1,0 +1,8 @@
+pub mod Acknowledging
+pub mod Keys
+pub mod Sending
+pub mod Snapshots
+pub mod Checkpoints
+pub mod OneItem
+pub mod Endings
+pub mod Accounts

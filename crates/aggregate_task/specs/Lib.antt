@@ -1,0 +1,4 @@
+pub mod Snapshots
+pub mod Acknowledging
+pub mod Aggregates
+pub mod Accounts

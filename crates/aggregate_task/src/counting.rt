@@ -1,0 +1,136 @@
+// Counts what an aggregate task takes.
+ghost use Rattle.std.specs.Prelude.{◌≡◌, ◌≢◌, ◌⊎◌, ◌<◌, [], suc, OnOk};
+ghost use Rattle.turn_cell.specs.Passes.{seen};
+ghost use Rattle.flow_defs.specs.declared.cause.PeerFault.TheVariants.{Barrier};
+ghost use Rattle.flow_defs.specs.Jobs.{last_edge, tasks};
+ghost use Rattle.flow_defs.specs.Records.{IsShort};
+ghost use Rattle.flow_defs.specs.Tables.{add};
+ghost use Rattle.stage_fns.specs.Meets.{MeetsAgg};
+ghost use Rattle.record_writer.specs.Writers.{ways_into};
+ghost use Rattle.input_gate.specs.Gates.{IsNew};
+ghost use Rattle.snapshot_channel.specs.Passes.{sent_by};
+ghost use Rattle.task_taking.specs.Takings.{HasTaken, IsInStep};
+ghost use Rattle.aggregate_task.specs.Acknowledging.{IsAcking, IsSame};
+ghost use Rattle.aggregate_task.specs.Aggregates.{AggregateAccount};
+
+use crate::acks::Acks;
+use crate::checkpoint::{Ending, take_checkpoint};
+use flow_defs::{AggKind, Bytes, Cause, ListOf, PeerFault};
+use input_gate::Gate;
+use job_plan::Counts;
+use stage_fns::AggFn;
+use std::alloc::{AllocError, Global};
+use std::sync::Wait;
+use task_taking::laws::what_was_taken_was_given;
+use task_taking::{Taken, TaskTaking};
+
+/// Takes all that the gate gives from its start on, with the checkpoints between, and answers why it goes no
+/// further.
+pub fn take_all<G: Gate, R: Wait>(
+    rt: &R,
+    alloc: Global,
+    gate: &mut G,
+    f: &AggFn,
+    acks: &mut Acks<'_>,
+) -> Ending
+    requires function { MeetsAgg acks.old.job.now.agg (AggFn.pre f.now) (AggFn.post f.now) }
+    requires own { IsAcking acks.old × (sent_by acks.old.pass ≡ []) }
+    requires task { acks.old.index < tasks acks.old.job.now (suc (last_edge acks.old.job.now)) }
+    requires gate { IsNew (G.account gate.old) × ((G.account gate.old).channels ≡ ways_into acks.old.job.now (last_edge acks.old.job.now)) }
+    ensures gate { (G.ends gate.new ≡ G.ends gate.old) × ((G.account gate.new).channels ≡ (G.account gate.old).channels) }
+    ensures own { IsAcking acks.new × IsSame acks.old acks.new }
+    ensures account { AggregateAccount acks.new.job.now acks.new.index acks.new.every (G.account gate.new) (sent_by acks.new.pass) (seen acks.new.last_pass) result.takes.items result.cause }
+    ensures stopped { result.cause ≡ Cause.Stopped → G.saw_stop gate.new ⊎ (seen acks.new.stop_pass ≢ []) }
+{
+    let edge = acks.job.stages.as_slice().len() as u32;
+    match TaskTaking::new(alloc, acks.job, edge, acks.index) {
+        Ok(taking) => count_all(rt, alloc, gate, f, taking, acks),
+        Err(_) => Ending {
+            cause: Cause::Memory,
+            takes: ListOf::new(alloc),
+        },
+    }
+}
+
+// Counts each record that the gate gives, and acknowledges each checkpoint.
+fn count_all<G: Gate, R: Wait>(
+    rt: &R,
+    alloc: Global,
+    gate: &mut G,
+    f: &AggFn,
+    taking: TaskTaking,
+    acks: &mut Acks<'_>,
+) -> Ending
+    requires function { MeetsAgg acks.old.job.now.agg (AggFn.pre f.now) (AggFn.post f.now) }
+    requires own { IsAcking acks.old × (sent_by acks.old.pass ≡ []) }
+    requires new { HasTaken acks.old.job.now (last_edge acks.old.job.now) acks.old.index (G.account gate.old) taking [] [] × IsInStep (G.account gate.old) taking }
+    ensures gate { (G.ends gate.new ≡ G.ends gate.old) × ((G.account gate.new).channels ≡ (G.account gate.old).channels) }
+    ensures own { IsAcking acks.new × IsSame acks.old acks.new }
+    ensures account { AggregateAccount acks.new.job.now acks.new.index acks.new.every (G.account gate.new) (sent_by acks.new.pass) (seen acks.new.last_pass) result.takes.items result.cause }
+    ensures stopped { result.cause ≡ Cause.Stopped → G.saw_stop gate.new ⊎ (seen acks.new.stop_pass ≢ []) }
+{
+    what_was_taken_was_given();
+    let mut taking = taking;
+    let mut counts = Counts::new(alloc);
+    let mut last = false;
+    for _item in rt.forever() {
+        match taking.next(rt, gate) {
+            Ok(Taken::Line(line)) => {
+                if last {
+                    return out_of_order(taking);
+                }
+                match count_line(&mut counts, acks.job.agg, f, line) {
+                    Ok(()) => {}
+                    Err(_) => return ending(Cause::Memory, taking),
+                }
+            }
+            Ok(Taken::Checkpoint { k }) => {
+                if last {
+                    return out_of_order(taking);
+                }
+                match take_checkpoint(rt, alloc, gate, &mut taking, &counts, acks, k) {
+                    Ok(is_last) => last = is_last,
+                    Err(end) => return end,
+                }
+            }
+            Ok(Taken::AllEnded) => {
+                if last {
+                    return ending(Cause::Done, taking);
+                }
+                return out_of_order(taking);
+            }
+            Err(cause) => return ending(cause, taking),
+        }
+    }
+    unreachable!()
+}
+
+// Adds a record to the counts.
+fn count_line(counts: &mut Counts, agg: AggKind, f: &AggFn, line: Bytes) -> Result<(), AllocError>
+    requires meets { MeetsAgg agg (AggFn.pre f.now) (AggFn.post f.now) }
+    requires short { IsShort line.items }
+    ensures { OnOk result (counts.new ≡ add agg counts.old line.items) }
+{
+    match counts.add(agg, f, line.as_slice()) {
+        Ok(()) => Ok(()),
+        Err(AllocError) => Err(AllocError),
+    }
+}
+
+// Ends with what was taken behind the last snapshot.
+fn ending(cause: Cause, taking: TaskTaking) -> Ending
+    ensures { (result.cause ≡ cause) × (result.takes.items ≡ taking.runs) }
+{
+    Ending {
+        cause,
+        takes: taking.into_runs(),
+    }
+}
+
+// The gate gave what does not come there.
+fn out_of_order(taking: TaskTaking) -> Ending
+    ensures { (result.cause ≡ Cause.Peer Barrier) × (result.takes.items ≡ taking.runs) }
+{
+    let fault = PeerFault::Barrier;
+    ending(Cause::Peer { fault }, taking)
+}

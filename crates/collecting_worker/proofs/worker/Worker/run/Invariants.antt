@@ -1,0 +1,18 @@
+use Rattle.std.proofs.Common.{◌≡◌, ◌≤◌, ℕ, []}
+use Rattle.turn_cell.specs.Passes.{mine}
+use Rattle.snapshot_channel.specs.Passes.{received_by}
+use Rattle.outside.specs.Keepers.{IsAboveLast}
+use Rattle.collecting_worker.specs.Steps.{IsSameWorker, IsWorker}
+use Rattle.collecting_worker.proofs.Going.{IsGoing}
+use Rattle.collecting_worker.proofs.worker.Worker.run.Given as goal
+
+-- the images before this number are stored
+abbrev pub invariant-loop-number : goal.invariant-loop-number
+invariant-loop-number g l = record {
+  same : IsSameWorker l.fn.self l.self;
+  worker : IsWorker l.number l.self;
+  going : IsGoing l.fn.self.job.now l.fn.every (received_by l.self.gathering.pass) (g.K.Keeper.images l.fn.keeper) (g.K.Keeper.images l.keeper) (mine l.self.last_pass) l.self.last l.number l.final_one;
+  stop : mine l.self.stop_pass ≡ [];
+  above : (n : ℕ) → l.number ≤ n → IsAboveLast (g.K.Keeper.images l.keeper) n;
+  never_falls : g.K.Keeper.faults l.fn.keeper ≤ g.K.Keeper.faults l.keeper;
+}

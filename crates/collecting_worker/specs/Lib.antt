@@ -1,0 +1,5 @@
+pub mod Images
+pub mod Accounts
+pub mod Gathering
+pub mod Steps
+pub mod Laws

@@ -1,0 +1,230 @@
+-- Where a stage takes no more.
+use Rattle.std.proofs.Common.{◌≡◌, ◌≢◌, ℕ, suc, ◌<◌, ◌+◌, Bool, true, false, cond, List, [], ◌∷◌, ◌++◌, length, Option, refl, sym, ap, subst, ◌∙◌, inl, inr, append-nil, append_assoc, arith}
+use Rattle.std.proofs.lemmas.List.{length-map}
+use Rattle.turn_cell.specs.History.{StartsWith}
+use Rattle.turn_cell.specs.Passes.{seen}
+use Rattle.flow_defs.specs.declared.cause.Cause.{Cause}
+use Rattle.flow_defs.specs.declared.cause.Cause.TheVariants as causes
+use Rattle.flow_defs.specs.declared.cause.PeerFault.TheVariants as peers
+use Rattle.flow_defs.specs.declared.image.Snapshot.{Snapshot}
+use Rattle.flow_defs.specs.declared.image.TakeRun.{TakeRun}
+use Rattle.flow_defs.specs.declared.job.Job.{Job}
+use Rattle.plain_machine.specs.Emitting.{apply_behind}
+use Rattle.checkpoint_laws.specs.Chapters.{Takes, applied}
+use Rattle.outside.specs.declared.last_image.Stored.{Stored}
+use Rattle.record_writer.specs.Writers.{SendPass, IsNextBarrier}
+use Rattle.input_gate.specs.Gates.{Account, AllOver, stops_in}
+use Rattle.snapshot_channel.specs.Passes.{sent_by}
+use Rattle.task_taking.specs.Steps.{IsTakerCause}
+use Rattle.task_taking.specs.Takings.{Taking, HasTaken, IsAtBarrier, AllBlocked}
+use Rattle.task_taking.specs.Endings.{Gave, IsTakerEnd, LastIs, TakenIsGiven, BarrierIsGiven}
+use Rattle.task_taking.proofs.Told.{none_at}
+use Rattle.task_output.specs.Outputs.{Output, HasSent, HasBegun, HasStopped, HasFinished}
+use Rattle.task_output.specs.Laws.{SentIsBegun, FinishedIsBegun}
+use Rattle.stage_task.specs.declared.checkpoints.StageOutput.{StageOutput}
+use Rattle.stage_task.specs.Snapshots.{AreSnapshots, all_applied}
+use Rattle.stage_task.specs.Stages.{StageAccount}
+use Rattle.stage_task.specs.Applying.{HasApplied, IsUnderWay, IsBehindLast, IsMarked, EndedAmong}
+use Rattle.stage_task.proofs.Records.{applied_line}
+
+-- what was begun is put
+pub ended_account : (job : Job) (e b size : ℕ) (every : Option ℕ) (gate : Account) (out : Output) (sent : List Snapshot) (history : List (ℕ × Stored)) (takes : List TakeRun) (cause : Cause)
+    (groups : List (List (ℕ × List ℕ))) (rest : List (ℕ × List ℕ)) (records begun : List (List ℕ))
+    → Gave job e b gate groups rest → AreSnapshots job e b 0 0 groups sent → Takes job e b takes rest → HasBegun job (suc e) b size out (all_applied job e groups) records begun
+    → StartsWith (applied job e rest) (records ++ begun) → cause ≢ causes.Done → IsTakerEnd every history gate groups rest cause
+    → StageAccount job e b size every gate out.writer.passes sent history takes cause
+ended_account job e b size every gate out sent history takes cause groups rest records begun given snapshots takes_are begun_them front other cause_is = record {
+  groups = groups;
+  rest = rest;
+  more = records ++ begun;
+  given = given;
+  snapshots = snapshots;
+  takes_are = takes_are;
+  front = front;
+  put = begun_them.each;
+  done = λ is. absurd (other is);
+  cause_is = cause_is;
+}
+
+pub stopped_not_done : causes.Stopped ≢ causes.Done
+stopped_not_done = λ is. cc
+
+pub memory_not_done : causes.Memory ≢ causes.Done
+memory_not_done = λ is. cc
+
+barrier_not_done : causes.Peer peers.Barrier ≢ causes.Done
+barrier_not_done = λ is. cc
+
+-- all of it is a front of it
+pub all_front : (xs : List (List ℕ)) → StartsWith xs xs
+all_front xs = ([], sym (append-nil xs))
+
+-- and of it with nothing behind
+pub all_front_of : (xs : List (List ℕ)) → StartsWith xs (xs ++ [])
+all_front_of xs = subst (StartsWith xs) (sym (append-nil xs)) (all_front xs)
+
+-- a cause of the gate is one of the task
+pub taker_end : (every : Option ℕ) (history : List (ℕ × Stored)) (gate : Account) (groups : List (List (ℕ × List ℕ))) (rest : List (ℕ × List ℕ)) (cause : Cause) → IsTakerCause gate cause → cause ≢ causes.Done → IsTakerEnd every history gate groups rest cause
+taker_end every history gate groups rest causes.Done is other = absurd (other refl)
+taker_end every history gate groups rest causes.Stopped is other = tt
+taker_end every history gate groups rest (causes.Input source) is other = absurd is
+taker_end every history gate groups rest causes.Keeper is other = absurd is
+taker_end every history gate groups rest causes.Link is other = absurd is
+taker_end every history gate groups rest (causes.LongLine source) is other = absurd is
+taker_end every history gate groups rest (causes.BigSource source) is other = absurd is
+taker_end every history gate groups rest causes.BigImage is other = absurd is
+taker_end every history gate groups rest (causes.OverCredit channel received announced) is other = absurd is
+taker_end every history gate groups rest (causes.Peer peers.BadFrame) is other = absurd is
+taker_end every history gate groups rest (causes.Peer peers.Sequence) is other = absurd is
+taker_end every history gate groups rest (causes.Peer peers.Barrier) is other = inl is
+taker_end every history gate groups rest (causes.Peer peers.Size) is other = absurd is
+taker_end every history gate groups rest (causes.Peer peers.AfterEnd) is other = absurd is
+taker_end every history gate groups rest (causes.Peer peers.Channel) is other = absurd is
+taker_end every history gate groups rest (causes.Peer peers.Credit) is other = absurd is
+taker_end every history gate groups rest (causes.Peer peers.Resume) is other = absurd is
+taker_end every history gate groups rest (causes.Peer peers.Left) is other = is
+taker_end every history gate groups rest (causes.Peer peers.Cut) is other = absurd is
+taker_end every history gate groups rest (causes.Peer peers.Refused) is other = absurd is
+taker_end every history gate groups rest causes.Memory is other = tt
+
+-- ---- where it takes on
+
+module _ (out : StageOutput) where
+  abbrev job : Job
+  job = out.job.now
+
+  abbrev size : ℕ
+  size = out.output.writer.size
+
+  -- the account where it ends with another output
+  abbrev Ended : Account → Output → List TakeRun → Cause → Type 0
+  Ended gate o takes cause = StageAccount job out.edge out.index o.writer.size out.every gate o.writer.passes (sent_by out.pass) (seen out.last_pass) takes cause
+
+  module _ (before gate : Account) (t t' : Taking) (groups : List (List (ℕ × List ℕ))) (took : List (ℕ × List ℕ)) (was : HasApplied before t out groups took) where
+    abbrev made : List (List ℕ)
+    made = applied job out.edge took
+
+    -- it took nothing more
+    module _ (sent_law : SentIsBegun) (given_law : TakenIsGiven) (taken : HasTaken job out.edge out.index gate t' groups took) where
+      still_ended : (cause : Cause) → cause ≢ causes.Done → IsTakerEnd out.every (seen out.last_pass) gate groups took cause → Ended gate out.output t'.runs cause
+      still_ended cause other is = ended_account job out.edge out.index size out.every gate out.output (sent_by out.pass) (seen out.last_pass) t'.runs cause groups took made [] (given_law job out.edge out.index gate t' groups took taken) was.snapshots taken.takes
+          (sent_law job (suc out.edge) out.index size out.output (all_applied job out.edge groups) made was.sent) (all_front_of made) other is
+
+      -- its gate gave nothing more
+      pub gate_ended : (cause : Cause) → IsTakerCause gate cause → cause ≢ causes.Done → Ended gate out.output t'.runs cause
+      gate_ended cause is other = still_ended cause other (taker_end out.every (seen out.last_pass) gate groups took cause is other)
+
+      -- all channels ended before the last checkpoint
+      pub ended_early : LastIs out.every (seen out.last_pass) (length groups) false → AllOver gate → Ended gate out.output t'.runs (causes.Peer peers.Barrier)
+      ended_early not_last over = still_ended (causes.Peer peers.Barrier) barrier_not_done (inr (inl (not_last, over)))
+
+    -- it took a line
+    module _ (sender : ℕ) (line : List ℕ) (given : List (List ℕ)) (taken : HasTaken job out.edge out.index gate t' groups (took ++ (sender, line) ∷ [])) (gives : given ≡ apply_behind job out.edge line) where
+      abbrev more : List (ℕ × List ℕ)
+      more = took ++ (sender, line) ∷ []
+
+      more_is : applied job out.edge more ≡ made ++ given
+      more_is = applied_line job out.edge took sender line ∙ ap (λ l. made ++ l) (sym gives)
+
+      pub line_applied : (o : Output) → LastIs out.every (seen out.last_pass) (length groups) false → HasSent job (suc out.edge) out.index size o (all_applied job out.edge groups) (made ++ given) → IsUnderWay gate t' (record out { output = o })
+      line_applied o not_last sent = record {
+        groups = groups;
+        took = more;
+        applied_them = record {
+          taken = taken;
+          sent = subst (HasSent job (suc out.edge) out.index o.writer.size o (all_applied job out.edge groups)) (sym more_is)
+              (subst (λ n. HasSent job (suc out.edge) out.index n o (all_applied job out.edge groups) (made ++ given)) (sym sent.writes_for.size_is) sent);
+          snapshots = was.snapshots;
+        };
+        not_last = not_last;
+      }
+
+      pub line_ended : TakenIsGiven → (o : Output) (cause : Cause) → o.writer.size ≡ size → EndedAmong job (suc out.edge) out.index size o (all_applied job out.edge groups) made given cause → Ended gate o t'.runs cause
+      line_ended given_law o cause same among = ended_account job out.edge out.index o.writer.size out.every gate o (sent_by out.pass) (seen out.last_pass) t'.runs cause groups more (made ++ among.done) among.begun (given_law job out.edge out.index gate t' groups more taken) was.snapshots taken.takes
+          (subst (λ n. HasBegun job (suc out.edge) out.index n o (all_applied job out.edge groups) (made ++ among.done) among.begun) (sym same) among.begun_them)
+          (among.rest, more_is ∙ ap (λ l. made ++ l) among.parts ∙ sym (append_assoc made among.done (among.begun ++ among.rest)) ∙ sym (append_assoc (made ++ among.done) among.begun among.rest))
+          (λ is. elim among.cause_is [ inl full ↦ memory_not_done (sym full ∙ is) | inr stopped ↦ stopped_not_done (sym stopped.0 ∙ is) ])
+          (elim among.cause_is [ inl full ↦ subst (IsTakerEnd out.every (seen out.last_pass) gate groups more) (sym full) tt | inr stopped ↦ subst (IsTakerEnd out.every (seen out.last_pass) gate groups more) (sym stopped.0) tt ])
+
+    -- it is at a barrier
+    module _ (at : IsAtBarrier job out.edge out.index gate t' groups took) where
+      pub marked : (o : Output) (k : ℕ) → k ≡ suc (length groups) → LastIs out.every (seen out.last_pass) (length groups) false → HasSent job (suc out.edge) out.index size o (all_applied job out.edge groups ++ made ∷ []) [] → IsMarked gate t' (record out { output = o }) k
+      marked o k number not_last sent = record {
+        groups = groups;
+        took = took;
+        at = at;
+        sent = subst (λ n. HasSent job (suc out.edge) out.index n o (all_applied job out.edge groups ++ made ∷ []) []) (sym sent.writes_for.size_is) sent;
+        snapshots = was.snapshots;
+        not_last = not_last;
+        number = number;
+      }
+
+      pub mark_ended : BarrierIsGiven → (o : Output) → o.writer.size ≡ size → HasStopped job (suc out.edge) out.index size o (all_applied job out.edge groups) made [] → Ended gate o t'.runs causes.Stopped
+      mark_ended given_law o same stopped = ended_account job out.edge out.index o.writer.size out.every gate o (sent_by out.pass) (seen out.last_pass) t'.runs causes.Stopped groups took made [] (given_law job out.edge out.index gate t' groups took at) was.snapshots at.takes
+          (subst (λ n. HasBegun job (suc out.edge) out.index n o (all_applied job out.edge groups) made []) (sym same) stopped.begun_them) (all_front_of made) stopped_not_done tt
+
+-- ---- behind the last checkpoint
+
+-- each channel gave the barrier
+all_stops : (gate : Account) (t : Taking) (n : ℕ) → AllBlocked gate t → t.alignment.closed ≡ n → (c : ℕ) → c < gate.channels → stops_in (gate.told c) ≡ n
+all_stops gate t n blocked closed c inside =
+    blocked.counted.stops c (subst (λ m. c < m) blocked.counted.channels inside) ∙ ap (λ b. t.alignment.closed + cond b 1 0) (none_at t.alignment.gave c blocked.aligned) ∙ omega (arith, closed)
+
+module _ (before gate : Account) (t t' : Taking) (out : StageOutput) (behind : IsBehindLast before t out) where
+  abbrev job_of : Job
+  job_of = out.job.now
+
+  pub ended_behind : SentIsBegun → TakenIsGiven → (cause : Cause) → HasTaken job_of out.edge out.index gate t' behind.groups [] → IsTakerCause gate cause → cause ≢ causes.Done → Ended out gate out.output t'.runs cause
+  ended_behind sent_law given_law cause taken is other = gate_ended out before gate t t' behind.groups [] behind.applied_them sent_law given_law taken cause is other
+
+  -- it took a line more
+  pub line_behind : SentIsBegun → TakenIsGiven → (sender : ℕ) (line : List ℕ) → HasTaken job_of out.edge out.index gate t' behind.groups ((sender, line) ∷ []) → Ended out gate out.output t'.runs (causes.Peer peers.Barrier)
+  line_behind sent_law given_law sender line taken = ended_account job_of out.edge out.index out.output.writer.size out.every gate out.output (sent_by out.pass) (seen out.last_pass) t'.runs (causes.Peer peers.Barrier) behind.groups ((sender, line) ∷ []) [] []
+      (given_law job_of out.edge out.index gate t' behind.groups ((sender, line) ∷ []) taken) behind.applied_them.snapshots taken.takes
+      (sent_law job_of (suc out.edge) out.index out.output.writer.size out.output (all_applied job_of out.edge behind.groups) [] behind.applied_them.sent) (applied job_of out.edge ((sender, line) ∷ []), refl)
+      barrier_not_done (inr (inr (behind.last, inl (λ is. cc))))
+
+  -- a barrier came on all channels
+  pub barrier_behind : SentIsBegun → BarrierIsGiven → IsAtBarrier job_of out.edge out.index gate t' behind.groups [] → AllBlocked gate t' → Ended out gate out.output t'.runs (causes.Peer peers.Barrier)
+  barrier_behind sent_law given_law at blocked = ended_account job_of out.edge out.index out.output.writer.size out.every gate out.output (sent_by out.pass) (seen out.last_pass) t'.runs (causes.Peer peers.Barrier) behind.groups [] [] []
+      (given_law job_of out.edge out.index gate t' behind.groups [] at) behind.applied_them.snapshots at.takes
+      (sent_law job_of (suc out.edge) out.index out.output.writer.size out.output (all_applied job_of out.edge behind.groups) [] behind.applied_them.sent) ([], refl)
+      barrier_not_done (inr (inr (behind.last, inr (all_stops gate t' (suc (length behind.groups)) blocked at.closed))))
+
+  -- all channels ended, and it ends its own
+  module _ (given_law : TakenIsGiven) (taken : HasTaken job_of out.edge out.index gate t' behind.groups []) (o : Output) (same : o.writer.size ≡ out.output.writer.size) where
+    pub finish_ended : HasStopped job_of (suc out.edge) out.index out.output.writer.size o (all_applied job_of out.edge behind.groups) [] [] → Ended out gate o t'.runs causes.Stopped
+    finish_ended stopped = ended_account job_of out.edge out.index o.writer.size out.every gate o (sent_by out.pass) (seen out.last_pass) t'.runs causes.Stopped behind.groups [] [] []
+        (given_law job_of out.edge out.index gate t' behind.groups [] taken) behind.applied_them.snapshots taken.takes
+        (subst (λ n. HasBegun job_of (suc out.edge) out.index n o (all_applied job_of out.edge behind.groups) [] []) (sym same) stopped.begun_them) ([], refl) stopped_not_done tt
+
+    pub finished : FinishedIsBegun → AllOver gate → HasFinished job_of (suc out.edge) out.index out.output.writer.size o (all_applied job_of out.edge behind.groups) [] → Ended out gate o t'.runs causes.Done
+    finished law over has =
+        let all = subst (λ n. HasFinished job_of (suc out.edge) out.index n o (all_applied job_of out.edge behind.groups) []) (sym same) has in
+        record {
+          groups = behind.groups;
+          rest = [];
+          more = [];
+          given = given_law job_of out.edge out.index gate t' behind.groups [] taken;
+          snapshots = behind.applied_them.snapshots;
+          takes_are = taken.takes;
+          front = ([], refl);
+          put = (law job_of (suc out.edge) out.index o.writer.size o (all_applied job_of out.edge behind.groups) [] all).each;
+          done = λ is. (refl, all.each);
+          cause_is = (over, refl, behind.last);
+        }
+
+-- ---- by other names
+
+pub named : (job : Job) (e b size : ℕ) (every : Option ℕ) (gate : Account) (passes : List SendPass) (sent : List Snapshot) (history : List (ℕ × Stored)) (takes takes' : List TakeRun) (cause cause' : Cause) → takes' ≡ takes → cause' ≡ cause
+    → StageAccount job e b size every gate passes sent history takes cause → StageAccount job e b size every gate passes sent history takes' cause'
+named job e b size every gate passes sent history takes takes' cause cause' one two was =
+    subst (λ (l : List TakeRun). StageAccount job e b size every gate passes sent history l cause') (sym one) (subst (StageAccount job e b size every gate passes sent history takes) (sym two) was)
+
+pub memory_not_stopped : causes.Memory ≢ causes.Stopped
+memory_not_stopped = λ is. cc
+
+-- the next barrier has the number of the checkpoint
+pub next_mark : (out : StageOutput) (before : Account) (t : Taking) (groups : List (List (ℕ × List ℕ))) (took : List (ℕ × List ℕ)) → HasApplied before t out groups took → (k : ℕ) → k ≡ suc (length groups) → IsNextBarrier out.output.writer k
+next_mark out before t groups took was k number =
+    subst (IsNextBarrier out.output.writer) (ap suc (length-map groups (applied out.job.now out.edge)) ∙ sym number) was.sent.next

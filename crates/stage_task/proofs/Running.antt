@@ -1,0 +1,138 @@
+-- How the task of a stage begins and ends.
+use Rattle.std.proofs.Common.{◌≡◌, ◌≢◌, Bor, ℕ, zero, suc, ◌+◌, ◌<◌, ◌⊎◌, false, List, [], ◌∷◌, ◌++◌, Option, refl, sym, ap, subst, ◌∙◌, inl, inr, arith}
+use Rattle.turn_cell.specs.History.{StartsWith}
+use Rattle.turn_cell.specs.Passes.{IsPassOf, IsSamePass, seen}
+use Rattle.flow_defs.specs.declared.cause.Cause.{Cause}
+use Rattle.flow_defs.specs.declared.cause.Cause.TheVariants as causes
+use Rattle.flow_defs.specs.declared.image.Snapshot.{Snapshot}
+use Rattle.flow_defs.specs.declared.image.TakeRun.{TakeRun}
+use Rattle.flow_defs.specs.declared.job.Job.{Job}
+use Rattle.plain_machine.specs.Emitting.{receiver_on}
+use Rattle.checkpoint_laws.specs.Chapters.{Takes}
+use Rattle.outside.specs.declared.last_image.Stored.{Stored}
+use Rattle.outside.specs.Stops.{told_of}
+use Rattle.conn_parts.specs.Shares.{mine_at, AreNew}
+use Rattle.conn_parts.specs.Stopping.{StopCell, StopPass}
+use Rattle.record_writer.specs.Partitions.{ArePassesOf, IsWriterOf}
+use Rattle.record_writer.specs.Writers.{SendPass, Writer, IsSame, IsNew, IsOpen, AreOwnAt, ways_on, ways_into}
+use Rattle.record_writer.specs.declared.partition.Partition.{Partition}
+use Rattle.record_writer.specs.declared.partition.PartitionPasses.{PartitionPasses}
+use Rattle.input_gate.specs.Gates as gates
+use Rattle.input_gate.specs.Gates.{Account}
+use Rattle.snapshot_channel.specs.Passes.{sent_by}
+use Rattle.task_taking.specs.Endings.{IsTakerEnd}
+use Rattle.task_taking.specs.Takings.{Taking, HasTaken}
+use Rattle.task_output.specs.Ending.{EndsAs, ToldAtEnd}
+use Rattle.task_output.specs.Outputs.{WritesFor, HasSent, BegunOn, end_of}
+use Rattle.stage_task.specs.declared.checkpoints.StageOutput.{StageOutput}
+use Rattle.stage_task.specs.declared.checkpoints.TakerEnd.{TakerEnd}
+use Rattle.stage_task.specs.Snapshots.{AreSnapshots}
+use Rattle.stage_task.specs.Stages.{StageAccount, ArePassesBy}
+use Rattle.task_taking.specs.Endings.{ToldStop}
+use Rattle.stage_task.specs.Applying.{IsSameStage, IsUnderWay, IsEndOf}
+use Rattle.stage_task.proofs.Ends.{memory_not_done, stopped_not_done}
+
+-- ---- where it begins
+
+pub under_way : (gate : Account) (taking : Taking) (partition : Partition) (w : Writer) (out : StageOutput) → gates.IsNew gate → gate.channels ≡ ways_into out.job.now out.edge
+    → ((gate : Account) → gates.IsNew gate → gate.channels ≡ ways_into out.job.now out.edge → HasTaken out.job.now out.edge out.index gate taking [] [])
+    → IsWriterOf out.job.now (out.edge + 1) out.index partition w → IsNew w × IsOpen w
+    → ((job : Job) (e a size : ℕ) → WritesFor job e a size w → IsNew w → IsOpen w → HasSent job e a size out.output [] []) → sent_by out.pass ≡ [] → IsUnderWay gate taking out
+under_way gate taking partition w out new channels none writes fresh none_sent unsent =
+    let sent = none_sent out.job.now (suc out.edge) out.index w.size (record { job_is = writes.job_is; edge = writes.edge ∙ (let z : out.edge + 1 ≡ suc out.edge = omega arith in z); index = writes.index; size_is = refl }) fresh.0 fresh.1 in
+    record {
+      groups = [];
+      took = [];
+      applied_them = record {
+        taken = none gate new channels;
+        sent = subst (λ n. HasSent out.job.now (suc out.edge) out.index n out.output [] []) (sym sent.writes_for.size_is) sent;
+        snapshots = subst (AreSnapshots out.job.now out.edge out.index 0 0 []) (sym unsent) tt;
+      };
+      not_last = refl;
+    }
+
+none_at : (passes : List SendPass) (c : ℕ) → AreNew passes → mine_at c passes ≡ []
+none_at [] c new = refl
+none_at (p ∷ passes) zero new = new 0 p (omega arith)
+none_at (p ∷ passes) (suc c) new = none_at passes c (λ k d within. new (suc k) d (omega (arith, within)))
+
+-- it found no memory for what it takes and emits by
+pub unbegun : (job : Job) (e b size : ℕ) (every : Option ℕ) (gate : Account) (passes : List SendPass) (sent : List Snapshot) (history : List (ℕ × Stored)) (takes : List TakeRun) → gates.IsNew gate → AreNew passes → sent ≡ [] → takes ≡ []
+    → StageAccount job e b size every gate passes sent history takes causes.Memory
+unbegun job e b size every gate passes sent history takes new none_put none_sent none_taken = record {
+  groups = [];
+  rest = [];
+  more = [];
+  given = λ c inside. (false, new.told c);
+  snapshots = subst (AreSnapshots job e b 0 0 []) (sym none_sent) tt;
+  takes_are = subst (λ (l : List TakeRun). Takes job e b l []) (sym none_taken) (record { senders_are = refl; are_runs = tt; short = tt });
+  front = ([], refl);
+  put = λ c inside. subst (BegunOn (receiver_on job (suc e) b) [] (end_of job (suc e) b c) size []) (sym (none_at passes c none_put)) (record {
+    more = [] ∷ [];
+    cut = refl;
+    some = record { owed = []; begins = refl; buffers = tt };
+  });
+  done = λ is. absurd (memory_not_done is);
+  cause_is = tt;
+}
+
+-- ---- where it ends
+
+-- it was stopped where it was done
+pub account_ended : (job : Job) (e b size : ℕ) (every : Option ℕ) (gate : Account) (passes : List SendPass) (sent : List Snapshot) (history : List (ℕ × Stored)) (takes : List TakeRun) (cause cause' : Cause) → EndsAs cause cause'
+    → StageAccount job e b size every gate passes sent history takes cause → StageAccount job e b size every gate passes sent history takes cause'
+account_ended job e b size every gate passes sent history takes cause cause' ends was = record {
+  groups = was.groups;
+  rest = was.rest;
+  more = was.more;
+  given = was.given;
+  snapshots = was.snapshots;
+  takes_are = was.takes_are;
+  front = was.front;
+  put = was.put;
+  done = λ is. elim ends [ inl same ↦ was.done (sym same ∙ is) | inr stopped ↦ absurd (stopped_not_done (sym stopped.1 ∙ is)) ];
+  cause_is = elim ends [ inl same ↦ subst (IsTakerEnd every history gate was.groups was.rest) (sym same) was.cause_is | inr stopped ↦ subst (IsTakerEnd every history gate was.groups was.rest) (sym stopped.1) tt ];
+}
+
+-- the account of what is the same is the same
+pub account_of_same : (out out' : StageOutput) (size : ℕ) (gate gate' : Account) (passes : List SendPass) (sent : List Snapshot) (history : List (ℕ × Stored)) (takes : List TakeRun) (end : TakerEnd) → IsSameStage out out' → out'.output.writer.size ≡ size → gate' ≡ gate
+    → passes ≡ out'.output.writer.passes → sent ≡ sent_by out'.pass → history ≡ seen out'.last_pass → takes ≡ end.takes.items → IsEndOf gate out' end → StageAccount out.job.now out.edge out.index size out.every gate' passes sent history takes end.cause
+account_of_same out out' size gate gate' passes sent history takes end same size_is gate_is passes_are sent_is history_is takes_are was =
+    subst (λ (j : Bor Job). StageAccount j.now out.edge out.index size out.every gate' passes sent history takes end.cause) same.job
+    (subst (λ n. StageAccount out'.job.now n out.index size out.every gate' passes sent history takes end.cause) same.edge
+    (subst (λ n. StageAccount out'.job.now out'.edge n size out.every gate' passes sent history takes end.cause) same.index
+    (subst (λ n. StageAccount out'.job.now out'.edge out'.index n out.every gate' passes sent history takes end.cause) size_is
+    (subst (λ (x : Option ℕ). StageAccount out'.job.now out'.edge out'.index out'.output.writer.size x gate' passes sent history takes end.cause) same.every_is
+    (subst (λ (x : Account). StageAccount out'.job.now out'.edge out'.index out'.output.writer.size out'.every x passes sent history takes end.cause) (sym gate_is)
+    (subst (λ (l : List SendPass). StageAccount out'.job.now out'.edge out'.index out'.output.writer.size out'.every gate l sent history takes end.cause) (sym passes_are)
+    (subst (λ (l : List Snapshot). StageAccount out'.job.now out'.edge out'.index out'.output.writer.size out'.every gate out'.output.writer.passes l history takes end.cause) (sym sent_is)
+    (subst (λ (l : List (ℕ × Stored)). StageAccount out'.job.now out'.edge out'.index out'.output.writer.size out'.every gate out'.output.writer.passes (sent_by out'.pass) l takes end.cause) (sym history_is)
+    (subst (λ (l : List TakeRun). StageAccount out'.job.now out'.edge out'.index out'.output.writer.size out'.every gate out'.output.writer.passes (sent_by out'.pass) (seen out'.last_pass) l end.cause) (sym takes_are) was)))))))))
+
+-- what a writer gives back are passes of its partition
+pub written_back : (job : Job) (e a : ℕ) (partition : Partition) (w v : Writer) (passes : PartitionPasses) → IsWriterOf job e a partition w → IsSame w v → ArePassesBy v passes → ArePassesOf job e partition passes
+written_back job e a partition w v passes writes same by = record {
+  own = subst (λ n. AreOwnAt partition.subpartitions.now partition.first partition.stride n passes.subpartitions.items) (ap (λ (j : Job). ways_on j v.edge) (same.job ∙ writes.job_is) ∙ ap (ways_on job) (same.edge ∙ writes.edge))
+      (subst (λ k. AreOwnAt partition.subpartitions.now partition.first k (ways_on v.job v.edge) passes.subpartitions.items) (same.stride ∙ writes.stride)
+      (subst (λ k. AreOwnAt partition.subpartitions.now k v.stride (ways_on v.job v.edge) passes.subpartitions.items) (same.first ∙ writes.first)
+      (subst (λ cells. AreOwnAt cells v.first v.stride (ways_on v.job v.edge) passes.subpartitions.items) (same.cells ∙ writes.cells) by.own)));
+  pool = subst (λ cell. IsPassOf cell passes.pool) (same.pool ∙ writes.pool) by.pool;
+}
+
+-- a list that goes on from one with an entry has one
+goes_on : {A : Type 0} (xs ys : List A) → StartsWith xs ys → ys ≢ [] → xs ≢ []
+goes_on xs [] starts some = λ is. some refl
+goes_on xs (y ∷ ys) starts some = λ is. (let there = starts.1 in cc)
+
+-- what it told of its cause
+pub told_by_stage : (cell : StopCell) (saw : Type 0) (cause cause' : Cause) (before mid after : StopPass) → IsSamePass before mid → (cause ≡ causes.Stopped → saw ⊎ (seen mid ≢ [])) → ToldAtEnd cell cause cause' mid after → ToldStop cell saw cause' before after
+told_by_stage cell saw cause cause' before mid after same says told = record {
+  pass = told.pass;
+  number_is = told.number_is ∙ same.0;
+  told = told.told ∙ ap (λ l. l ++ told_of cause') same.1;
+  stopped = λ is. elim (told.stopped is) [
+    | inl was ↦ elim (says was) [ inl saw_it ↦ inl saw_it | inr some ↦ inr (goes_on (seen after) (seen mid) told.later some) ]
+    | inr some ↦ inr some
+  ];
+  done = told.done;
+}

@@ -1,0 +1,4 @@
+pub mod Snapshots
+pub mod Stages
+pub mod Applying
+pub mod Accounts

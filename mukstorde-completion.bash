@@ -3,7 +3,7 @@ _mukstorde() {
     local word=${COMP_WORDS[COMP_CWORD]} before=${COMP_WORDS[COMP_CWORD - 1]}
     COMPREPLY=()
     if [ "$COMP_CWORD" -eq 1 ]; then
-        mapfile -t COMPREPLY < <(compgen -W 'run script gen --help' -- "$word")
+        mapfile -t COMPREPLY < <(compgen -W 'run script gen inspect --help' -- "$word")
         return
     fi
     case ${COMP_WORDS[1]} in

@@ -14,11 +14,8 @@ use Rattle.job_plan.specs.Limits.{HasLongLine}
 use Rattle.job_outcome.specs.Outcomes.{AreTold, IsRunCause, IsOfInput}
 use Rattle.job_run.specs.Wires.{IsLinkGround}
 use Rattle.job_cli.specs.Causes.{of_cause, status_of}
-use Rattle.job_text.specs.declared.words.RunOptions.{RunOptions}
 use Rattle.job_cli.specs.declared.fault.Fault.{Fault}
-use Rattle.job_cli.specs.declared.fault.Fault.TheVariants.{Usage, JobLine, ScriptLine, JobInput, ScriptInput, SourceInput, Output, LongJob, LongScript, LongLine, BigSource, TooFewSegments, Link, OverCredit, Peer, Memory}
-use Rattle.job_cli.specs.Run.{HasPool, TellsSources}
-use Rattle.job_cli.specs.TextFaults.{IsExchangeFault}
+use Rattle.job_cli.specs.Run.{TellsSources}
 use Rattle.job_cli.specs.Sources.{source_name, AreInputsOf, HasFaulty, IsRunFault}
 
 -- a count that was 0 and has risen is above 0
@@ -94,22 +91,3 @@ no_output causes.BigImage seven = cc
 no_output (causes.OverCredit channel received announced) seven = cc
 no_output (causes.Peer fault) seven = cc
 no_output causes.Memory seven = cc
-
--- a fault of a run is one of a run whose pool is large enough
-pub run_is_exchange : (options : RunOptions) (job : Job) (contents : List ℕ → Option (List ℕ)) (fault : Fault) → HasPool options job → IsRunFault job contents fault → IsExchangeFault options job contents fault
-run_is_exchange options job contents (SourceInput a) enough is = (enough, is)
-run_is_exchange options job contents (LongLine a) enough is = (enough, is)
-run_is_exchange options job contents (BigSource a) enough is = (enough, is)
-run_is_exchange options job contents Link enough is = absurd is
-run_is_exchange options job contents (OverCredit channel received announced) enough is = (enough, is)
-run_is_exchange options job contents (Peer peer) enough is = (enough, is)
-run_is_exchange options job contents Memory enough is = tt
-run_is_exchange options job contents (Usage kind) enough is = absurd is
-run_is_exchange options job contents (JobLine line kind) enough is = absurd is
-run_is_exchange options job contents JobInput enough is = absurd is
-run_is_exchange options job contents Output enough is = absurd is
-run_is_exchange options job contents LongJob enough is = absurd is
-run_is_exchange options job contents (ScriptLine line) enough is = absurd is
-run_is_exchange options job contents ScriptInput enough is = absurd is
-run_is_exchange options job contents LongScript enough is = absurd is
-run_is_exchange options job contents (TooFewSegments have need) enough is = absurd is

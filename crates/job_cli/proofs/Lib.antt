@@ -1,5 +1,6 @@
 pub mod CountingLemmas
 pub mod ExchangeLemmas
+pub mod InspectLemmas
 pub mod PlanLemmas
 pub mod RunLemmas
 pub mod ScriptLemmas

@@ -10,17 +10,20 @@ use Rattle.flow_defs.specs.Tables.{table_text}
 use Rattle.plain_machine.specs.Worth.{tally}
 use Rattle.stage_fns.specs.Functions.{Functions, HasStage}
 use Rattle.job_text.specs.declared.words.RunOptions.{RunOptions}
-use Rattle.job_text.specs.Words.{IsRun, IsScript, usage_fault}
+use Rattle.job_text.specs.Words.{IsRun, IsScript, IsInspect, usage_fault}
 use Rattle.job_text.specs.JobText.{IsJobText}
 use Rattle.job_text.specs.JobFaults.{first_fault}
 use Rattle.job_cli.specs.declared.run.TheConstants.{JOB_MAX}
 use Rattle.job_cli.specs.declared.fault.Fault.{Fault}
-use Rattle.job_cli.specs.declared.fault.Fault.TheVariants.{Usage, JobLine, ScriptLine, JobInput, ScriptInput, SourceInput, Output, LongJob, LongScript, LongLine, BigSource, TooFewSegments, Link, OverCredit, Peer, Memory}
+use Rattle.job_cli.specs.declared.fault.Fault.TheVariants.{Usage, JobLine, ScriptLine, JobInput, ScriptInput, SourceInput, Keeper, Output, HoldsImage, HoldsNoImage, NotImage, LongJob, LongScript, LongLine, BigSource, TooFewSegments, Link, OverCredit, Peer, Memory}
 use Rattle.job_plan.specs.Plans.{IsReady, CanRun}
 use Rattle.job_cli.specs.Sources.{IsRunFault}
 use Rattle.job_cli.specs.Scripts.{IsScriptWith, HasEnough, IsScriptFault, ScriptRunsTo, printed_replies}
-use Rattle.job_cli.specs.TextFaults.{IsWordFault, IsJobFileFault, IsTextFault, IsExchangeFault}
-use Rattle.job_cli.specs.Run.{NamesCommand, NamesRun, NamesGoodJob, RunsTo, Prints, IsFaultOf, HasPool, HasSmallPool, IsGoodText, TellsSources, AreWithinLimits}
+use Rattle.outside.specs.Keepers.{KeptImage}
+use Rattle.job_cli.specs.Held.{HoldsLast, HoldsNone, IsHeldFault}
+use Rattle.job_cli.specs.Inspects.{Inspects, Shows, IsInspectFault}
+use Rattle.job_cli.specs.TextFaults.{IsWordFault, IsJobFileFault, IsTextFault, IsSmallPoolFault}
+use Rattle.job_cli.specs.Run.{NamesCommand, NamesRun, NamesGoodJob, NamesReadyJob, RunsTo, Prints, IsFaultOf, HasPool, HasSmallPool, IsGoodText, TellsSources, AreWithinLimits}
 
 -- stages with arguments and functions are ready
 all_ready : (functions : Functions) (stages : List Stage) → AllByRecursion (λ (s : Stage). IsArgument s.kind s.arg.items) stages → AllByRecursion (λ (s : Stage). HasStage functions s.kind) stages → AllByRecursion (IsReady functions) stages
@@ -37,38 +40,42 @@ pub can_run : (functions : Functions) (text : List ℕ) (job : Job) → IsJobTex
 can_run functions text job is = record { stages = all_ready functions job.stages.items is.is_job.arguments is.stage_functions; agg = is.agg_function }
 
 -- a fault of the words
-pub of_words : (words : List (List ℕ)) (functions : Functions) (contents : List ℕ → Option (List ℕ)) (fault : Fault) → (usage_fault words ≡ None → NamesCommand words) → IsWordFault words fault → IsFaultOf words functions contents fault
-of_words words functions contents (Usage kind) law is = is
-of_words words functions contents Memory law is = law is
-of_words words functions contents (JobLine line kind) law is = absurd is
-of_words words functions contents JobInput law is = absurd is
-of_words words functions contents (SourceInput a) law is = absurd is
-of_words words functions contents Output law is = absurd is
-of_words words functions contents LongJob law is = absurd is
-of_words words functions contents (LongLine a) law is = absurd is
-of_words words functions contents (BigSource a) law is = absurd is
-of_words words functions contents (ScriptLine line) law is = absurd is
-of_words words functions contents ScriptInput law is = absurd is
-of_words words functions contents LongScript law is = absurd is
-of_words words functions contents (TooFewSegments have need) law is = absurd is
-of_words words functions contents Link law is = absurd is
-of_words words functions contents (OverCredit channel received announced) law is = absurd is
-of_words words functions contents (Peer fault) law is = absurd is
+pub of_words : (words : List (List ℕ)) (functions : Functions) (contents : List ℕ → Option (List ℕ)) (held : Option (List KeptImage)) (fault : Fault) → (usage_fault words ≡ None → NamesCommand words) → IsWordFault words fault → IsFaultOf words functions contents held fault
+of_words words functions contents held (Usage kind) law is = is
+of_words words functions contents held Memory law is = law is
+of_words words functions contents held (JobLine line kind) law is = absurd is
+of_words words functions contents held JobInput law is = absurd is
+of_words words functions contents held (SourceInput a) law is = absurd is
+of_words words functions contents held Keeper law is = absurd is
+of_words words functions contents held (HoldsImage number) law is = absurd is
+of_words words functions contents held HoldsNoImage law is = absurd is
+of_words words functions contents held (NotImage number place) law is = absurd is
+of_words words functions contents held Output law is = absurd is
+of_words words functions contents held LongJob law is = absurd is
+of_words words functions contents held (LongLine a) law is = absurd is
+of_words words functions contents held (BigSource a) law is = absurd is
+of_words words functions contents held (ScriptLine line) law is = absurd is
+of_words words functions contents held ScriptInput law is = absurd is
+of_words words functions contents held LongScript law is = absurd is
+of_words words functions contents held (TooFewSegments have need) law is = absurd is
+of_words words functions contents held Link law is = absurd is
+of_words words functions contents held (OverCredit channel received announced) law is = absurd is
+of_words words functions contents held (Peer fault) law is = absurd is
 
-module _ (words : List (List ℕ)) (functions : Functions) (contents : List ℕ → Option (List ℕ)) (name : List ℕ) (options : RunOptions) (is_run : IsRun words name options) where
-  named : (o : Option (List ℕ)) (text : List ℕ) (P : List ℕ → Type 0) → IfSome o (λ held. text ≡ held) → P text → IfSome o P
+module _ (words : List (List ℕ)) (functions : Functions) (contents : List ℕ → Option (List ℕ)) (held : Option (List KeptImage)) (name : List ℕ) (options : RunOptions) (is_run : IsRun words name options) where
+  named : (o : Option (List ℕ)) (text : List ℕ) (P : List ℕ → Type 0) → IfSome o (λ read. text ≡ read) → P text → IfSome o P
   named None text P told p = tt
-  named (Some held) text P told p = subst P told p
+  named (Some read) text P told p = subst P told p
 
   -- what holds of the text that was read holds of the job that the words name
-  pub of_text_read : (text : List ℕ) (P : RunOptions → List ℕ → Type 0) → IfSome (contents name) (λ held. text ≡ held) → P options text → NamesRun words contents P
+  pub of_text_read : (text : List ℕ) (P : RunOptions → List ℕ → Type 0) → IfSome (contents name) (λ read. text ≡ read) → P options text → NamesRun words contents P
   of_text_read text P told p = record { job = name; options = options; is_run = is_run; holds = named (contents name) text (P options) told p }
 
-  pub of_job_read : (text : List ℕ) (job : Job) (P : RunOptions → Job → Type 0) → IfSome (contents name) (λ held. text ≡ held) → length text ≤ JOB_MAX → first_fault functions text ≡ None → IsJobText functions text job → P options job → NamesGoodJob words functions contents P
+  pub of_job_read : (text : List ℕ) (job : Job) (P : RunOptions → Job → Type 0) → IfSome (contents name) (λ read. text ≡ read) → length text ≤ JOB_MAX → first_fault functions text ≡ None → IsJobText functions text job → P options job → NamesGoodJob words functions contents P
   of_job_read text job P told fits none is p = of_text_read text (λ o t. IsGoodText functions (P o) t) told (fits, none, (job, is, p))
 
   -- a fault of the file with the job's text
-  pub of_job_file : (fault : Fault) → IsJobFileFault (contents name) fault → IsFaultOf words functions contents fault
+  pub of_job_file : (fault : Fault) → IsJobFileFault (contents name) fault → IsFaultOf words functions contents held fault
   of_job_file LongJob is = record { job = name; options = options; is_run = is_run; holds = is }
   of_job_file JobInput is = record { job = name; options = options; is_run = is_run; holds = whatever (contents name) }
     where
@@ -79,6 +86,10 @@ module _ (words : List (List ℕ)) (functions : Functions) (contents : List ℕ 
   of_job_file (Usage kind) is = absurd is
   of_job_file (JobLine line kind) is = absurd is
   of_job_file (SourceInput a) is = absurd is
+  of_job_file Keeper is = absurd is
+  of_job_file (HoldsImage number) is = absurd is
+  of_job_file HoldsNoImage is = absurd is
+  of_job_file (NotImage number place) is = absurd is
   of_job_file Output is = absurd is
   of_job_file (LongLine a) is = absurd is
   of_job_file (BigSource a) is = absurd is
@@ -91,12 +102,16 @@ module _ (words : List (List ℕ)) (functions : Functions) (contents : List ℕ 
   of_job_file (Peer fault) is = absurd is
 
   -- a fault of the text
-  pub of_text : (text : List ℕ) (fault : Fault) → IfSome (contents name) (λ held. text ≡ held) → length text ≤ JOB_MAX → IsTextFault functions text fault → IsFaultOf words functions contents fault
+  pub of_text : (text : List ℕ) (fault : Fault) → IfSome (contents name) (λ read. text ≡ read) → length text ≤ JOB_MAX → IsTextFault functions text fault → IsFaultOf words functions contents held fault
   of_text text (JobLine line kind) told fits is = of_text_read text (λ o t. (length t ≤ JOB_MAX) × (first_fault functions t ≡ Some (line, kind))) told (fits, is)
   of_text text Memory told fits is = inl (name, options, is_run)
   of_text text (Usage kind) told fits is = absurd is
   of_text text JobInput told fits is = absurd is
   of_text text (SourceInput a) told fits is = absurd is
+  of_text text Keeper told fits is = absurd is
+  of_text text (HoldsImage number) told fits is = absurd is
+  of_text text HoldsNoImage told fits is = absurd is
+  of_text text (NotImage number place) told fits is = absurd is
   of_text text Output told fits is = absurd is
   of_text text LongJob told fits is = absurd is
   of_text text (LongLine a) told fits is = absurd is
@@ -109,28 +124,82 @@ module _ (words : List (List ℕ)) (functions : Functions) (contents : List ℕ 
   of_text text (OverCredit channel received announced) told fits is = absurd is
   of_text text (Peer fault) told fits is = absurd is
 
-  -- a fault of the pool, of a source or of the exchange
-  pub of_exchange : (text : List ℕ) (job : Job) (fault : Fault) → IfSome (contents name) (λ held. text ≡ held) → length text ≤ JOB_MAX → first_fault functions text ≡ None → IsJobText functions text job → IsExchangeFault options job contents fault → IsFaultOf words functions contents fault
-  of_exchange text job (TooFewSegments have need) told fits none is fault = inl (of_job_read text job (λ o j. HasSmallPool o j have need) told fits none is fault)
-  of_exchange text job (SourceInput a) told fits none is fault = of_job_read text job (λ o j. HasPool o j × IsRunFault j contents (SourceInput a)) told fits none is fault
-  of_exchange text job (LongLine a) told fits none is fault = of_job_read text job (λ o j. HasPool o j × IsRunFault j contents (LongLine a)) told fits none is fault
-  of_exchange text job (BigSource a) told fits none is fault = of_job_read text job (λ o j. HasPool o j × IsRunFault j contents (BigSource a)) told fits none is fault
-  of_exchange text job Link told fits none is fault = absurd fault.1
-  of_exchange text job (OverCredit channel received announced) told fits none is fault = (of_job_read text job (λ o j. HasPool o j × ⊤) told fits none is (fault.0, tt), fault.1)
-  of_exchange text job (Peer peer) told fits none is fault = of_job_read text job (λ o j. HasPool o j × ⊤) told fits none is fault
-  of_exchange text job Memory told fits none is fault = inl (name, options, is_run)
-  of_exchange text job (Usage kind) told fits none is fault = absurd fault.1
-  of_exchange text job (JobLine line kind) told fits none is fault = absurd fault.1
-  of_exchange text job JobInput told fits none is fault = absurd fault.1
-  of_exchange text job Output told fits none is fault = absurd fault.1
-  of_exchange text job LongJob told fits none is fault = absurd fault.1
-  of_exchange text job (ScriptLine line) told fits none is fault = absurd fault.1
-  of_exchange text job ScriptInput told fits none is fault = absurd fault.1
-  of_exchange text job LongScript told fits none is fault = absurd fault.1
+  -- a fault of the pool
+  pub of_pool : (text : List ℕ) (job : Job) (fault : Fault) → IfSome (contents name) (λ read. text ≡ read) → length text ≤ JOB_MAX → first_fault functions text ≡ None → IsJobText functions text job → IsSmallPoolFault options job fault → IsFaultOf words functions contents held fault
+  of_pool text job (TooFewSegments have need) told fits none is fault = inl (of_job_read text job (λ o j. HasSmallPool o j have need) told fits none is fault)
+  of_pool text job (Usage kind) told fits none is fault = absurd fault
+  of_pool text job (JobLine line kind) told fits none is fault = absurd fault
+  of_pool text job (ScriptLine line) told fits none is fault = absurd fault
+  of_pool text job JobInput told fits none is fault = absurd fault
+  of_pool text job ScriptInput told fits none is fault = absurd fault
+  of_pool text job (SourceInput a) told fits none is fault = absurd fault
+  of_pool text job Keeper told fits none is fault = absurd fault
+  of_pool text job Output told fits none is fault = absurd fault
+  of_pool text job (HoldsImage number) told fits none is fault = absurd fault
+  of_pool text job HoldsNoImage told fits none is fault = absurd fault
+  of_pool text job (NotImage number place) told fits none is fault = absurd fault
+  of_pool text job LongJob told fits none is fault = absurd fault
+  of_pool text job LongScript told fits none is fault = absurd fault
+  of_pool text job (LongLine a) told fits none is fault = absurd fault
+  of_pool text job (BigSource a) told fits none is fault = absurd fault
+  of_pool text job Link told fits none is fault = absurd fault
+  of_pool text job (OverCredit channel received announced) told fits none is fault = absurd fault
+  of_pool text job (Peer peer) told fits none is fault = absurd fault
+  of_pool text job Memory told fits none is fault = absurd fault
+
+  -- the words name a job that has its pool
+  pub of_enough : (text : List ℕ) (job : Job) (P : Job → Type 0) → IfSome (contents name) (λ read. text ≡ read) → length text ≤ JOB_MAX → first_fault functions text ≡ None → IsJobText functions text job → HasPool options job → P job → NamesReadyJob words functions contents P
+  of_enough text job P told fits none is enough p = of_job_read text job (λ o j. HasPool o j × P j) told fits none is (enough, p)
+
+  -- a fault of the keeper or of an image that it holds
+  pub of_held : (fault : Fault) → NamesReadyJob words functions contents (λ job. ⊤) → IsHeldFault held fault → IsFaultOf words functions contents held fault
+  of_held Keeper ready fault = inl ready
+  of_held (HoldsImage number) ready fault = (ready, fault)
+  of_held Memory ready fault = inl (name, options, is_run)
+  of_held (Usage kind) ready fault = absurd fault
+  of_held (JobLine line kind) ready fault = absurd fault
+  of_held (ScriptLine line) ready fault = absurd fault
+  of_held JobInput ready fault = absurd fault
+  of_held ScriptInput ready fault = absurd fault
+  of_held (SourceInput a) ready fault = absurd fault
+  of_held Output ready fault = absurd fault
+  of_held HoldsNoImage ready fault = absurd fault
+  of_held (NotImage number place) ready fault = absurd fault
+  of_held LongJob ready fault = absurd fault
+  of_held LongScript ready fault = absurd fault
+  of_held (LongLine a) ready fault = absurd fault
+  of_held (BigSource a) ready fault = absurd fault
+  of_held (TooFewSegments have need) ready fault = absurd fault
+  of_held Link ready fault = absurd fault
+  of_held (OverCredit channel received announced) ready fault = absurd fault
+  of_held (Peer peer) ready fault = absurd fault
+
+  -- a fault of a source or of the exchange
+  pub of_run : (text : List ℕ) (job : Job) (fault : Fault) → HoldsNone held → ((P : Job → Type 0) → P job → NamesReadyJob words functions contents P) → IsRunFault job contents fault → IsFaultOf words functions contents held fault
+  of_run text job (SourceInput a) none ready is = (none, ready (λ j. IsRunFault j contents (SourceInput a)) is)
+  of_run text job (LongLine a) none ready is = (none, ready (λ j. IsRunFault j contents (LongLine a)) is)
+  of_run text job (BigSource a) none ready is = (none, ready (λ j. IsRunFault j contents (BigSource a)) is)
+  of_run text job (OverCredit channel received announced) none ready is = ((none, ready (λ j. ⊤) tt), is)
+  of_run text job (Peer peer) none ready is = (none, ready (λ j. ⊤) tt)
+  of_run text job Memory none ready is = inl (name, options, is_run)
+  of_run text job (Usage kind) none ready is = absurd is
+  of_run text job (JobLine line kind) none ready is = absurd is
+  of_run text job (ScriptLine line) none ready is = absurd is
+  of_run text job JobInput none ready is = absurd is
+  of_run text job ScriptInput none ready is = absurd is
+  of_run text job Keeper none ready is = absurd is
+  of_run text job Output none ready is = absurd is
+  of_run text job (HoldsImage number) none ready is = absurd is
+  of_run text job HoldsNoImage none ready is = absurd is
+  of_run text job (NotImage number place) none ready is = absurd is
+  of_run text job LongJob none ready is = absurd is
+  of_run text job LongScript none ready is = absurd is
+  of_run text job (TooFewSegments have need) none ready is = absurd is
+  of_run text job Link none ready is = absurd is
 
 -- what a run to a text leads to
-pub runs_on : (words : List (List ℕ)) (functions : Functions) (contents : List ℕ → Option (List ℕ)) (P Q : List ℕ → Type 0) → ((text : List ℕ) → P text → Q text) → RunsTo words functions contents P → RunsTo words functions contents Q
-runs_on words functions contents P Q leads run = record { job = run.job; options = run.options; is_run = run.is_run; holds = on run.options (contents run.job) run.holds }
+pub runs_on : (words : List (List ℕ)) (functions : Functions) (contents : List ℕ → Option (List ℕ)) (held : Option (List KeptImage)) (P Q : List ℕ → Type 0) → ((text : List ℕ) → P text → Q text) → RunsTo words functions contents held P → RunsTo words functions contents held Q
+runs_on words functions contents held P Q leads (none, run) = (none, record { job = run.job; options = run.options; is_run = run.is_run; holds = on run.options (contents run.job) run.holds })
   where
     on : (options : RunOptions) (o : Option (List ℕ))
         → IfSome o (λ text. IsGoodText functions (λ job. HasPool options job × ((bytes : ℕ → List ℕ) → TellsSources job contents bytes → AreWithinLimits job bytes × P (table_text (tally job (λ a. lines (bytes a)))))) text)
@@ -141,27 +210,31 @@ runs_on words functions contents P Q leads run = record { job = run.job; options
 -- ---- scripts
 
 -- a fault of the script that the words name
-pub of_script : (words : List (List ℕ)) (functions : Functions) (contents : List ℕ → Option (List ℕ)) (name : List ℕ) → IsScript words name → (fault : Fault) → IsScriptFault (contents name) fault → IsFaultOf words functions contents fault
-of_script words functions contents name is_script ScriptInput is = (name, is_script, whatever (contents name))
+pub of_script : (words : List (List ℕ)) (functions : Functions) (contents : List ℕ → Option (List ℕ)) (held : Option (List KeptImage)) (name : List ℕ) → IsScript words name → (fault : Fault) → IsScriptFault (contents name) fault → IsFaultOf words functions contents held fault
+of_script words functions contents held name is_script ScriptInput is = (name, is_script, whatever (contents name))
   where
     whatever : (o : Option (List ℕ)) → IfSome o (λ text. ⊤)
     whatever None = tt
     whatever (Some text) = tt
-of_script words functions contents name is_script LongScript is = (name, is_script, is)
-of_script words functions contents name is_script (ScriptLine line) is = (name, is_script, is)
-of_script words functions contents name is_script (TooFewSegments have need) is = inr (name, is_script, is)
-of_script words functions contents name is_script Memory is = inr (inl (name, is_script))
-of_script words functions contents name is_script (Usage kind) is = absurd is
-of_script words functions contents name is_script (JobLine line kind) is = absurd is
-of_script words functions contents name is_script JobInput is = absurd is
-of_script words functions contents name is_script (SourceInput a) is = absurd is
-of_script words functions contents name is_script Output is = absurd is
-of_script words functions contents name is_script LongJob is = absurd is
-of_script words functions contents name is_script (LongLine a) is = absurd is
-of_script words functions contents name is_script (BigSource a) is = absurd is
-of_script words functions contents name is_script Link is = absurd is
-of_script words functions contents name is_script (OverCredit channel received announced) is = absurd is
-of_script words functions contents name is_script (Peer fault) is = absurd is
+of_script words functions contents held name is_script LongScript is = (name, is_script, is)
+of_script words functions contents held name is_script (ScriptLine line) is = (name, is_script, is)
+of_script words functions contents held name is_script (TooFewSegments have need) is = inr (name, is_script, is)
+of_script words functions contents held name is_script Memory is = inr (inl (name, is_script))
+of_script words functions contents held name is_script (Usage kind) is = absurd is
+of_script words functions contents held name is_script (JobLine line kind) is = absurd is
+of_script words functions contents held name is_script JobInput is = absurd is
+of_script words functions contents held name is_script (SourceInput a) is = absurd is
+of_script words functions contents held name is_script Keeper is = absurd is
+of_script words functions contents held name is_script (HoldsImage number) is = absurd is
+of_script words functions contents held name is_script HoldsNoImage is = absurd is
+of_script words functions contents held name is_script (NotImage number place) is = absurd is
+of_script words functions contents held name is_script Output is = absurd is
+of_script words functions contents held name is_script LongJob is = absurd is
+of_script words functions contents held name is_script (LongLine a) is = absurd is
+of_script words functions contents held name is_script (BigSource a) is = absurd is
+of_script words functions contents held name is_script Link is = absurd is
+of_script words functions contents held name is_script (OverCredit channel received announced) is = absurd is
+of_script words functions contents held name is_script (Peer fault) is = absurd is
 
 -- what a script's run to a text leads to
 pub script_runs_on : (words : List (List ℕ)) (contents : List ℕ → Option (List ℕ)) (P Q : List ℕ → Type 0) → ((text : List ℕ) → P text → Q text) → ScriptRunsTo words contents P → ScriptRunsTo words contents Q
@@ -171,11 +244,45 @@ script_runs_on words contents P Q leads run = (run.0, run.1, on (contents run.0)
     on None it = tt
     on (Some text) it = (it.0, (it.1.0, it.1.1, (it.1.2.0, leads _ it.1.2.1)))
 
+-- ---- the keeper's last image
+
+-- a fault of a keeper whose last image is to be shown
+pub of_inspect : (words : List (List ℕ)) (functions : Functions) (contents : List ℕ → Option (List ℕ)) (held : Option (List KeptImage)) → IsInspect words → (fault : Fault) → IsInspectFault held fault → IsFaultOf words functions contents held fault
+of_inspect words functions contents held inspect Keeper is = inr inspect
+of_inspect words functions contents held inspect HoldsNoImage is = (inspect, is)
+of_inspect words functions contents held inspect (NotImage number place) is = (inspect, is)
+of_inspect words functions contents held inspect Memory is = inr (inr (inr inspect))
+of_inspect words functions contents held inspect (Usage kind) is = absurd is
+of_inspect words functions contents held inspect (JobLine line kind) is = absurd is
+of_inspect words functions contents held inspect (ScriptLine line) is = absurd is
+of_inspect words functions contents held inspect JobInput is = absurd is
+of_inspect words functions contents held inspect ScriptInput is = absurd is
+of_inspect words functions contents held inspect (SourceInput a) is = absurd is
+of_inspect words functions contents held inspect Output is = absurd is
+of_inspect words functions contents held inspect (HoldsImage number) is = absurd is
+of_inspect words functions contents held inspect LongJob is = absurd is
+of_inspect words functions contents held inspect LongScript is = absurd is
+of_inspect words functions contents held inspect (LongLine a) is = absurd is
+of_inspect words functions contents held inspect (BigSource a) is = absurd is
+of_inspect words functions contents held inspect (TooFewSegments have need) is = absurd is
+of_inspect words functions contents held inspect Link is = absurd is
+of_inspect words functions contents held inspect (OverCredit channel received announced) is = absurd is
+of_inspect words functions contents held inspect (Peer peer) is = absurd is
+
+-- what is shown of it leads to what holds of that
+pub inspects_on : (words : List (List ℕ)) (held : Option (List KeptImage)) (P Q : List ℕ → Type 0) → ((text : List ℕ) → P text → Q text) → Inspects words held P → Inspects words held Q
+inspects_on words held P Q leads (inspect, shown_last) = (inspect, on held shown_last)
+  where
+    on : (o : Option (List KeptImage)) → HoldsLast o (Shows P) → HoldsLast o (Shows Q)
+    on None it = tt
+    on (Some images) (kept, last, (image, job, is_in, number, is_job, p)) = (kept, last, (image, job, is_in, number, is_job, leads _ p))
+
 -- what is printed leads to what holds of it
-pub prints_on : (words : List (List ℕ)) (functions : Functions) (contents : List ℕ → Option (List ℕ)) (P Q : List ℕ → Type 0) → ((text : List ℕ) → P text → Q text) → Prints words functions contents P → Prints words functions contents Q
-prints_on words functions contents P Q leads (inl run) = inl (runs_on words functions contents P Q leads run)
-prints_on words functions contents P Q leads (inr (inl run)) = inr (inl (script_runs_on words contents P Q leads run))
-prints_on words functions contents P Q leads (inr (inr gen)) = inr (inr (gen.0, gen.1, gen.2, leads _ gen.3))
+pub prints_on : (words : List (List ℕ)) (functions : Functions) (contents : List ℕ → Option (List ℕ)) (held : Option (List KeptImage)) (P Q : List ℕ → Type 0) → ((text : List ℕ) → P text → Q text) → Prints words functions contents held P → Prints words functions contents held Q
+prints_on words functions contents held P Q leads (inl run) = inl (runs_on words functions contents held P Q leads run)
+prints_on words functions contents held P Q leads (inr (inl script)) = inr (inl (script_runs_on words contents P Q leads script))
+prints_on words functions contents held P Q leads (inr (inr (inl gen))) = inr (inr (inl (gen.0, gen.1, gen.2, leads _ gen.3)))
+prints_on words functions contents held P Q leads (inr (inr (inr inspects))) = inr (inr (inr (inspects_on words held P Q leads inspects)))
 
 -- what holds of a text that was read holds of the bytes that are told
 pub held_too : (o : Option (List ℕ)) (text : List ℕ) (P : List ℕ → Type 0) → IfSome o (λ held. text ≡ held) → P text → IfSome o P

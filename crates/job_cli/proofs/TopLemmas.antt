@@ -6,23 +6,28 @@ use Rattle.std.proofs.lemmas.List.{length-map}
 use Rattle.flow_defs.specs.Items.{Items}
 use Rattle.flow_defs.specs.Tables.{table_text}
 use Rattle.plain_machine.specs.Worth.{tally}
-use Rattle.job_text.specs.declared.words.Command.TheVariants.{Run as RunCommand, Script as ScriptCommand, Gen as GenCommand}
+use Rattle.job_text.specs.declared.words.Command.TheVariants.{Run as RunCommand, Script as ScriptCommand, Gen as GenCommand, Inspect as InspectCommand}
 use Rattle.job_text.specs.declared.words.RunOptions.{RunOptions}
 use Rattle.job_text.specs.Laws.{JobTextHasNoFault, JobTextNamesItsFiles, CommandHasNoFault, WordsAreOneCommand, source_files}
+use Rattle.flow_defs.specs.declared.image.Image.{Image}
 use Rattle.flow_defs.specs.declared.job.Job.{Job}
 use Rattle.flow_defs.specs.Jobs.{segments_needed, tasks}
 use Rattle.flow_defs.specs.Lines.{lines}
 use Rattle.stage_fns.specs.Functions.{Functions}
-use Rattle.job_text.specs.Words.{IsRun, IsScript, IsGen, usage_fault}
+use Rattle.job_text.specs.Words.{IsRun, IsScript, IsGen, IsInspect, usage_fault}
 use Rattle.job_text.specs.JobText.{IsJobText}
 use Rattle.job_text.specs.JobFaults.{first_fault}
 use Rattle.job_cli.specs.declared.run.TheConstants.{JOB_MAX}
 use Rattle.job_plan.specs.declared.limits.TheConstants.{SOURCE_MAX}
 use Rattle.job_cli.specs.declared.fault.Fault.{Fault}
-use Rattle.job_cli.specs.declared.fault.Fault.TheVariants.{Usage, JobLine, ScriptLine, JobInput, ScriptInput, SourceInput, Output, LongJob, LongScript, LongLine, BigSource, TooFewSegments, Link, OverCredit, Peer, Memory}
+use Rattle.job_cli.specs.declared.fault.Fault.TheVariants.{Usage, JobLine, ScriptLine, JobInput, ScriptInput, SourceInput, Keeper, Output, HoldsImage, HoldsNoImage, NotImage, LongJob, LongScript, LongLine, BigSource, TooFewSegments, Link, OverCredit, Peer, Memory}
 use Rattle.job_cli.specs.Causes.{status_of}
 use Rattle.job_cli.specs.FaultTexts.{fault_line}
 use Rattle.job_cli.specs.Front.{GotFront}
+use Rattle.outside.specs.Keepers.{KeptImage, last_image}
+use Rattle.job_cli.specs.Held.{HoldsLast, HoldsNone, TellsLast}
+use Rattle.job_cli.specs.Inspects.{Shows, IsKept, IsNoImageAt, HasNoneToShow}
+use Rattle.job_cli.proofs.InspectLemmas.{none_and_last, told_last, none_shown, is_shown}
 use Rattle.job_plan.specs.Limits.{HasLongLine, IsOverLimit}
 use Rattle.job_cli.specs.Sources.{source_name, IsOfSource}
 use Rattle.job_cli.proofs.SegmentLemmas.{needs_same}
@@ -30,7 +35,7 @@ use Rattle.job_cli.specs.declared.script.TheConstants.{SCRIPT_MAX}
 use Rattle.job_cli.specs.Scripts.{NamesScript, Replies, IsScriptWith, HasEnough, HasTooFew, HasBadLine, IsNoScript, PassesScriptLimit, TellsScript, printed_replies}
 use Rattle.script_text.specs.declared.event.Script.{Script}
 use Rattle.script_text.specs.Laws.{ScriptTextHasNoBadLine, ScriptTextIsOfOneScript}
-use Rattle.job_cli.specs.Run.{NamesCommand, NamesRun, NamesJob, NamesGoodJob, NamesReadyJob, IsGoodText, HasPool, HasSmallPool, Prints, IsFaultOf, HasToldOverCredit, IsNoJob, IsOverLimits, PassesLimit, TellsJob, TellsRun, TellsSources, AreWithinLimits}
+use Rattle.job_cli.specs.Run.{NamesCommand, NamesRun, NamesJob, NamesGoodJob, NamesReadyJob, IsGoodText, HasPool, HasSmallPool, Prints, IsFaultOf, HasToldOverCredit, IsHindered, IsNoJob, IsOverLimits, PassesLimit, TellsJob, TellsRun, TellsSources, AreWithinLimits}
 
 abbrev file_name : Items ℕ → List ℕ
 file_name file = file.items
@@ -41,35 +46,43 @@ name_in [] a = refl
 name_in (file ∷ sources) zero = refl
 name_in (file ∷ sources) (suc a) = name_in sources a
 
-module _ (words : List (List ℕ)) (functions : Functions) (contents : List ℕ → Option (List ℕ)) where
+module _ (words : List (List ℕ)) (functions : Functions) (contents : List ℕ → Option (List ℕ)) (held : Option (List KeptImage)) where
   -- ---- of the statuses
 
   -- which statuses there are
-  pub known_status : (fault : Fault) → IsFaultOf words functions contents fault → Contains (0 ∷ 2 ∷ 3 ∷ 4 ∷ 7 ∷ 10 ∷ 11 ∷ 12 ∷ 70 ∷ []) (status_of fault)
+  pub known_status : (fault : Fault) → IsFaultOf words functions contents held fault → Contains (0 ∷ 2 ∷ 3 ∷ 4 ∷ 5 ∷ 7 ∷ 8 ∷ 10 ∷ 11 ∷ 12 ∷ 70 ∷ []) (status_of fault)
   known_status (Usage kind) is = (1, omega arith, refl)
   known_status (JobLine line kind) is = (2, omega arith, refl)
   known_status (ScriptLine line) is = (2, omega arith, refl)
   known_status JobInput is = (3, omega arith, refl)
   known_status ScriptInput is = (3, omega arith, refl)
   known_status (SourceInput a) is = (3, omega arith, refl)
+  known_status Keeper is = (4, omega arith, refl)
+  known_status (HoldsImage number) is = (6, omega arith, refl)
+  known_status HoldsNoImage is = (6, omega arith, refl)
+  known_status (NotImage number place) is = (6, omega arith, refl)
   known_status Link is = absurd is
-  known_status Output is = (4, omega arith, refl)
-  known_status LongJob is = (5, omega arith, refl)
-  known_status LongScript is = (5, omega arith, refl)
-  known_status (LongLine a) is = (5, omega arith, refl)
-  known_status (BigSource a) is = (5, omega arith, refl)
-  known_status (TooFewSegments have need) is = (5, omega arith, refl)
-  known_status (OverCredit channel received announced) is = (6, omega arith, refl)
-  known_status (Peer peer) is = (7, omega arith, refl)
-  known_status Memory is = (8, omega arith, refl)
+  known_status Output is = (5, omega arith, refl)
+  known_status LongJob is = (7, omega arith, refl)
+  known_status LongScript is = (7, omega arith, refl)
+  known_status (LongLine a) is = (7, omega arith, refl)
+  known_status (BigSource a) is = (7, omega arith, refl)
+  known_status (TooFewSegments have need) is = (7, omega arith, refl)
+  known_status (OverCredit channel received announced) is = (8, omega arith, refl)
+  known_status (Peer peer) is = (9, omega arith, refl)
+  known_status Memory is = (10, omega arith, refl)
 
-  pub no_link : (fault : Fault) → IsFaultOf words functions contents fault → status_of fault ≡ 6 → ⊥
+  pub no_link : (fault : Fault) → IsFaultOf words functions contents held fault → status_of fault ≡ 6 → ⊥
   no_link (Usage kind) is six = cc
   no_link (JobLine line kind) is six = cc
   no_link (ScriptLine line) is six = cc
   no_link JobInput is six = cc
   no_link ScriptInput is six = cc
   no_link (SourceInput a) is six = cc
+  no_link Keeper is six = cc
+  no_link (HoldsImage number) is six = cc
+  no_link HoldsNoImage is six = cc
+  no_link (NotImage number place) is six = cc
   no_link Link is six = is
   no_link Output is six = cc
   no_link LongJob is six = cc
@@ -82,7 +95,7 @@ module _ (words : List (List ℕ)) (functions : Functions) (contents : List ℕ 
   no_link Memory is six = cc
 
   -- with the status of data over the credit the line tells of one more than was announced
-  pub told_over : (before after : Option (List ℕ)) (risen : Type 0) (fault : Fault) → status_of fault ≡ 11 → IsFaultOf words functions contents fault →
+  pub told_over : (before after : Option (List ℕ)) (risen : Type 0) (fault : Fault) → status_of fault ≡ 11 → IsFaultOf words functions contents held fault →
       IfSome before (λ had. GotFront had (fault_line fault) after) → ((risen → ⊥) → IfSome before (λ had. after ≡ Some (had ++ fault_line fault))) →
       HasToldOverCredit before after risen
   told_over before after risen (Usage kind) eleven is front all = absurd (cc)
@@ -91,6 +104,10 @@ module _ (words : List (List ℕ)) (functions : Functions) (contents : List ℕ 
   told_over before after risen JobInput eleven is front all = absurd (cc)
   told_over before after risen ScriptInput eleven is front all = absurd (cc)
   told_over before after risen (SourceInput a) eleven is front all = absurd (cc)
+  told_over before after risen Keeper eleven is front all = absurd (cc)
+  told_over before after risen (HoldsImage number) eleven is front all = absurd (cc)
+  told_over before after risen HoldsNoImage eleven is front all = absurd (cc)
+  told_over before after risen (NotImage number place) eleven is front all = absurd (cc)
   told_over before after risen Link eleven is front all = absurd (cc)
   told_over before after risen Output eleven is front all = absurd (cc)
   told_over before after risen LongJob eleven is front all = absurd (cc)
@@ -107,25 +124,31 @@ module _ (words : List (List ℕ)) (functions : Functions) (contents : List ℕ 
   is_named : (P : RunOptions → List ℕ → Type 0) → NamesRun words contents P → NamesCommand words
   is_named P named = inl (named.job, named.options, named.is_run)
 
-  pub names_command : (fault : Fault) → (status_of fault ≡ 2 → ⊥) → IsFaultOf words functions contents fault → NamesCommand words
+  pub names_command : (fault : Fault) → (status_of fault ≡ 2 → ⊥) → IsFaultOf words functions contents held fault → NamesCommand words
   names_command (Usage kind) other is = absurd (other refl)
   names_command (JobLine line kind) other is = inl (is.job, is.options, is.is_run)
   names_command JobInput other is = inl (is.job, is.options, is.is_run)
-  names_command (SourceInput a) other is = inl (is.job, is.options, is.is_run)
+  names_command (SourceInput a) other is = is_named _ is.1
   names_command Link other is = absurd is
-  names_command (OverCredit channel received announced) other is = inl (is.0.job, is.0.options, is.0.is_run)
-  names_command (Peer peer) other is = inl (is.job, is.options, is.is_run)
-  names_command Output other (inl run) = inl (run.job, run.options, run.is_run)
+  names_command (OverCredit channel received announced) other is = is_named _ is.0.1
+  names_command (Peer peer) other is = is_named _ is.1
+  names_command Output other (inl run) = is_named _ run.1
   names_command Output other (inr (inl run)) = inr (inl (run.0, run.1))
-  names_command Output other (inr (inr gen)) = inr (inr (gen.0, gen.1, gen.2))
+  names_command Output other (inr (inr (inl gen))) = inr (inr (inl (gen.0, gen.1, gen.2)))
+  names_command Output other (inr (inr (inr inspects))) = inr (inr (inr inspects.0))
+  names_command Keeper other (inl run) = is_named _ run
+  names_command Keeper other (inr inspect) = inr (inr (inr inspect))
+  names_command (HoldsImage number) other is = is_named _ is.0
+  names_command HoldsNoImage other is = inr (inr (inr is.0))
+  names_command (NotImage number place) other is = inr (inr (inr is.0))
   names_command (ScriptLine line) other is = inr (inl (is.0, is.1))
   names_command ScriptInput other is = inr (inl (is.0, is.1))
   names_command LongScript other is = inr (inl (is.0, is.1))
   names_command (TooFewSegments have need) other (inl run) = inl (run.job, run.options, run.is_run)
   names_command (TooFewSegments have need) other (inr is) = inr (inl (is.0, is.1))
   names_command LongJob other is = inl (is.job, is.options, is.is_run)
-  names_command (LongLine a) other is = inl (is.job, is.options, is.is_run)
-  names_command (BigSource a) other is = inl (is.job, is.options, is.is_run)
+  names_command (LongLine a) other is = is_named _ is.1
+  names_command (BigSource a) other is = is_named _ is.1
   names_command Memory other is = is
 
   -- ---- of the text
@@ -138,12 +161,16 @@ module _ (words : List (List ℕ)) (functions : Functions) (contents : List ℕ 
   bad_script None line is = tt
   bad_script (Some text) line is = (line, is)
 
-  pub no_job : (fault : Fault) → status_of fault ≡ 3 → IsFaultOf words functions contents fault → NamesJob words contents (IsNoJob functions) ⊎ NamesScript words contents IsNoScript
+  pub no_job : (fault : Fault) → status_of fault ≡ 3 → IsFaultOf words functions contents held fault → NamesJob words contents (IsNoJob functions) ⊎ NamesScript words contents IsNoScript
   no_job (JobLine line kind) three is = inl (record { job = is.job; options = is.options; is_run = is.is_run; holds = some_fault (contents is.job) (line, kind) is.holds })
   no_job (ScriptLine line) three is = inr (is.0, is.1, bad_script (contents is.0) line is.2)
   no_job (Usage kind) three is = absurd (cc)
   no_job JobInput three is = absurd (cc)
   no_job (SourceInput a) three is = absurd (cc)
+  no_job Keeper three is = absurd (cc)
+  no_job (HoldsImage number) three is = absurd (cc)
+  no_job HoldsNoImage three is = absurd (cc)
+  no_job (NotImage number place) three is = absurd (cc)
   no_job Link three is = absurd (cc)
   no_job (OverCredit channel received announced) three is = absurd (cc)
   no_job (Peer peer) three is = absurd (cc)
@@ -187,16 +214,20 @@ module _ (words : List (List ℕ)) (functions : Functions) (contents : List ℕ 
   too_few None have need is = tt
   too_few (Some text) have need is = let pool = is.1.2 in inr (is.0, (is.1.0, is.1.1, omega (arith, pool.have_is, pool.need_is, pool.few)))
 
-  pub passes_limit : (fault : Fault) → status_of fault ≡ 10 → IsFaultOf words functions contents fault → PassesLimit words functions contents ⊎ NamesScript words contents PassesScriptLimit
+  pub passes_limit : (fault : Fault) → status_of fault ≡ 10 → IsFaultOf words functions contents held fault → PassesLimit words functions contents ⊎ NamesScript words contents PassesScriptLimit
   passes_limit LongJob ten is = inl (record { job = is.job; options = is.options; is_run = is.is_run; holds = long_job is.options (contents is.job) is.holds })
-  passes_limit (LongLine a) ten is = inl (record { job = is.job; options = is.options; is_run = is.is_run; holds = over_source is.options (contents is.job) a (λ bytes. HasLongLine (lines bytes)) (λ bytes long. inr long) is.holds })
-  passes_limit (BigSource a) ten is = inl (record { job = is.job; options = is.options; is_run = is.is_run; holds = over_source is.options (contents is.job) a (λ bytes. SOURCE_MAX < length bytes) (λ bytes big. inl big) is.holds })
+  passes_limit (LongLine a) ten is = inl (record { job = is.1.job; options = is.1.options; is_run = is.1.is_run; holds = over_source is.1.options (contents is.1.job) a (λ bytes. HasLongLine (lines bytes)) (λ bytes long. inr long) is.1.holds })
+  passes_limit (BigSource a) ten is = inl (record { job = is.1.job; options = is.1.options; is_run = is.1.is_run; holds = over_source is.1.options (contents is.1.job) a (λ bytes. SOURCE_MAX < length bytes) (λ bytes big. inl big) is.1.holds })
   passes_limit (TooFewSegments have need) ten (inl is) = inl (record { job = is.job; options = is.options; is_run = is.is_run; holds = small_pool is.options (contents is.job) have need is.holds })
   passes_limit (TooFewSegments have need) ten (inr is) = inr (is.0, is.1, too_few (contents is.0) have need is.2)
   passes_limit (Usage kind) ten is = absurd (cc)
   passes_limit (JobLine line kind) ten is = absurd (cc)
   passes_limit JobInput ten is = absurd (cc)
   passes_limit (SourceInput a) ten is = absurd (cc)
+  passes_limit Keeper ten is = absurd (cc)
+  passes_limit (HoldsImage number) ten is = absurd (cc)
+  passes_limit HoldsNoImage ten is = absurd (cc)
+  passes_limit (NotImage number place) ten is = absurd (cc)
   passes_limit Link ten is = absurd (cc)
   passes_limit (OverCredit channel received announced) ten is = absurd (cc)
   passes_limit (Peer peer) ten is = absurd (cc)
@@ -206,7 +237,43 @@ module _ (words : List (List ℕ)) (functions : Functions) (contents : List ℕ 
   passes_limit (ScriptLine line) ten is = absurd (cc)
   passes_limit ScriptInput ten is = absurd (cc)
 
-module _ (words : List (List ℕ)) (functions : Functions) (contents : List ℕ → Option (List ℕ)) (no_usage_fault : CommandHasNoFault) (one_command : WordsAreOneCommand) where
+  -- ---- of the keeper
+
+  none_to_show : (o : Option (List KeptImage)) (number place : ℕ) → HoldsLast o (λ kept. (kept.number ≡ number) × IsNoImageAt place kept) → IfSome o HasNoneToShow
+  none_to_show None number place is = tt
+  none_to_show (Some images) number place is = inr (is.0, place, is.1, is.2.1)
+
+  no_image : (o : Option (List KeptImage)) → HoldsNone o → IfSome o HasNoneToShow
+  no_image None is = tt
+  no_image (Some images) is = inl is
+
+  an_image : (o : Option (List KeptImage)) (number : ℕ) → HoldsLast o (λ kept. kept.number ≡ number) → HoldsLast o (λ kept. ⊤)
+  an_image None number is = tt
+  an_image (Some images) number is = (is.0, is.1, tt)
+
+  pub hindered : (fault : Fault) → status_of fault ≡ 8 → IsFaultOf words functions contents held fault → IsHindered words functions contents held
+  hindered (HoldsImage number) eight is = inl (is.0, an_image held number is.1)
+  hindered HoldsNoImage eight is = inr (is.0, no_image held is.1)
+  hindered (NotImage number place) eight is = inr (is.0, none_to_show held number place is.1)
+  hindered (Usage kind) eight is = absurd (cc)
+  hindered (JobLine line kind) eight is = absurd (cc)
+  hindered (ScriptLine line) eight is = absurd (cc)
+  hindered JobInput eight is = absurd (cc)
+  hindered ScriptInput eight is = absurd (cc)
+  hindered (SourceInput a) eight is = absurd (cc)
+  hindered Keeper eight is = absurd (cc)
+  hindered Link eight is = absurd (cc)
+  hindered Output eight is = absurd (cc)
+  hindered LongJob eight is = absurd (cc)
+  hindered LongScript eight is = absurd (cc)
+  hindered (LongLine a) eight is = absurd (cc)
+  hindered (BigSource a) eight is = absurd (cc)
+  hindered (TooFewSegments have need) eight is = absurd (cc)
+  hindered (OverCredit channel received announced) eight is = absurd (cc)
+  hindered (Peer peer) eight is = absurd (cc)
+  hindered Memory eight is = absurd (cc)
+
+module _ (words : List (List ℕ)) (functions : Functions) (contents : List ℕ → Option (List ℕ)) (held : Option (List KeptImage)) (no_usage_fault : CommandHasNoFault) (one_command : WordsAreOneCommand) where
   -- ---- which status comes
 
   -- no words are those of both commands
@@ -218,6 +285,15 @@ module _ (words : List (List ℕ)) (functions : Functions) (contents : List ℕ 
 
   no_lines : (file : List ℕ) (lines seed : ℕ) → IsScript words file → IsGen words lines seed → ⊥
   no_lines file lines seed script gen = let same = one_command words (ScriptCommand file) (GenCommand lines seed) script gen in cc
+
+  no_inspect : (job : List ℕ) (options : RunOptions) → IsRun words job options → IsInspect words → ⊥
+  no_inspect job options run inspect = let same = one_command words (RunCommand job options) InspectCommand run inspect in cc
+
+  no_show : (file : List ℕ) → IsScript words file → IsInspect words → ⊥
+  no_show file script inspect = let same = one_command words (ScriptCommand file) InspectCommand script inspect in cc
+
+  no_gen_too : (lines seed : ℕ) → IsGen words lines seed → IsInspect words → ⊥
+  no_gen_too lines seed gen inspect = let same = one_command words (GenCommand lines seed) InspectCommand gen inspect in cc
 
   same_run : (a b : List ℕ) (p q : RunOptions) → IsRun words a p → IsRun words b q → (a ≡ b) × (p ≡ q)
   same_run a b p q first second = let same = one_command words (RunCommand a p) (RunCommand b q) first second in ((cc), (cc))
@@ -237,13 +313,18 @@ module _ (words : List (List ℕ)) (functions : Functions) (contents : List ℕ 
   usage_not : (kind : _) (job : List ℕ) (options : RunOptions) → IsRun words job options → usage_fault words ≡ Some kind → ⊥
   usage_not kind job options is fault = let none = no_usage_fault words (RunCommand job options) is in cc
 
-  pub no_command : (fault : Fault) → status_of fault ≡ 2 → IsFaultOf words functions contents fault → NamesCommand words → ⊥
+  pub no_command : (fault : Fault) → status_of fault ≡ 2 → IsFaultOf words functions contents held fault → NamesCommand words → ⊥
   no_command (Usage kind) two is (inl run) = usage_not kind run.0 run.1 run.2 is
   no_command (Usage kind) two is (inr (inl script)) = let none = no_usage_fault words (ScriptCommand script.0) script.1 in cc
-  no_command (Usage kind) two is (inr (inr gen)) = let none = no_usage_fault words (GenCommand gen.0 gen.1) gen.2 in cc
+  no_command (Usage kind) two is (inr (inr (inl gen))) = let none = no_usage_fault words (GenCommand gen.0 gen.1) gen.2 in cc
+  no_command (Usage kind) two is (inr (inr (inr inspect))) = let none = no_usage_fault words InspectCommand inspect in cc
   no_command (JobLine line kind) two is named = absurd (cc)
   no_command JobInput two is named = absurd (cc)
   no_command (SourceInput a) two is named = absurd (cc)
+  no_command Keeper two is named = absurd (cc)
+  no_command (HoldsImage number) two is named = absurd (cc)
+  no_command HoldsNoImage two is named = absurd (cc)
+  no_command (NotImage number place) two is named = absurd (cc)
   no_command Link two is named = absurd (cc)
   no_command (OverCredit channel received announced) two is named = absurd (cc)
   no_command (Peer peer) two is named = absurd (cc)
@@ -267,20 +348,26 @@ module _ (words : List (List ℕ)) (functions : Functions) (contents : List ℕ 
     no_script : (file : List ℕ) → IsScript words file → ⊥
     no_script file script = not_both tells.job file options tells.is_run script
 
-    pub text_refused : IsNoJob functions text → (fault : Fault) → IsFaultOf words functions contents fault → Contains (3 ∷ 4 ∷ 70 ∷ []) (status_of fault)
+    pub text_refused : IsNoJob functions text → (fault : Fault) → IsFaultOf words functions contents held fault → Contains (3 ∷ 4 ∷ 70 ∷ []) (status_of fault)
     text_refused bad (Usage kind) is = absurd (usage_not kind tells.job options tells.is_run is)
     text_refused bad (JobLine line kind) is = (0, omega arith, refl)
     text_refused bad JobInput is = (1, omega arith, refl)
     text_refused bad (SourceInput a) is = (1, omega arith, refl)
     text_refused bad Link is = absurd is
-    text_refused bad (OverCredit channel received announced) is = absurd (no_good_text options text tells _ bad is.0)
-    text_refused bad (Peer peer) is = absurd (no_good_text options text tells _ bad is)
-    text_refused bad Output (inl run) = absurd (no_good_text options text tells _ bad run)
+    text_refused bad Keeper (inl run) = absurd (no_good_text options text tells _ bad run)
+    text_refused bad Keeper (inr inspect) = absurd (no_inspect tells.job options tells.is_run inspect)
+    text_refused bad (HoldsImage number) is = absurd (no_good_text options text tells _ bad is.0)
+    text_refused bad HoldsNoImage is = absurd (no_inspect tells.job options tells.is_run is.0)
+    text_refused bad (NotImage number place) is = absurd (no_inspect tells.job options tells.is_run is.0)
+    text_refused bad (OverCredit channel received announced) is = absurd (no_good_text options text tells _ bad is.0.1)
+    text_refused bad (Peer peer) is = absurd (no_good_text options text tells _ bad is.1)
+    text_refused bad Output (inl run) = absurd (no_good_text options text tells _ bad run.1)
     text_refused bad Output (inr (inl run)) = absurd (no_script run.0 run.1)
-    text_refused bad Output (inr (inr gen)) = absurd (no_gen tells.job options gen.0 gen.1 tells.is_run gen.2)
+    text_refused bad Output (inr (inr (inl gen))) = absurd (no_gen tells.job options gen.0 gen.1 tells.is_run gen.2)
+    text_refused bad Output (inr (inr (inr inspects))) = absurd (no_inspect tells.job options tells.is_run inspects.0)
     text_refused bad LongJob is = let long = told_of options text tells (λ o t. JOB_MAX < length t) is in absurd (let fits = bad.0 in omega (arith, fits, long))
-    text_refused bad (LongLine a) is = absurd (no_good_text options text tells _ bad is)
-    text_refused bad (BigSource a) is = absurd (no_good_text options text tells _ bad is)
+    text_refused bad (LongLine a) is = absurd (no_good_text options text tells _ bad is.1)
+    text_refused bad (BigSource a) is = absurd (no_good_text options text tells _ bad is.1)
     text_refused bad Memory is = (2, omega arith, refl)
     text_refused bad (ScriptLine line) is = absurd (no_script is.0 is.1)
     text_refused bad ScriptInput is = absurd (no_script is.0 is.1)
@@ -288,17 +375,23 @@ module _ (words : List (List ℕ)) (functions : Functions) (contents : List ℕ 
     text_refused bad (TooFewSegments have need) (inl run) = absurd (no_good_text options text tells _ bad run)
     text_refused bad (TooFewSegments have need) (inr is) = absurd (no_script is.0 is.1)
 
-    pub job_refused : JOB_MAX < length text → (fault : Fault) → IsFaultOf words functions contents fault → Contains (10 ∷ 4 ∷ 70 ∷ []) (status_of fault)
+    pub job_refused : JOB_MAX < length text → (fault : Fault) → IsFaultOf words functions contents held fault → Contains (10 ∷ 4 ∷ 70 ∷ []) (status_of fault)
     job_refused long (Usage kind) is = absurd (usage_not kind tells.job options tells.is_run is)
     job_refused long (JobLine line kind) is = let fits = (told_of options text tells (λ o t. (length t ≤ JOB_MAX) × (first_fault functions t ≡ Some (line, kind))) is).0 in absurd (omega (arith, fits, long))
     job_refused long JobInput is = (1, omega arith, refl)
     job_refused long (SourceInput a) is = (1, omega arith, refl)
     job_refused long Link is = absurd is
-    job_refused long (OverCredit channel received announced) is = absurd (no_long_text options text tells _ long is.0)
-    job_refused long (Peer peer) is = absurd (no_long_text options text tells _ long is)
-    job_refused long Output (inl run) = absurd (no_long_text options text tells _ long run)
+    job_refused long Keeper (inl run) = absurd (no_long_text options text tells _ long run)
+    job_refused long Keeper (inr inspect) = absurd (no_inspect tells.job options tells.is_run inspect)
+    job_refused long (HoldsImage number) is = absurd (no_long_text options text tells _ long is.0)
+    job_refused long HoldsNoImage is = absurd (no_inspect tells.job options tells.is_run is.0)
+    job_refused long (NotImage number place) is = absurd (no_inspect tells.job options tells.is_run is.0)
+    job_refused long (OverCredit channel received announced) is = absurd (no_long_text options text tells _ long is.0.1)
+    job_refused long (Peer peer) is = absurd (no_long_text options text tells _ long is.1)
+    job_refused long Output (inl run) = absurd (no_long_text options text tells _ long run.1)
     job_refused long Output (inr (inl run)) = absurd (no_script run.0 run.1)
-    job_refused long Output (inr (inr gen)) = absurd (no_gen tells.job options gen.0 gen.1 tells.is_run gen.2)
+    job_refused long Output (inr (inr (inl gen))) = absurd (no_gen tells.job options gen.0 gen.1 tells.is_run gen.2)
+    job_refused long Output (inr (inr (inr inspects))) = absurd (no_inspect tells.job options tells.is_run inspects.0)
     job_refused long LongJob is = (0, omega arith, refl)
     job_refused long (LongLine a) is = (0, omega arith, refl)
     job_refused long (BigSource a) is = (0, omega arith, refl)
@@ -317,13 +410,16 @@ module _ (words : List (List ℕ)) (functions : Functions) (contents : List ℕ 
     names_script : (file : List ℕ) → IsScript words file → ⊥
     names_script file script = not_both run.tells.job file options run.tells.is_run script
 
+    no_show_too : IsInspect words → ⊥
+    no_show_too inspect = no_inspect run.tells.job options run.tells.is_run inspect
+
     usage_no : (kind : _) → usage_fault words ≡ Some kind → ⊥
     usage_no kind is = usage_not kind run.tells.job options run.tells.is_run is
 
-    no_line : (line : ℕ) (kind : _) → IsFaultOf words functions contents (JobLine line kind) → ⊥
+    no_line : (line : ℕ) (kind : _) → IsFaultOf words functions contents held (JobLine line kind) → ⊥
     no_line line kind is = let fault = (told_of options run.text run.tells (λ o t. (length t ≤ JOB_MAX) × (first_fault functions t ≡ Some (line, kind))) is).1 in let clear = none in cc
 
-    no_long_job : IsFaultOf words functions contents LongJob → ⊥
+    no_long_job : IsFaultOf words functions contents held LongJob → ⊥
     no_long_job is = let long = told_of options run.text run.tells (λ o t. JOB_MAX < length t) is in let fits = run.fits in omega (arith, fits, long)
 
     -- all jobs of the text need the same segments
@@ -339,19 +435,25 @@ module _ (words : List (List ℕ)) (functions : Functions) (contents : List ℕ 
         omega (arith, few, same, pool)
 
     -- where the pool is too small no work is done
-    pub pool_not_done : (P : List ℕ → Type 0) → options.pool < segments_needed job → Prints words functions contents P → ⊥
-    pool_not_done P few (inl named) = not_ready _ few named
+    pub pool_not_done : (P : List ℕ → Type 0) → options.pool < segments_needed job → Prints words functions contents held P → ⊥
+    pool_not_done P few (inl named) = not_ready _ few named.1
     pool_not_done P few (inr (inl script)) = names_script script.0 script.1
-    pool_not_done P few (inr (inr gen)) = no_gen run.tells.job options gen.0 gen.1 run.tells.is_run gen.2
+    pool_not_done P few (inr (inr (inl gen))) = no_gen run.tells.job options gen.0 gen.1 run.tells.is_run gen.2
+    pool_not_done P few (inr (inr (inr inspects))) = no_show_too inspects.0
 
-    pub pool_refused : options.pool < segments_needed job → (fault : Fault) → IsFaultOf words functions contents fault → Contains (10 ∷ 4 ∷ 70 ∷ []) (status_of fault)
+    pub pool_refused : options.pool < segments_needed job → (fault : Fault) → IsFaultOf words functions contents held fault → Contains (10 ∷ 4 ∷ 70 ∷ []) (status_of fault)
     pool_refused few (Usage kind) is = absurd (usage_no kind is)
     pool_refused few (JobLine line kind) is = absurd (no_line line kind is)
     pool_refused few JobInput is = (1, omega arith, refl)
     pool_refused few (SourceInput b) is = (1, omega arith, refl)
     pool_refused few Link is = absurd is
-    pool_refused few (OverCredit channel received announced) is = absurd (not_ready _ few is.0)
-    pool_refused few (Peer peer) is = absurd (not_ready _ few is)
+    pool_refused few Keeper (inl run) = absurd (not_ready _ few run)
+    pool_refused few Keeper (inr inspect) = absurd (no_show_too inspect)
+    pool_refused few (HoldsImage number) is = absurd (not_ready _ few is.0)
+    pool_refused few HoldsNoImage is = absurd (no_show_too is.0)
+    pool_refused few (NotImage number place) is = absurd (no_show_too is.0)
+    pool_refused few (OverCredit channel received announced) is = absurd (not_ready _ few is.0.1)
+    pool_refused few (Peer peer) is = absurd (not_ready _ few is.1)
     pool_refused few Output is = absurd (pool_not_done (λ text. ⊤) few is)
     pool_refused few LongJob is = (0, omega arith, refl)
     pool_refused few (LongLine b) is = (0, omega arith, refl)
@@ -363,7 +465,7 @@ module _ (words : List (List ℕ)) (functions : Functions) (contents : List ℕ 
     pool_refused few (TooFewSegments have need) is = (0, omega arith, refl)
 
     -- no pool is too small where the job has enough
-    no_small_pool : HasPool options job → (have need : ℕ) → IsFaultOf words functions contents (TooFewSegments have need) → ⊥
+    no_small_pool : HasPool options job → (have need : ℕ) → IsFaultOf words functions contents held (TooFewSegments have need) → ⊥
     no_small_pool enough have need (inl named) =
         let it = good options run.text run.tells (λ o j. HasSmallPool o j have need) named in
         let same = needs it.2.0 it.2.1 in
@@ -389,27 +491,32 @@ module _ (words : List (List ℕ)) (functions : Functions) (contents : List ℕ 
       is_told other is a inside P told = subst (λ o. IfSome o P) (tells_too other is a inside) told
 
       -- no run is done where a source is over its limit
-      pub not_done : (P : List ℕ → Type 0) (a : ℕ) → a < tasks job 0 → IsOverLimit (bytes a) → Prints words functions contents P → ⊥
+      pub not_done : (P : List ℕ → Type 0) (a : ℕ) → a < tasks job 0 → IsOverLimit (bytes a) → Prints words functions contents held P → ⊥
       not_done P a inside over (inr (inl script)) = names_script script.0 script.1
-      not_done P a inside over (inr (inr gen)) = no_gen run.tells.job options gen.0 gen.1 run.tells.is_run gen.2
+      not_done P a inside over (inr (inr (inl gen))) = no_gen run.tells.job options gen.0 gen.1 run.tells.is_run gen.2
+      not_done P a inside over (inr (inr (inr inspects))) = no_show_too inspects.0
       not_done P a inside over (inl runs) =
-          let it = good options run.text run.tells (λ o j. HasPool o j × ((bs : ℕ → List ℕ) → TellsSources j contents bs → AreWithinLimits j bs × P (table_text (tally j (λ b. lines (bs b)))))) runs in
+          let it = good options run.text run.tells (λ o j. HasPool o j × ((bs : ℕ → List ℕ) → TellsSources j contents bs → AreWithinLimits j bs × P (table_text (tally j (λ b. lines (bs b)))))) runs.1 in
           let many = same_many it.2.0 it.2.1 in
           (it.2.2.1 bytes (tells_too it.2.0 it.2.1)).0 a (omega (arith, many, inside)) over
 
-      pub source_refused : (a : ℕ) → a < tasks job 0 → IsOverLimit (bytes a) → (fault : Fault) → IsFaultOf words functions contents fault → Contains (10 ∷ 4 ∷ 11 ∷ 12 ∷ 70 ∷ []) (status_of fault)
+      pub source_refused : (a : ℕ) → a < tasks job 0 → IsOverLimit (bytes a) → (fault : Fault) → IsFaultOf words functions contents held fault → Contains (10 ∷ 4 ∷ 5 ∷ 8 ∷ 11 ∷ 12 ∷ 70 ∷ []) (status_of fault)
       source_refused a inside over (Usage kind) is = absurd (usage_no kind is)
       source_refused a inside over (JobLine line kind) is = absurd (no_line line kind is)
       source_refused a inside over JobInput is = (1, omega arith, refl)
       source_refused a inside over (SourceInput b) is = (1, omega arith, refl)
+      source_refused a inside over Keeper is = (2, omega arith, refl)
+      source_refused a inside over (HoldsImage number) is = (3, omega arith, refl)
+      source_refused a inside over HoldsNoImage is = (3, omega arith, refl)
+      source_refused a inside over (NotImage number place) is = (3, omega arith, refl)
       source_refused a inside over Link is = absurd is
-      source_refused a inside over (OverCredit channel received announced) is = (2, omega arith, refl)
-      source_refused a inside over (Peer peer) is = (3, omega arith, refl)
+      source_refused a inside over (OverCredit channel received announced) is = (4, omega arith, refl)
+      source_refused a inside over (Peer peer) is = (5, omega arith, refl)
       source_refused a inside over Output is = absurd (not_done (λ text. ⊤) a inside over is)
       source_refused a inside over LongJob is = absurd (no_long_job is)
       source_refused a inside over (LongLine b) is = (0, omega arith, refl)
       source_refused a inside over (BigSource b) is = (0, omega arith, refl)
-      source_refused a inside over Memory is = (4, omega arith, refl)
+      source_refused a inside over Memory is = (6, omega arith, refl)
       source_refused a inside over (ScriptLine line) is = absurd (names_script is.0 is.1)
       source_refused a inside over ScriptInput is = absurd (names_script is.0 is.1)
       source_refused a inside over LongScript is = absurd (names_script is.0 is.1)
@@ -423,23 +530,61 @@ module _ (words : List (List ℕ)) (functions : Functions) (contents : List ℕ 
           let many = same_many it.2.0 it.2.1 in
           within b (omega (arith, many, inside)) (leads (bytes b) (is_told it.2.0 it.2.1 b inside P it.2.2.1.1))
 
-      pub completes : HasPool options job → AreWithinLimits job bytes → (fault : Fault) → (status_of fault ≡ 4 → ⊥) → (status_of fault ≡ 7 → ⊥) → IsFaultOf words functions contents fault → Contains (0 ∷ 11 ∷ 12 ∷ 70 ∷ []) (status_of fault)
-      completes enough within (Usage kind) input output is = absurd (usage_no kind is)
-      completes enough within (JobLine line kind) input output is = absurd (no_line line kind is)
-      completes enough within JobInput input output is = absurd (input refl)
-      completes enough within (SourceInput b) input output is = absurd (input refl)
-      completes enough within Link input output is = absurd is
-      completes enough within (OverCredit channel received announced) input output is = (1, omega arith, refl)
-      completes enough within (Peer peer) input output is = (2, omega arith, refl)
-      completes enough within Output input output is = absurd (output refl)
-      completes enough within LongJob input output is = absurd (no_long_job is)
-      completes enough within (LongLine b) input output is = absurd (no_source b (λ bs. HasLongLine (lines bs)) (λ bs long. inr long) within is)
-      completes enough within (BigSource b) input output is = absurd (no_source b (λ bs. SOURCE_MAX < length bs) (λ bs big. inl big) within is)
-      completes enough within Memory input output is = (3, omega arith, refl)
-      completes enough within (ScriptLine line) input output is = absurd (names_script is.0 is.1)
-      completes enough within ScriptInput input output is = absurd (names_script is.0 is.1)
-      completes enough within LongScript input output is = absurd (names_script is.0 is.1)
-      completes enough within (TooFewSegments have need) input output is = absurd (no_small_pool enough have need is)
+      pub completes : HasPool options job → AreWithinLimits job bytes → held ≡ Some [] → (fault : Fault) → (status_of fault ≡ 4 → ⊥) → (status_of fault ≡ 5 → ⊥) → (status_of fault ≡ 7 → ⊥) → IsFaultOf words functions contents held fault → Contains (0 ∷ 11 ∷ 12 ∷ 70 ∷ []) (status_of fault)
+      completes enough within empty (Usage kind) input keeper output is = absurd (usage_no kind is)
+      completes enough within empty (JobLine line kind) input keeper output is = absurd (no_line line kind is)
+      completes enough within empty JobInput input keeper output is = absurd (input refl)
+      completes enough within empty (SourceInput b) input keeper output is = absurd (input refl)
+      completes enough within empty Keeper input keeper output is = absurd (keeper refl)
+      completes enough within empty (HoldsImage number) input keeper output is = absurd (none_and_last (λ kept. kept.number ≡ number) held empty is.1)
+      completes enough within empty HoldsNoImage input keeper output is = absurd (no_show_too is.0)
+      completes enough within empty (NotImage number place) input keeper output is = absurd (no_show_too is.0)
+      completes enough within empty Link input keeper output is = absurd is
+      completes enough within empty (OverCredit channel received announced) input keeper output is = (1, omega arith, refl)
+      completes enough within empty (Peer peer) input keeper output is = (2, omega arith, refl)
+      completes enough within empty Output input keeper output is = absurd (output refl)
+      completes enough within empty LongJob input keeper output is = absurd (no_long_job is)
+      completes enough within empty (LongLine b) input keeper output is = absurd (no_source b (λ bs. HasLongLine (lines bs)) (λ bs long. inr long) within is.1)
+      completes enough within empty (BigSource b) input keeper output is = absurd (no_source b (λ bs. SOURCE_MAX < length bs) (λ bs big. inl big) within is.1)
+      completes enough within empty Memory input keeper output is = (3, omega arith, refl)
+      completes enough within empty (ScriptLine line) input keeper output is = absurd (names_script is.0 is.1)
+      completes enough within empty ScriptInput input keeper output is = absurd (names_script is.0 is.1)
+      completes enough within empty LongScript input keeper output is = absurd (names_script is.0 is.1)
+      completes enough within empty (TooFewSegments have need) input keeper output is = absurd (no_small_pool enough have need is)
+
+    -- ---- a run whose keeper tells an image
+
+    module _ (kept : KeptImage) (told : TellsLast held kept) where
+      not_none : HoldsNone held → ⊥
+      not_none none_held = told_last held kept told none_held
+
+      pub held_not_done : (P : List ℕ → Type 0) → Prints words functions contents held P → ⊥
+      held_not_done P (inl runs) = not_none runs.0
+      held_not_done P (inr (inl script)) = names_script script.0 script.1
+      held_not_done P (inr (inr (inl gen))) = no_gen run.tells.job options gen.0 gen.1 run.tells.is_run gen.2
+      held_not_done P (inr (inr (inr inspects))) = no_show_too inspects.0
+
+      pub held_refused : HasPool options job → (fault : Fault) → IsFaultOf words functions contents held fault → Contains (8 ∷ 5 ∷ 4 ∷ 70 ∷ []) (status_of fault)
+      held_refused enough (Usage kind) is = absurd (usage_no kind is)
+      held_refused enough (JobLine line kind) is = absurd (no_line line kind is)
+      held_refused enough (ScriptLine line) is = absurd (names_script is.0 is.1)
+      held_refused enough JobInput is = (2, omega arith, refl)
+      held_refused enough ScriptInput is = absurd (names_script is.0 is.1)
+      held_refused enough (SourceInput a) is = (2, omega arith, refl)
+      held_refused enough Keeper is = (1, omega arith, refl)
+      held_refused enough (HoldsImage number) is = (0, omega arith, refl)
+      held_refused enough HoldsNoImage is = (0, omega arith, refl)
+      held_refused enough (NotImage number place) is = (0, omega arith, refl)
+      held_refused enough Link is = absurd is
+      held_refused enough Output is = absurd (held_not_done (λ text. ⊤) is)
+      held_refused enough LongJob is = absurd (no_long_job is)
+      held_refused enough LongScript is = absurd (names_script is.0 is.1)
+      held_refused enough (LongLine a) is = absurd (not_none is.0)
+      held_refused enough (BigSource a) is = absurd (not_none is.0)
+      held_refused enough (TooFewSegments have need) is = absurd (no_small_pool enough have need is)
+      held_refused enough (OverCredit channel received announced) is = absurd (not_none is.0.0)
+      held_refused enough (Peer peer) is = absurd (not_none is.0)
+      held_refused enough Memory is = (3, omega arith, refl)
 
   -- ---- scripts
 
@@ -458,10 +603,11 @@ module _ (words : List (List ℕ)) (functions : Functions) (contents : List ℕ 
     no_job_too P run = not_both run.job tells.file run.options run.is_run tells.is_script
 
     -- what is printed is replied to a script of the text
-    pub script_printed : (P : List ℕ → Type 0) → Prints words functions contents P → Replies P text
-    script_printed P (inl run) = absurd (no_job_too _ run)
+    pub script_printed : (P : List ℕ → Type 0) → Prints words functions contents held P → Replies P text
+    script_printed P (inl run) = absurd (no_job_too _ run.1)
     script_printed P (inr (inl run)) = told_script (Replies P) run
-    script_printed P (inr (inr gen)) = absurd (no_lines tells.file gen.0 gen.1 tells.is_script gen.2)
+    script_printed P (inr (inr (inl gen))) = absurd (no_lines tells.file gen.0 gen.1 tells.is_script gen.2)
+    script_printed P (inr (inr (inr inspects))) = absurd (no_show tells.file tells.is_script inspects.0)
 
     module _ (clear : ScriptTextHasNoBadLine) (one : ScriptTextIsOfOneScript) where
       pub no_bad_too : (P : Script → Type 0) → IsNoScript text → IsScriptWith P text → ⊥
@@ -479,7 +625,7 @@ module _ (words : List (List ℕ)) (functions : Functions) (contents : List ℕ 
       with_enough : (P : List ℕ → Type 0) → Replies P text → IsScriptWith HasEnough text
       with_enough P replies = (replies.0, (replies.1.0, replies.1.1, replies.1.2.0))
 
-      pub script_refused : IsNoScript text → (fault : Fault) → IsFaultOf words functions contents fault → Contains (3 ∷ 4 ∷ 70 ∷ []) (status_of fault)
+      pub script_refused : IsNoScript text → (fault : Fault) → IsFaultOf words functions contents held fault → Contains (3 ∷ 4 ∷ 70 ∷ []) (status_of fault)
       script_refused bad (Usage kind) is = absurd (no_usage kind is)
       script_refused bad (ScriptLine line) is = (0, omega arith, refl)
       script_refused bad ScriptInput is = (1, omega arith, refl)
@@ -490,15 +636,20 @@ module _ (words : List (List ℕ)) (functions : Functions) (contents : List ℕ 
       script_refused bad Output is = absurd (no_bad_too (λ script. HasEnough script × ⊤) bad (script_printed (λ t. ⊤) is))
       script_refused bad (JobLine line kind) is = absurd (no_job_too _ is)
       script_refused bad JobInput is = absurd (no_job_too _ is)
-      script_refused bad (SourceInput a) is = absurd (no_job_too _ is)
+      script_refused bad (SourceInput a) is = absurd (no_job_too _ is.1)
       script_refused bad LongJob is = absurd (no_job_too _ is)
-      script_refused bad (LongLine a) is = absurd (no_job_too _ is)
-      script_refused bad (BigSource a) is = absurd (no_job_too _ is)
+      script_refused bad (LongLine a) is = absurd (no_job_too _ is.1)
+      script_refused bad (BigSource a) is = absurd (no_job_too _ is.1)
+      script_refused bad Keeper (inl run) = absurd (no_job_too _ run)
+      script_refused bad Keeper (inr inspect) = absurd (no_show tells.file tells.is_script inspect)
+      script_refused bad (HoldsImage number) is = absurd (no_job_too _ is.0)
+      script_refused bad HoldsNoImage is = absurd (no_show tells.file tells.is_script is.0)
+      script_refused bad (NotImage number place) is = absurd (no_show tells.file tells.is_script is.0)
       script_refused bad Link is = absurd is
-      script_refused bad (OverCredit channel received announced) is = absurd (no_job_too _ is.0)
-      script_refused bad (Peer peer) is = absurd (no_job_too _ is)
+      script_refused bad (OverCredit channel received announced) is = absurd (no_job_too _ is.0.1)
+      script_refused bad (Peer peer) is = absurd (no_job_too _ is.1)
 
-      pub over_refused : PassesScriptLimit text → (fault : Fault) → IsFaultOf words functions contents fault → Contains (10 ∷ 4 ∷ 70 ∷ []) (status_of fault)
+      pub over_refused : PassesScriptLimit text → (fault : Fault) → IsFaultOf words functions contents held fault → Contains (10 ∷ 4 ∷ 70 ∷ []) (status_of fault)
       over_refused over (Usage kind) is = absurd (no_usage kind is)
       over_refused over (ScriptLine line) is = absurd (over_no_bad over line (told_script (HasBadLine line) is))
       over_refused over ScriptInput is = (1, omega arith, refl)
@@ -508,39 +659,49 @@ module _ (words : List (List ℕ)) (functions : Functions) (contents : List ℕ 
       over_refused over Output is = absurd (over_not_good over (with_enough (λ t. ⊤) (script_printed (λ t. ⊤) is)))
       over_refused over (JobLine line kind) is = absurd (no_job_too _ is)
       over_refused over JobInput is = absurd (no_job_too _ is)
-      over_refused over (SourceInput a) is = absurd (no_job_too _ is)
+      over_refused over (SourceInput a) is = absurd (no_job_too _ is.1)
       over_refused over LongJob is = absurd (no_job_too _ is)
-      over_refused over (LongLine a) is = absurd (no_job_too _ is)
-      over_refused over (BigSource a) is = absurd (no_job_too _ is)
+      over_refused over (LongLine a) is = absurd (no_job_too _ is.1)
+      over_refused over (BigSource a) is = absurd (no_job_too _ is.1)
+      over_refused over Keeper (inl run) = absurd (no_job_too _ run)
+      over_refused over Keeper (inr inspect) = absurd (no_show tells.file tells.is_script inspect)
+      over_refused over (HoldsImage number) is = absurd (no_job_too _ is.0)
+      over_refused over HoldsNoImage is = absurd (no_show tells.file tells.is_script is.0)
+      over_refused over (NotImage number place) is = absurd (no_show tells.file tells.is_script is.0)
       over_refused over Link is = absurd is
-      over_refused over (OverCredit channel received announced) is = absurd (no_job_too _ is.0)
-      over_refused over (Peer peer) is = absurd (no_job_too _ is)
+      over_refused over (OverCredit channel received announced) is = absurd (no_job_too _ is.0.1)
+      over_refused over (Peer peer) is = absurd (no_job_too _ is.1)
 
       -- no work is done where the text is over its limit, or of a script with too few segments
-      pub over_not_done : (P : List ℕ → Type 0) → PassesScriptLimit text → Prints words functions contents P → ⊥
+      pub over_not_done : (P : List ℕ → Type 0) → PassesScriptLimit text → Prints words functions contents held P → ⊥
       over_not_done P over prints = over_not_good over (with_enough P (script_printed P prints))
 
-      pub bad_not_done : (P : List ℕ → Type 0) → IsNoScript text → Prints words functions contents P → ⊥
+      pub bad_not_done : (P : List ℕ → Type 0) → IsNoScript text → Prints words functions contents held P → ⊥
       bad_not_done P bad prints = no_bad_too (λ script. HasEnough script × P (printed_replies script)) bad (script_printed P prints)
 
-      pub script_completes : IsScriptWith HasEnough text → (fault : Fault) → (status_of fault ≡ 4 → ⊥) → (status_of fault ≡ 7 → ⊥) → IsFaultOf words functions contents fault → Contains (0 ∷ 70 ∷ []) (status_of fault)
+      pub script_completes : IsScriptWith HasEnough text → (fault : Fault) → (status_of fault ≡ 4 → ⊥) → (status_of fault ≡ 7 → ⊥) → IsFaultOf words functions contents held fault → Contains (0 ∷ 70 ∷ []) (status_of fault)
       script_completes good (Usage kind) input output is = absurd (no_usage kind is)
       script_completes good (ScriptLine line) input output is = absurd (no_bad_too HasEnough (line, told_script (HasBadLine line) is) good)
       script_completes good ScriptInput input output is = absurd (input refl)
       script_completes good Memory input output is = (1, omega arith, refl)
       script_completes good LongScript input output is = absurd (over_not_good (inl (told_script (λ t. SCRIPT_MAX < length t) is)) good)
       script_completes good (TooFewSegments have need) input output (inl run) = absurd (no_job_too _ run)
-      script_completes good (TooFewSegments have need) input output (inr is) = absurd (over_not_good (too_few words functions contents (Some text) have need (told_script (IsScriptWith (λ script. HasTooFew script have need)) is)) good)
+      script_completes good (TooFewSegments have need) input output (inr is) = absurd (over_not_good (too_few words functions contents held (Some text) have need (told_script (IsScriptWith (λ script. HasTooFew script have need)) is)) good)
       script_completes good Output input output is = absurd (output refl)
       script_completes good (JobLine line kind) input output is = absurd (no_job_too _ is)
       script_completes good JobInput input output is = absurd (no_job_too _ is)
-      script_completes good (SourceInput a) input output is = absurd (no_job_too _ is)
+      script_completes good (SourceInput a) input output is = absurd (no_job_too _ is.1)
       script_completes good LongJob input output is = absurd (no_job_too _ is)
-      script_completes good (LongLine a) input output is = absurd (no_job_too _ is)
-      script_completes good (BigSource a) input output is = absurd (no_job_too _ is)
+      script_completes good (LongLine a) input output is = absurd (no_job_too _ is.1)
+      script_completes good (BigSource a) input output is = absurd (no_job_too _ is.1)
+      script_completes good Keeper input output (inl run) = absurd (no_job_too _ run)
+      script_completes good Keeper input output (inr inspect) = absurd (no_show tells.file tells.is_script inspect)
+      script_completes good (HoldsImage number) input output is = absurd (no_job_too _ is.0)
+      script_completes good HoldsNoImage input output is = absurd (no_show tells.file tells.is_script is.0)
+      script_completes good (NotImage number place) input output is = absurd (no_show tells.file tells.is_script is.0)
       script_completes good Link input output is = absurd is
-      script_completes good (OverCredit channel received announced) input output is = absurd (no_job_too _ is.0)
-      script_completes good (Peer peer) input output is = absurd (no_job_too _ is)
+      script_completes good (OverCredit channel received announced) input output is = absurd (no_job_too _ is.0.1)
+      script_completes good (Peer peer) input output is = absurd (no_job_too _ is.1)
 
   -- ---- lines of a seed
 
@@ -551,7 +712,7 @@ module _ (words : List (List ℕ)) (functions : Functions) (contents : List ℕ 
     names_no_script : (P : List ℕ → Type 0) → NamesScript words contents P → ⊥
     names_no_script P script = no_lines script.0 lines seed script.1 gen
 
-    pub gen_completes : (fault : Fault) → (status_of fault ≡ 7 → ⊥) → IsFaultOf words functions contents fault → Contains (0 ∷ 70 ∷ []) (status_of fault)
+    pub gen_completes : (fault : Fault) → (status_of fault ≡ 7 → ⊥) → IsFaultOf words functions contents held fault → Contains (0 ∷ 70 ∷ []) (status_of fault)
     gen_completes (Usage kind) output is = absurd (let none = no_usage_fault words (GenCommand lines seed) gen in cc)
     gen_completes Memory output is = (1, omega arith, refl)
     gen_completes Output output is = absurd (output refl)
@@ -562,10 +723,84 @@ module _ (words : List (List ℕ)) (functions : Functions) (contents : List ℕ 
     gen_completes (TooFewSegments have need) output (inr is) = absurd (names_no_script _ is)
     gen_completes (JobLine line kind) output is = absurd (names_no_job _ is)
     gen_completes JobInput output is = absurd (names_no_job _ is)
-    gen_completes (SourceInput a) output is = absurd (names_no_job _ is)
+    gen_completes (SourceInput a) output is = absurd (names_no_job _ is.1)
     gen_completes LongJob output is = absurd (names_no_job _ is)
-    gen_completes (LongLine a) output is = absurd (names_no_job _ is)
-    gen_completes (BigSource a) output is = absurd (names_no_job _ is)
+    gen_completes (LongLine a) output is = absurd (names_no_job _ is.1)
+    gen_completes (BigSource a) output is = absurd (names_no_job _ is.1)
+    gen_completes Keeper output (inl run) = absurd (names_no_job _ run)
+    gen_completes Keeper output (inr inspect) = absurd (no_gen_too lines seed gen inspect)
+    gen_completes (HoldsImage number) output is = absurd (names_no_job _ is.0)
+    gen_completes HoldsNoImage output is = absurd (no_gen_too lines seed gen is.0)
+    gen_completes (NotImage number place) output is = absurd (no_gen_too lines seed gen is.0)
     gen_completes Link output is = absurd is
-    gen_completes (OverCredit channel received announced) output is = absurd (names_no_job _ is.0)
-    gen_completes (Peer peer) output is = absurd (names_no_job _ is)
+    gen_completes (OverCredit channel received announced) output is = absurd (names_no_job _ is.0.1)
+    gen_completes (Peer peer) output is = absurd (names_no_job _ is.1)
+
+  -- ---- what the keeper holds
+
+  module _ (images : List KeptImage) (inspect : IsInspect words) (told : held ≡ Some images) where
+    no_job_named : (P : RunOptions → List ℕ → Type 0) → NamesRun words contents P → ⊥
+    no_job_named P run = no_inspect run.job run.options run.is_run inspect
+
+    no_script_named : (P : List ℕ → Type 0) → NamesScript words contents P → ⊥
+    no_script_named P script = no_show script.0 script.1 inspect
+
+    -- what is printed is shown of the last image
+    shown_printed : (P : List ℕ → Type 0) → Prints words functions contents held P → HoldsLast held (Shows P)
+    shown_printed P (inl run) = absurd (no_job_named _ run.1)
+    shown_printed P (inr (inl script)) = absurd (no_script_named _ script)
+    shown_printed P (inr (inr (inl gen))) = absurd (no_gen_too gen.0 gen.1 gen.2 inspect)
+    shown_printed P (inr (inr (inr inspects))) = inspects.1
+
+    pub none_not_done : (P : List ℕ → Type 0) → HasNoneToShow images → Prints words functions contents held P → ⊥
+    none_not_done P none prints = none_shown images none P held told (shown_printed P prints)
+
+    no_usage_too : (kind : _) → usage_fault words ≡ Some kind → ⊥
+    no_usage_too kind is = let none = no_usage_fault words InspectCommand inspect in cc
+
+    pub inspect_refused : HasNoneToShow images → (fault : Fault) → IsFaultOf words functions contents held fault → Contains (8 ∷ 5 ∷ 70 ∷ []) (status_of fault)
+    inspect_refused none (Usage kind) is = absurd (no_usage_too kind is)
+    inspect_refused none (JobLine line kind) is = absurd (no_job_named _ is)
+    inspect_refused none (ScriptLine line) is = absurd (no_script_named _ is)
+    inspect_refused none JobInput is = absurd (no_job_named _ is)
+    inspect_refused none ScriptInput is = absurd (no_script_named _ is)
+    inspect_refused none (SourceInput a) is = absurd (no_job_named _ is.1)
+    inspect_refused none Keeper is = (1, omega arith, refl)
+    inspect_refused none (HoldsImage number) is = (0, omega arith, refl)
+    inspect_refused none HoldsNoImage is = (0, omega arith, refl)
+    inspect_refused none (NotImage number place) is = (0, omega arith, refl)
+    inspect_refused none Link is = absurd is
+    inspect_refused none Output is = absurd (none_not_done (λ text. ⊤) none is)
+    inspect_refused none LongJob is = absurd (no_job_named _ is)
+    inspect_refused none LongScript is = absurd (no_script_named _ is)
+    inspect_refused none (LongLine a) is = absurd (no_job_named _ is.1)
+    inspect_refused none (BigSource a) is = absurd (no_job_named _ is.1)
+    inspect_refused none (TooFewSegments have need) (inl run) = absurd (no_job_named _ run)
+    inspect_refused none (TooFewSegments have need) (inr is) = absurd (no_script_named _ is)
+    inspect_refused none (OverCredit channel received announced) is = absurd (no_job_named _ is.0.1)
+    inspect_refused none (Peer peer) is = absurd (no_job_named _ is.1)
+    inspect_refused none Memory is = (2, omega arith, refl)
+
+    pub inspect_completes : (kept : KeptImage) (image : Image) → last_image images ≡ Some kept → IsKept kept image → (fault : Fault) → (status_of fault ≡ 5 → ⊥) → (status_of fault ≡ 7 → ⊥) →
+        IsFaultOf words functions contents held fault → Contains (0 ∷ 70 ∷ []) (status_of fault)
+    inspect_completes kept image last is_kept (Usage kind) keeper output is = absurd (no_usage_too kind is)
+    inspect_completes kept image last is_kept (JobLine line kind) keeper output is = absurd (no_job_named _ is)
+    inspect_completes kept image last is_kept (ScriptLine line) keeper output is = absurd (no_script_named _ is)
+    inspect_completes kept image last is_kept JobInput keeper output is = absurd (no_job_named _ is)
+    inspect_completes kept image last is_kept ScriptInput keeper output is = absurd (no_script_named _ is)
+    inspect_completes kept image last is_kept (SourceInput a) keeper output is = absurd (no_job_named _ is.1)
+    inspect_completes kept image last is_kept Keeper keeper output is = absurd (keeper refl)
+    inspect_completes kept image last is_kept (HoldsImage number) keeper output is = absurd (no_job_named _ is.0)
+    inspect_completes kept image last is_kept HoldsNoImage keeper output is = absurd (told_last held kept (images, told, last) is.1)
+    inspect_completes kept image last is_kept (NotImage number place) keeper output is = absurd (is_shown images kept image last is_kept number place held told is.1)
+    inspect_completes kept image last is_kept Link keeper output is = absurd is
+    inspect_completes kept image last is_kept Output keeper output is = absurd (output refl)
+    inspect_completes kept image last is_kept LongJob keeper output is = absurd (no_job_named _ is)
+    inspect_completes kept image last is_kept LongScript keeper output is = absurd (no_script_named _ is)
+    inspect_completes kept image last is_kept (LongLine a) keeper output is = absurd (no_job_named _ is.1)
+    inspect_completes kept image last is_kept (BigSource a) keeper output is = absurd (no_job_named _ is.1)
+    inspect_completes kept image last is_kept (TooFewSegments have need) keeper output (inl run) = absurd (no_job_named _ run)
+    inspect_completes kept image last is_kept (TooFewSegments have need) keeper output (inr is) = absurd (no_script_named _ is)
+    inspect_completes kept image last is_kept (OverCredit channel received announced) keeper output is = absurd (no_job_named _ is.0.1)
+    inspect_completes kept image last is_kept (Peer peer) keeper output is = absurd (no_job_named _ is.1)
+    inspect_completes kept image last is_kept Memory keeper output is = (1, omega arith, refl)

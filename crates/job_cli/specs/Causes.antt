@@ -5,7 +5,7 @@ use Rattle.flow_defs.specs.declared.cause.Cause.TheVariants as causes
 use Rattle.job_cli.specs.declared.input.InputFault.{InputFault}
 use Rattle.job_cli.specs.declared.input.InputFault.TheVariants.{Failed as InputFailed, TooBig as InputTooBig, LongLine as InputLongLine, Memory as InputMemory}
 use Rattle.job_cli.specs.declared.fault.Fault.{Fault}
-use Rattle.job_cli.specs.declared.fault.Fault.TheVariants.{Usage, JobLine, ScriptLine, JobInput, ScriptInput, SourceInput, Output, LongJob, LongScript, LongLine, BigSource, TooFewSegments, Link, OverCredit, Peer, Memory}
+use Rattle.job_cli.specs.declared.fault.Fault.TheVariants.{Usage, JobLine, ScriptLine, JobInput, ScriptInput, SourceInput, Keeper, Output, HoldsImage, HoldsNoImage, NotImage, LongJob, LongScript, LongLine, BigSource, TooFewSegments, Link, OverCredit, Peer, Memory}
 
 -- A fault of the file with the job's text, of the file with the script's, and of the source with this index.
 abbrev pub of_job_file : InputFault → Fault
@@ -49,8 +49,12 @@ status_of (ScriptLine line) = 3
 status_of JobInput = 4
 status_of ScriptInput = 4
 status_of (SourceInput source) = 4
+status_of Keeper = 5
 status_of Link = 6
 status_of Output = 7
+status_of (HoldsImage number) = 8
+status_of HoldsNoImage = 8
+status_of (NotImage number place) = 8
 status_of LongJob = 10
 status_of LongScript = 10
 status_of (LongLine source) = 10

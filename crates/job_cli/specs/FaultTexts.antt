@@ -7,7 +7,7 @@ use Rattle.job_text.specs.declared.words.UsageKind.TheVariants.{NoCommand, Unkno
 use Rattle.job_text.specs.declared.fault.JobFault.{JobFault}
 use Rattle.job_text.specs.declared.fault.JobFault.TheVariants.{Missing, Extra, BadLine, TooMany, UnknownKind, NoFunction, BadNumber, BadExchange, BadWidth}
 use Rattle.job_cli.specs.declared.fault.Fault.{Fault}
-use Rattle.job_cli.specs.declared.fault.Fault.TheVariants.{Usage, JobLine, ScriptLine, JobInput, ScriptInput, SourceInput, Output, LongJob, LongScript, LongLine, BigSource, TooFewSegments, Link, OverCredit, Peer, Memory}
+use Rattle.job_cli.specs.declared.fault.Fault.TheVariants.{Usage, JobLine, ScriptLine, JobInput, ScriptInput, SourceInput, Keeper, Output, HoldsImage, HoldsNoImage, NotImage, LongJob, LongScript, LongLine, BigSource, TooFewSegments, Link, OverCredit, Peer, Memory}
 use Rattle.job_cli.specs.declared.fault.Part.{Part}
 
 -- What is wrong with the words.
@@ -55,7 +55,11 @@ fault_text (ScriptLine line) = codes "script line " ++ decimal line ++ codes ": 
 fault_text JobInput = codes "input fault: job"
 fault_text ScriptInput = codes "input fault: script"
 fault_text (SourceInput source) = codes "input fault: source " ++ decimal source
+fault_text Keeper = codes "keeper fault"
 fault_text Output = codes "output fault"
+fault_text (HoldsImage number) = codes "keeper holds image " ++ decimal number
+fault_text HoldsNoImage = codes "keeper holds no image"
+fault_text (NotImage number place) = codes "image " ++ decimal number ++ codes ": not an image at " ++ decimal place
 fault_text LongJob = codes "job over 65536"
 fault_text LongScript = codes "script over 16777216"
 fault_text (LongLine source) = codes "source " ++ decimal source ++ codes ": line over 1048576"

@@ -1,6 +1,8 @@
 pub mod Causes
 pub mod Counting
 pub mod FaultTexts
+pub mod Held
+pub mod Inspects
 pub mod Faults
 pub mod Front
 pub mod LinesUnderWay

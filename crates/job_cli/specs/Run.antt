@@ -9,18 +9,21 @@ use Rattle.plain_machine.specs.Worth.{tally}
 use Rattle.stage_fns.specs.Functions.{Functions}
 use Rattle.job_text.specs.declared.fault.JobFault.{JobFault}
 use Rattle.job_text.specs.declared.words.RunOptions.{RunOptions}
-use Rattle.job_text.specs.Words.{IsRun, IsScript, IsGen, usage_fault}
+use Rattle.job_text.specs.Words.{IsRun, IsScript, IsGen, IsInspect, usage_fault}
 use Rattle.job_text.specs.JobText.{IsJobText}
 use Rattle.job_text.specs.JobFaults.{first_fault}
 use Rattle.job_cli.specs.declared.run.TheConstants.{JOB_MAX}
 use Rattle.job_cli.specs.declared.fault.Fault.{Fault}
-use Rattle.job_cli.specs.declared.fault.Fault.TheVariants.{Usage, JobLine, ScriptLine, JobInput, ScriptInput, SourceInput, Output, LongJob, LongScript, LongLine, BigSource, TooFewSegments, Link, OverCredit, Peer, Memory}
+use Rattle.job_cli.specs.declared.fault.Fault.TheVariants.{Usage, JobLine, ScriptLine, JobInput, ScriptInput, SourceInput, Keeper, Output, HoldsImage, HoldsNoImage, NotImage, LongJob, LongScript, LongLine, BigSource, TooFewSegments, Link, OverCredit, Peer, Memory}
 use Rattle.job_cli.specs.Causes.{status_of}
 use Rattle.job_cli.specs.FaultTexts.{fault_line}
 use Rattle.job_cli.specs.Front.{GotFront}
+use Rattle.outside.specs.Keepers.{KeptImage}
 use Rattle.job_plan.specs.Limits.{IsOverLimit}
 use Rattle.job_outcome.specs.Grounds.{IsOverByOne}
 use Rattle.job_cli.specs.Sources.{source_name, IsOfSource, IsRunFault}
+use Rattle.job_cli.specs.Held.{HoldsLast, HoldsNone}
+use Rattle.job_cli.specs.Inspects.{Inspects, IsNoImageAt, HasNoneToShow}
 use Rattle.job_cli.specs.declared.script.TheConstants.{SCRIPT_MAX}
 use Rattle.job_cli.specs.Scripts.{NamesScript, IsScriptWith, HasTooFew, HasBadLine, ScriptRunsTo, HasScripted, HasScriptedInPart}
 use Rattle.line_generator.specs.Generated.{generated}
@@ -35,6 +38,7 @@ NamesCommand words =
     ((job : List ℕ) × (options : RunOptions) × IsRun words job options)
     ⊎ ((file : List ℕ) × IsScript words file)
     ⊎ ((lines : ℕ) × (seed : ℕ) × IsGen words lines seed)
+    ⊎ IsInspect words
 
 -- None of a job's sources passes a limit.
 abbrev pub AreWithinLimits : Job → (ℕ → List ℕ) → Type 0
@@ -73,69 +77,80 @@ NamesGoodJob words functions contents P = NamesRun words contents (λ options te
 abbrev pub NamesReadyJob : List (List ℕ) → Functions → (List ℕ → Option (List ℕ)) → (Job → Type 0) → Type 0
 NamesReadyJob words functions contents P = NamesGoodJob words functions contents (λ options job. HasPool options job × P job)
 
--- The words name a job and give it a large enough pool. Whatever its sources are told to have is within their limits, and P holds of
--- the text of their tally.
-abbrev pub RunsTo : List (List ℕ) → Functions → (List ℕ → Option (List ℕ)) → (List ℕ → Type 0) → Type 0
-RunsTo words functions contents P =
-    NamesReadyJob words functions contents (λ job. (bytes : ℕ → List ℕ) → TellsSources job contents bytes →
+-- The words name a job that has P, and give it such a pool, and the keeper holds no image of an earlier one.
+abbrev pub StartsJob : List (List ℕ) → Functions → (List ℕ → Option (List ℕ)) → Option (List KeptImage) → (Job → Type 0) → Type 0
+StartsJob words functions contents held P = HoldsNone held × NamesReadyJob words functions contents P
+
+-- The words name a job that may start. Whatever its sources are told to have is within their limits, and P holds of the text of their
+-- tally.
+abbrev pub RunsTo : List (List ℕ) → Functions → (List ℕ → Option (List ℕ)) → Option (List KeptImage) → (List ℕ → Type 0) → Type 0
+RunsTo words functions contents held P =
+    StartsJob words functions contents held (λ job. (bytes : ℕ → List ℕ) → TellsSources job contents bytes →
     AreWithinLimits job bytes × P (table_text (tally job (λ a. lines (bytes a)))))
 
 -- The output got the text of the tally behind what was there, and nothing else.
-abbrev pub HasRun : List (List ℕ) → Functions → (List ℕ → Option (List ℕ)) → Option (List ℕ) → Option (List ℕ) → Type 0
-HasRun words functions contents before after = RunsTo words functions contents (λ text. IfSome before (λ had. after ≡ Some (had ++ text)))
+abbrev pub HasRun : List (List ℕ) → Functions → (List ℕ → Option (List ℕ)) → Option (List KeptImage) → Option (List ℕ) → Option (List ℕ) → Type 0
+HasRun words functions contents held before after = RunsTo words functions contents held (λ text. IfSome before (λ had. after ≡ Some (had ++ text)))
 
 -- The output got a front of that text, and nothing else.
-abbrev pub HasRunInPart : List (List ℕ) → Functions → (List ℕ → Option (List ℕ)) → Option (List ℕ) → Option (List ℕ) → Type 0
-HasRunInPart words functions contents before after = RunsTo words functions contents (λ text. IfSome before (λ had. GotFront had text after))
+abbrev pub HasRunInPart : List (List ℕ) → Functions → (List ℕ → Option (List ℕ)) → Option (List KeptImage) → Option (List ℕ) → Option (List ℕ) → Type 0
+HasRunInPart words functions contents held before after = RunsTo words functions contents held (λ text. IfSome before (λ had. GotFront had text after))
 
 -- The words ask for lines of a seed, and P holds of the text of these.
 abbrev pub GensTo : List (List ℕ) → (List ℕ → Type 0) → Type 0
 GensTo words P = (lines : ℕ) × (seed : ℕ) × IsGen words lines seed × P (generated seed lines)
 
--- The words name a job or a script or ask for lines, and P holds of what is printed of it.
-abbrev pub Prints : List (List ℕ) → Functions → (List ℕ → Option (List ℕ)) → (List ℕ → Type 0) → Type 0
-Prints words functions contents P = RunsTo words functions contents P ⊎ ScriptRunsTo words contents P ⊎ GensTo words P
+-- The words name a job or a script, ask for lines, or for what the keeper holds, and P holds of what is printed of it.
+abbrev pub Prints : List (List ℕ) → Functions → (List ℕ → Option (List ℕ)) → Option (List KeptImage) → (List ℕ → Type 0) → Type 0
+Prints words functions contents held P = RunsTo words functions contents held P ⊎ ScriptRunsTo words contents P ⊎ GensTo words P ⊎ Inspects words held P
 
 -- The output got all that the command is to print, or a front of it, and nothing else.
-abbrev pub HasDone : List (List ℕ) → Functions → (List ℕ → Option (List ℕ)) → Option (List ℕ) → Option (List ℕ) → Type 0
-HasDone words functions contents before after =
-    HasRun words functions contents before after
+abbrev pub HasDone : List (List ℕ) → Functions → (List ℕ → Option (List ℕ)) → Option (List KeptImage) → Option (List ℕ) → Option (List ℕ) → Type 0
+HasDone words functions contents held before after =
+    HasRun words functions contents held before after
     ⊎ HasScripted words contents before after
     ⊎ GensTo words (λ text. IfSome before (λ had. after ≡ Some (had ++ text)))
+    ⊎ Inspects words held (λ text. IfSome before (λ had. after ≡ Some (had ++ text)))
 
-abbrev pub HasDoneInPart : List (List ℕ) → Functions → (List ℕ → Option (List ℕ)) → Option (List ℕ) → Option (List ℕ) → Type 0
-HasDoneInPart words functions contents before after =
-    HasRunInPart words functions contents before after
+abbrev pub HasDoneInPart : List (List ℕ) → Functions → (List ℕ → Option (List ℕ)) → Option (List KeptImage) → Option (List ℕ) → Option (List ℕ) → Type 0
+HasDoneInPart words functions contents held before after =
+    HasRunInPart words functions contents held before after
     ⊎ HasScriptedInPart words contents before after
     ⊎ GensTo words (λ text. IfSome before (λ had. GotFront had text after))
+    ⊎ Inspects words held (λ text. IfSome before (λ had. GotFront had text after))
 
 -- The fault is the first of the words, or of the text of the job or the script that they name, or else one of that job's pool, its
--- sources or its exchange, or of that script's pool, as far as these are told. It is none of a link: those of a job are in memory.
-abbrev pub IsFaultOf : List (List ℕ) → Functions → (List ℕ → Option (List ℕ)) → Fault → Type 0
-IsFaultOf words functions contents (Usage kind) = usage_fault words ≡ Some kind
-IsFaultOf words functions contents JobInput = NamesJob words contents (λ text. ⊤)
-IsFaultOf words functions contents LongJob = NamesJob words contents (λ text. JOB_MAX < length text)
-IsFaultOf words functions contents (JobLine line kind) = NamesJob words contents (λ text. (length text ≤ JOB_MAX) × (first_fault functions text ≡ Some (line, kind)))
-IsFaultOf words functions contents (SourceInput a) = NamesReadyJob words functions contents (λ job. IsRunFault job contents (SourceInput a))
-IsFaultOf words functions contents (LongLine a) = NamesReadyJob words functions contents (λ job. IsRunFault job contents (LongLine a))
-IsFaultOf words functions contents (BigSource a) = NamesReadyJob words functions contents (λ job. IsRunFault job contents (BigSource a))
-IsFaultOf words functions contents Link = ⊥
-IsFaultOf words functions contents (OverCredit channel received announced) = NamesReadyJob words functions contents (λ job. ⊤) × IsOverByOne received announced
-IsFaultOf words functions contents (Peer fault) = NamesReadyJob words functions contents (λ job. ⊤)
-IsFaultOf words functions contents ScriptInput = NamesScript words contents (λ text. ⊤)
-IsFaultOf words functions contents LongScript = NamesScript words contents (λ text. SCRIPT_MAX < length text)
-IsFaultOf words functions contents (ScriptLine line) = NamesScript words contents (HasBadLine line)
-IsFaultOf words functions contents (TooFewSegments have need) =
+-- sources or its exchange, or of that script's pool, or of what the keeper holds once the pool was compared, as far as these are told. It
+-- is none of a link: those of a job are in memory.
+abbrev pub IsFaultOf : List (List ℕ) → Functions → (List ℕ → Option (List ℕ)) → Option (List KeptImage) → Fault → Type 0
+IsFaultOf words functions contents held (Usage kind) = usage_fault words ≡ Some kind
+IsFaultOf words functions contents held JobInput = NamesJob words contents (λ text. ⊤)
+IsFaultOf words functions contents held LongJob = NamesJob words contents (λ text. JOB_MAX < length text)
+IsFaultOf words functions contents held (JobLine line kind) = NamesJob words contents (λ text. (length text ≤ JOB_MAX) × (first_fault functions text ≡ Some (line, kind)))
+IsFaultOf words functions contents held (SourceInput a) = StartsJob words functions contents held (λ job. IsRunFault job contents (SourceInput a))
+IsFaultOf words functions contents held (LongLine a) = StartsJob words functions contents held (λ job. IsRunFault job contents (LongLine a))
+IsFaultOf words functions contents held (BigSource a) = StartsJob words functions contents held (λ job. IsRunFault job contents (BigSource a))
+IsFaultOf words functions contents held Link = ⊥
+IsFaultOf words functions contents held (OverCredit channel received announced) = StartsJob words functions contents held (λ job. ⊤) × IsOverByOne received announced
+IsFaultOf words functions contents held (Peer fault) = StartsJob words functions contents held (λ job. ⊤)
+IsFaultOf words functions contents held ScriptInput = NamesScript words contents (λ text. ⊤)
+IsFaultOf words functions contents held LongScript = NamesScript words contents (λ text. SCRIPT_MAX < length text)
+IsFaultOf words functions contents held (ScriptLine line) = NamesScript words contents (HasBadLine line)
+IsFaultOf words functions contents held (TooFewSegments have need) =
     NamesGoodJob words functions contents (λ options job. HasSmallPool options job have need)
     ⊎ NamesScript words contents (IsScriptWith (λ script. HasTooFew script have need))
-IsFaultOf words functions contents Output = Prints words functions contents (λ text. ⊤)
-IsFaultOf words functions contents Memory = NamesCommand words
+IsFaultOf words functions contents held Output = Prints words functions contents held (λ text. ⊤)
+IsFaultOf words functions contents held Keeper = NamesReadyJob words functions contents (λ job. ⊤) ⊎ IsInspect words
+IsFaultOf words functions contents held (HoldsImage number) = NamesReadyJob words functions contents (λ job. ⊤) × HoldsLast held (λ kept. kept.number ≡ number)
+IsFaultOf words functions contents held HoldsNoImage = IsInspect words × HoldsNone held
+IsFaultOf words functions contents held (NotImage number place) = IsInspect words × HoldsLast held (λ kept. (kept.number ≡ number) × IsNoImageAt place kept)
+IsFaultOf words functions contents held Memory = NamesCommand words
 
 -- The output for errors got nothing with the status 0. With another one it got the line of a fault with this status, as far as it took it.
-abbrev pub IsTold : List (List ℕ) → Functions → (List ℕ → Option (List ℕ)) → Option (List ℕ) → Option (List ℕ) → Type 0 → ℕ → Type 0
-IsTold words functions contents before after risen status =
+abbrev pub IsTold : List (List ℕ) → Functions → (List ℕ → Option (List ℕ)) → Option (List KeptImage) → Option (List ℕ) → Option (List ℕ) → Type 0 → ℕ → Type 0
+IsTold words functions contents held before after risen status =
     ((status ≡ 0) × (after ≡ before))
-    ⊎ ((fault : Fault) × (status ≡ status_of fault) × IsFaultOf words functions contents fault
+    ⊎ ((fault : Fault) × (status ≡ status_of fault) × IsFaultOf words functions contents held fault
     × IfSome before (λ had. GotFront had (fault_line fault) after)
     × ((risen → ⊥) → IfSome before (λ had. after ≡ Some (had ++ fault_line fault))))
 
@@ -145,6 +160,12 @@ HasToldOverCredit before after risen =
     (channel : ChannelId) × (received announced : ℕ) × IsOverByOne received announced
     × IfSome before (λ had. GotFront had (fault_line (OverCredit channel received announced)) after)
     × ((risen → ⊥) → IfSome before (λ had. after ≡ Some (had ++ fault_line (OverCredit channel received announced))))
+
+-- What the keeper holds hinders the command: a job that may else start finds an image, or `inspect` finds none that it can show.
+abbrev pub IsHindered : List (List ℕ) → Functions → (List ℕ → Option (List ℕ)) → Option (List KeptImage) → Type 0
+IsHindered words functions contents held =
+    (NamesReadyJob words functions contents (λ job. ⊤) × HoldsLast held (λ kept. ⊤))
+    ⊎ (IsInspect words × IfSome held HasNoneToShow)
 
 -- The text is within its limit, and is no job's.
 abbrev pub IsNoJob : Functions → List ℕ → Type 0

@@ -1,4 +1,4 @@
--- Which fault the words have, the text of the job that they name, and a run of that job.
+-- Which fault the words have, the text of the job that they name, and the pool that they give it.
 use Rattle.std.specs.Prelude.{◌≡◌, ⊤, ℕ, ◌<◌, List, length, Option, Some, None, IfSome}
 use Rattle.stage_fns.specs.Functions.{Functions}
 use Rattle.job_text.specs.Words.{usage_fault}
@@ -8,8 +8,7 @@ use Rattle.job_cli.specs.declared.fault.Fault.{Fault}
 use Rattle.job_cli.specs.declared.fault.Fault.TheVariants.{Usage, JobLine, JobInput, LongJob, TooFewSegments, Memory}
 use Rattle.flow_defs.specs.declared.job.Job.{Job}
 use Rattle.job_text.specs.declared.words.RunOptions.{RunOptions}
-use Rattle.job_cli.specs.Run.{HasPool, HasSmallPool}
-use Rattle.job_cli.specs.Sources.{IsRunFault}
+use Rattle.job_cli.specs.Run.{HasSmallPool}
 
 -- The words have this fault. Without one, memory may be lacking.
 abbrev pub IsWordFault : List (List ℕ) → Fault → Type 0
@@ -30,8 +29,7 @@ IsTextFault functions text (JobLine line kind) = first_fault functions text ≡ 
 IsTextFault functions text Memory = ⊤
 IsTextFault functions text fault = ⊥
 
--- A run of the job under these options has this fault: its pool is too small, or it is one of the run's.
-abbrev pub IsExchangeFault : RunOptions → Job → (List ℕ → Option (List ℕ)) → Fault → Type 0
-IsExchangeFault options job contents (TooFewSegments have need) = HasSmallPool options job have need
-IsExchangeFault options job contents Memory = ⊤
-IsExchangeFault options job contents fault = HasPool options job × IsRunFault job contents fault
+-- The pool that the options give a job has this fault: it is too small.
+abbrev pub IsSmallPoolFault : RunOptions → Job → Fault → Type 0
+IsSmallPoolFault options job (TooFewSegments have need) = HasSmallPool options job have need
+IsSmallPoolFault options job fault = ⊥

@@ -14,11 +14,10 @@ ghost use Rattle.job_outcome.specs.Outcomes.{AreTold, AreWithin, ComeBack, IsRun
 ghost use Rattle.job_cli.specs.Causes.{of_cause, status_of};
 ghost use Rattle.job_cli.specs.Run.{AreWithinLimits, HasPool, TellsSources};
 ghost use Rattle.job_cli.specs.Sources.{HasFaulty, IsRunFault};
-ghost use Rattle.job_cli.specs.TextFaults.{IsExchangeFault};
 
 use crate::fault::Fault;
 use crate::inputs::{find_inputs, give_back};
-use flow_defs::{Cause, Job, ListOf, SOURCES_MAX, Table, needed};
+use flow_defs::{Cause, Job, ListOf, SOURCES_MAX, Table};
 use job_run::run_job;
 use job_text::RunOptions;
 use outside::{Files, MemoryLinks, Source};
@@ -27,8 +26,8 @@ use std::alloc::Global;
 use std::sync::Wait;
 use std::thread::Threads;
 
-/// The table of the job, whose tasks run at once and read its sources at once. The pool is compared with what the
-/// job needs before the first source is looked for. Each input that was found is given back, whatever comes.
+/// The table of the job, whose tasks run at once and read its sources at once. Each input that was found is given
+/// back, whatever comes.
 pub fn table_by_exchange<R: Threads + Wait + Sync, F: Files>(
     rt: &R,
     alloc: Global,
@@ -43,35 +42,19 @@ where
     requires few { length job.now.sources.items ≤ 8 }
     requires names { AllByRecursion (λ (file : Items ℕ). IsToken file.items) job.now.sources.items }
     requires range { IsTotal options.pool × IsSize options.segment }
-    ensures enough { IfOk result (λ _. HasPool options job.now) }
+    requires enough { HasPool options job.now }
     ensures told { IfOk result (λ table. (bytes : ℕ → List ℕ) → TellsSources job.now (F.contents files.old) bytes →
         AreWithinLimits job.now bytes × (table ≡ tally job.now (λ a. lines (bytes a)))) }
-    ensures fault { IfErr result (IsExchangeFault options job.now (F.contents files.old)) }
+    ensures fault { IfErr result (IsRunFault job.now (F.contents files.old)) }
     ensures input { IfErr result (λ fault. status_of fault ≡ 4 → HasRisen (F.faults files.old) (F.faults files.new)) }
     ensures no_output { IfErr result (λ fault. status_of fault ≡ 7 → ⊥) }
     ensures given_back { F.lent files.new ≡ F.lent files.old }
 {
-    check_pool(job, options)?;
     let mut inputs = ListOf::new(alloc);
     inputs.reserve(SOURCES_MAX)?;
     let table = table_of_found(rt, alloc, job, options, functions, files, &mut inputs);
     give_back(files, inputs);
     table
-}
-
-// Compares the pool with what the job needs.
-fn check_pool(job: &Job, options: RunOptions) -> Result<(), Fault>
-    requires { IsJob job.now }
-    ensures enough { IfOk result (λ _. HasPool options job.now) }
-    ensures fault { IfErr result (λ fault. (contents : List ℕ → Option (List ℕ)) → IsExchangeFault options job.now contents fault) }
-    ensures limit { IfErr result (λ fault. status_of fault ≡ 10) }
-{
-    let have = options.pool;
-    let need = needed(job);
-    if have < need {
-        return Err(Fault::TooFewSegments { have, need });
-    }
-    Ok(())
 }
 
 // Finds the inputs, and runs the job over them. Those that were found are on the list.

@@ -41,8 +41,22 @@ pub enum Fault {
     SourceInput {
         source: u32,
     },
+    /// The keeper failed.
+    Keeper,
     /// The output failed, or took nothing.
     Output,
+    /// The keeper's last image has this number, and a run begins without one.
+    HoldsImage {
+        number: u64,
+    },
+    /// The keeper holds no image.
+    HoldsNoImage,
+    /// What the keeper holds under this number is no image of that number. The place is that of the first byte of the
+    /// first faulty field, counted from 0.
+    NotImage {
+        number: u64,
+        place: u64,
+    },
     /// The job's text is over its limit.
     LongJob,
     /// The script's text is over its limit.
@@ -86,8 +100,10 @@ impl Fault {
             Fault::Usage { .. } => 2,
             Fault::JobLine { .. } | Fault::ScriptLine { .. } => 3,
             Fault::JobInput | Fault::ScriptInput | Fault::SourceInput { .. } => 4,
+            Fault::Keeper => 5,
             Fault::Link => 6,
             Fault::Output => 7,
+            Fault::HoldsImage { .. } | Fault::HoldsNoImage | Fault::NotImage { .. } => 8,
             Fault::LongJob | Fault::LongScript => 10,
             Fault::LongLine { .. } | Fault::BigSource { .. } => 10,
             Fault::TooFewSegments { .. } => 10,
@@ -113,8 +129,12 @@ impl Fault {
             Fault::SourceInput { source } => {
                 alone(numbered("input fault: source ", source as u64))
             }
+            Fault::Keeper => alone(plain("keeper fault")),
             Fault::Link => alone(plain("link fault")),
             Fault::Output => alone(plain("output fault")),
+            Fault::HoldsImage { number } => alone(numbered("keeper holds image ", number)),
+            Fault::HoldsNoImage => alone(plain("keeper holds no image")),
+            Fault::NotImage { number, place } => not_image(number, place),
             Fault::LongJob => alone(plain("job over 65536")),
             Fault::LongScript => alone(plain("script over 16777216")),
             Fault::LongLine { source } => both(
@@ -165,6 +185,14 @@ fn both(first: Part, second: Part) -> [Part; 5]
     ensures { flat_map part_text result ≡ part_text first ++ part_text second }
 {
     [first, second, NOTHING, NOTHING, NOTHING]
+}
+
+fn not_image(number: u64, place: u64) -> [Part; 5]
+    ensures { flat_map part_text result ≡ fault_text (Fault.NotImage number place) }
+{
+    let image = numbered("image ", number);
+    let fault = numbered(": not an image at ", place);
+    both(image, fault)
 }
 
 fn over_credit(channel: ChannelId, received: u64, announced: u64) -> [Part; 5]

@@ -1,19 +1,24 @@
 //! Runs a job: counts what its stages make of the lines of its sources, as the job's text says, and
 //! prints the counts. Its tasks run at once, joined by the exchange over links in memory. Or does a
-//! script: drives both ends of a connection, event by event, and prints what is replied to each.
+//! script: drives both ends of a connection, event by event, and prints what is replied to each. Or
+//! shows the last image that a keeper holds of a job's checkpoints.
 //!
 //! It stands on the crates of the machine, of the texts and of the exchange. `top` is the program over
 //! the world that it is handed; what it answers and writes is said by its contract, in the words of
-//! `specs/Run.antt` and `specs/Scripts.antt`. `main` hands it the real files, the standard output and
-//! the output for errors.
+//! `specs/Run.antt`, `specs/Scripts.antt` and `specs/Inspects.antt`. `main` hands it the real files, a
+//! keeper in memory that holds nothing, the standard output and the output for errors.
 #![tactic(auto)]
 
 mod exchange;
 mod fault;
+mod held;
 #[cfg(test)]
 mod held_files;
 mod input;
 mod inputs;
+mod inspect;
+#[cfg(test)]
+mod inspect_tests;
 mod one_thread;
 mod output;
 mod program;
@@ -24,7 +29,7 @@ mod tests;
 mod top;
 
 use flow_defs::{ListOf, Word};
-use outside::{DirFiles, StdSink};
+use outside::{DirFiles, MemoryKeeper, StdSink};
 use std::process::ExitCode;
 use std::{env, io};
 
@@ -39,6 +44,7 @@ fn main(rt: HostRuntime) -> io::Result<ExitCode> {
         alloc,
         &words,
         &mut DirFiles::new(&rt),
+        &mut MemoryKeeper::new(ListOf::new(alloc), ListOf::new(alloc), ListOf::new(alloc)),
         &mut StdSink::new(&rt),
         &mut StdSink::new(&rt.stderr()),
     );

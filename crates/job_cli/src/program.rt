@@ -5,25 +5,26 @@ use crate::fault::Fault;
 use crate::output::tell;
 use crate::top::top;
 use flow_defs::{AggKind, Bytes, ListOf, StageKind, Word};
-use outside::{Files, Sink};
+use outside::{Files, Keeper, Sink};
 use stage_fns::{AggFn, FnTable, StageFn, count, field, keep, max, sum, upper, words};
 use std::alloc::{AllocError, Global};
 use std::sync::Wait;
 use std::thread::Threads;
 
 /// Calls `top` with the four functions of stages and the three of aggregates.
-pub fn run_program<R: Threads + Wait + Sync, F: Files, O: Sink, E: Sink>(
+pub fn run_program<R: Threads + Wait + Sync, F: Files, K: Keeper, O: Sink, E: Sink>(
     rt: &R,
     alloc: Global,
     command: &ListOf<Word>,
     files: &mut F,
+    keeper: &mut K,
     out: &mut O,
     err: &mut E,
 ) -> u8
 where
     F::Input: Drop,
 {
-    match with_functions(rt, alloc, command, files, out, err) {
+    match with_functions(rt, alloc, command, files, keeper, out, err) {
         Ok(status) => status,
         Err(AllocError) => {
             tell(err, Fault::Memory);
@@ -32,11 +33,12 @@ where
     }
 }
 
-fn with_functions<R: Threads + Wait + Sync, F: Files, O: Sink, E: Sink>(
+fn with_functions<R: Threads + Wait + Sync, F: Files, K: Keeper, O: Sink, E: Sink>(
     rt: &R,
     alloc: Global,
     command: &ListOf<Word>,
     files: &mut F,
+    keeper: &mut K,
     out: &mut O,
     err: &mut E,
 ) -> Result<u8, AllocError>
@@ -91,5 +93,5 @@ where
     functions.add_agg(AggKind::Sum, f).map_err(|_| AllocError)?;
     let f: AggFn = Box::new(alloc, |record: &[u8], old: u64| max(record, old))?;
     functions.add_agg(AggKind::Max, f).map_err(|_| AllocError)?;
-    Ok(top(rt, alloc, command, &functions, files, out, err))
+    Ok(top(rt, alloc, command, &functions, files, keeper, out, err))
 }

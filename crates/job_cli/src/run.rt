@@ -1,5 +1,6 @@
 // Does the command that the words are.
-ghost use Rattle.std.specs.Prelude.{◌≡◌, ◌≤◌, List, ℕ, IfOk, length, Ok, None, IfErr, IfSome};
+ghost use Rattle.std.specs.Prelude.{◌≡◌, ◌≤◌, List, ℕ, IfOk, OnOk, length, Ok, None, IfErr, IfSome};
+ghost use Rattle.flow_defs.specs.Jobs.{IsJob};
 ghost use Rattle.outside.specs.Faults.{HasRisen};
 ghost use Rattle.segment_pool.specs.Stocks.{IsSize, IsTotal};
 ghost use Rattle.stage_fns.specs.Kinds.{kinds};
@@ -8,19 +9,21 @@ ghost use Rattle.job_text.specs.Words.{HasRanges, IsRun, IsCommand, usage_fault}
 ghost use Rattle.job_text.specs.JobText.{IsJobText};
 ghost use Rattle.job_text.specs.JobFaults.{first_fault};
 ghost use Rattle.job_cli.specs.Causes.{status_of, of_job_file};
-ghost use Rattle.job_cli.specs.Run.{RunsTo, Prints, HasDone, HasDoneInPart, IsFaultOf, NamesCommand};
-ghost use Rattle.job_cli.specs.TextFaults.{IsWordFault, IsJobFileFault, IsTextFault};
+ghost use Rattle.job_cli.specs.Run.{RunsTo, Prints, HasDone, HasDoneInPart, HasPool, IsFaultOf, NamesCommand};
+ghost use Rattle.job_cli.specs.TextFaults.{IsWordFault, IsJobFileFault, IsSmallPoolFault, IsTextFault};
 
 use crate::exchange::table_by_exchange;
 use crate::fault::Fault;
+use crate::held::refuse_held;
 use crate::input::{InputFault, read_file};
+use crate::inspect::show_last;
 use crate::output::{OutputFault, table_text, write_all};
 use crate::script::replies_of_file;
-use flow_defs::{Bytes, Job, ListOf, Word};
+use flow_defs::{Bytes, Job, ListOf, Word, needed};
 use job_text::laws::job_texts_are_clear;
 use job_text::{Command, JobReadFault, RunOptions, WordFault, read_job, read_words};
 use line_generator::generate;
-use outside::{Files, Sink};
+use outside::{Files, Keeper, Sink};
 use stage_fns::FnTable;
 use std::alloc::{AllocError, Global};
 use std::sync::Wait;
@@ -51,25 +54,28 @@ fn job_file_fault(fault: InputFault) -> Fault
 }
 
 /// Does the command that the words are. All that it prints is made before the first byte is written.
-pub fn run<R: Threads + Wait + Sync, F: Files, O: Sink>(
+pub fn run<R: Threads + Wait + Sync, F: Files, K: Keeper, O: Sink>(
     rt: &R,
     alloc: Global,
     words: &ListOf<Word>,
     functions: &FnTable,
     files: &mut F,
+    keeper: &mut K,
     out: &mut O,
 ) -> Result<(), Fault>
 where
     F::Input: Drop,
-    ensures done { result ≡ Ok tt → HasDone words.now.items (kinds functions.now) (F.contents files.old) (O.got out.old) (O.got out.new) }
-    ensures fault { IfErr result (IsFaultOf words.now.items (kinds functions.now) (F.contents files.old)) }
+    ensures done { result ≡ Ok tt → HasDone words.now.items (kinds functions.now) (F.contents files.old) (K.images keeper.old) (O.got out.old) (O.got out.new) }
+    ensures fault { IfErr result (IsFaultOf words.now.items (kinds functions.now) (F.contents files.old) (K.images keeper.old)) }
     ensures input { IfErr result (λ fault. status_of fault ≡ 4 → HasRisen (F.faults files.old) (F.faults files.new)) }
+    ensures keeper { IfErr result (λ fault. status_of fault ≡ 5 → HasRisen (K.faults keeper.old) (K.faults keeper.new)) }
     ensures output { IfErr result (λ fault. status_of fault ≡ 7 → HasRisen (O.faults out.old) (O.faults out.new)) }
     ensures silent { IfErr result (λ fault. (status_of fault ≡ 7 → ⊥) → O.got out.new ≡ O.got out.old) }
-    ensures front { IfErr result (λ fault. status_of fault ≡ 7 → HasDoneInPart words.now.items (kinds functions.now) (F.contents files.old) (O.got out.old) (O.got out.new)) }
+    ensures front { IfErr result (λ fault. status_of fault ≡ 7 → HasDoneInPart words.now.items (kinds functions.now) (F.contents files.old) (K.images keeper.old) (O.got out.old) (O.got out.new)) }
+    ensures kept { K.images keeper.new ≡ K.images keeper.old }
     ensures given_back { F.lent files.new ≡ F.lent files.old }
 {
-    let text = text_to_print(rt, alloc, words, functions, files)?;
+    let text = text_to_print(rt, alloc, words, functions, files, keeper)?;
     match write_all(out, text.as_slice()) {
         Ok(()) => Ok(()),
         Err(OutputFault) => Err(Fault::Output),
@@ -77,55 +83,78 @@ where
 }
 
 // What the command that the words are is to print.
-fn text_to_print<R: Threads + Wait + Sync, F: Files>(
+fn text_to_print<R: Threads + Wait + Sync, F: Files, K: Keeper>(
     rt: &R,
     alloc: Global,
     words: &ListOf<Word>,
     functions: &FnTable,
     files: &mut F,
+    keeper: &mut K,
 ) -> Result<Bytes, Fault>
 where
     F::Input: Drop,
-    ensures done { IfOk result (λ text. Prints words.now.items (kinds functions.now) (F.contents files.old) (λ all. text.items ≡ all)) }
-    ensures fault { IfErr result (IsFaultOf words.now.items (kinds functions.now) (F.contents files.old)) }
+    ensures done { IfOk result (λ text. Prints words.now.items (kinds functions.now) (F.contents files.old) (K.images keeper.old) (λ all. text.items ≡ all)) }
+    ensures fault { IfErr result (IsFaultOf words.now.items (kinds functions.now) (F.contents files.old) (K.images keeper.old)) }
     ensures input { IfErr result (λ fault. status_of fault ≡ 4 → HasRisen (F.faults files.old) (F.faults files.new)) }
+    ensures keeper { IfErr result (λ fault. status_of fault ≡ 5 → HasRisen (K.faults keeper.old) (K.faults keeper.new)) }
     ensures no_output { IfErr result (λ fault. status_of fault ≡ 7 → ⊥) }
+    ensures kept { K.images keeper.new ≡ K.images keeper.old }
     ensures given_back { F.lent files.new ≡ F.lent files.old }
 {
     let command = command_of(alloc, words)?;
     match command {
         Command::Run { job, options } => {
-            tally_text(rt, alloc, job.text(), options, functions, files)
+            tally_text(rt, alloc, job.text(), options, functions, files, keeper)
         }
         Command::Script { file } => replies_of_file(rt, alloc, file.text(), files),
         Command::Gen { lines, seed } => Ok(generate(alloc, lines, seed)?),
+        Command::Inspect => show_last(alloc, keeper),
     }
 }
 
-// The text of the tally of the job in the file of this name.
-fn tally_text<R: Threads + Wait + Sync, F: Files>(
+// The text of the tally of the job in the file of this name. The keeper is asked before a source is looked for.
+fn tally_text<R: Threads + Wait + Sync, F: Files, K: Keeper>(
     rt: &R,
     alloc: Global,
     name: &str,
     options: RunOptions,
     functions: &FnTable,
     files: &mut F,
+    keeper: &mut K,
 ) -> Result<Bytes, Fault>
 where
     F::Input: Drop,
     requires { IsTotal options.pool × IsSize options.segment }
     ensures done { IfOk result (λ text. (words : List (List ℕ)) → IsRun words name.now options →
-        RunsTo words (kinds functions.now) (F.contents files.old) (λ tally. text.items ≡ tally)) }
+        RunsTo words (kinds functions.now) (F.contents files.old) (K.images keeper.old) (λ tally. text.items ≡ tally)) }
     ensures fault { IfErr result (λ fault. (words : List (List ℕ)) → IsRun words name.now options →
-        IsFaultOf words (kinds functions.now) (F.contents files.old) fault) }
+        IsFaultOf words (kinds functions.now) (F.contents files.old) (K.images keeper.old) fault) }
     ensures input { IfErr result (λ fault. status_of fault ≡ 4 → HasRisen (F.faults files.old) (F.faults files.new)) }
+    ensures keeper { IfErr result (λ fault. status_of fault ≡ 5 → HasRisen (K.faults keeper.old) (K.faults keeper.new)) }
     ensures no_output { IfErr result (λ fault. status_of fault ≡ 7 → ⊥) }
+    ensures kept { K.images keeper.new ≡ K.images keeper.old }
     ensures given_back { F.lent files.new ≡ F.lent files.old }
 {
     let text = read_job_text(alloc, files, name)?;
     let job = job_of_text(alloc, text.as_slice(), functions)?;
+    check_pool(&job, options)?;
+    refuse_held(alloc, keeper)?;
     let table = table_by_exchange(rt, alloc, &job, options, functions, files)?;
     Ok(table_text(alloc, &table)?)
+}
+
+// Compares the pool with what the job needs.
+fn check_pool(job: &Job, options: RunOptions) -> Result<(), Fault>
+    requires { IsJob job.now }
+    ensures enough { OnOk result (HasPool options job.now) }
+    ensures fault { IfErr result (IsSmallPoolFault options job.now) }
+{
+    let have = options.pool;
+    let need = needed(job);
+    if have < need {
+        return Err(Fault::TooFewSegments { have, need });
+    }
+    Ok(())
 }
 
 // The command that the words are.

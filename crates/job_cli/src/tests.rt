@@ -8,7 +8,7 @@ use crate::program::run_program;
 use crate::run::job_of_text;
 use crate::top::top;
 use flow_defs::{AggKind, Bytes, ListOf, StageKind, Word};
-use outside::{MemoryFile, MemoryFiles, MemorySink};
+use outside::{MemoryFile, MemoryFiles, MemoryKeeper, MemorySink};
 use stage_fns::{AggFn, FnTable, StageFn, count, keep, upper, words};
 use std::alloc::{AllocError, Global};
 use std::process::Abort;
@@ -50,7 +50,7 @@ fn file(
 }
 
 // The job's text and two sources, the first of which may fail.
-fn files(
+pub(crate) fn files(
     alloc: Global,
     job: &str,
     first: &[u8],
@@ -67,7 +67,7 @@ fn files(
     Ok(MemoryFiles::new(files, ListOf::new(alloc)))
 }
 
-fn words_of(alloc: Global, text: &str) -> Result<ListOf<Word>, AllocError> {
+pub(crate) fn words_of(alloc: Global, text: &str) -> Result<ListOf<Word>, AllocError> {
     let mut list = ListOf::new(alloc);
     for word in text.split_whitespace() {
         list.push(Word::of(alloc, word)?)?;
@@ -75,8 +75,13 @@ fn words_of(alloc: Global, text: &str) -> Result<ListOf<Word>, AllocError> {
     Ok(list)
 }
 
-fn sink(alloc: Global, room: usize) -> Result<MemorySink, AllocError> {
+pub(crate) fn sink(alloc: Global, room: usize) -> Result<MemorySink, AllocError> {
     MemorySink::new(alloc, room, ListOf::new(alloc), None)
+}
+
+// A keeper that holds nothing.
+fn no_images(alloc: Global) -> MemoryKeeper {
+    MemoryKeeper::new(ListOf::new(alloc), ListOf::new(alloc), ListOf::new(alloc))
 }
 
 // What a run leaves: its status, and what both outputs got.
@@ -99,7 +104,16 @@ fn left_by<R: Threads + Wait + Sync>(
     let words = words_of(alloc, text)?;
     let mut out = sink(alloc, room)?;
     let mut err = sink(alloc, spare)?;
-    let status = run_program(rt, alloc, &words, &mut files, &mut out, &mut err);
+    let mut keeper = no_images(alloc);
+    let status = run_program(
+        rt,
+        alloc,
+        &words,
+        &mut files,
+        &mut keeper,
+        &mut out,
+        &mut err,
+    );
     Ok(Left { status, out, err })
 }
 
@@ -310,7 +324,16 @@ fn two_tasks_overlap(rt: HostRuntime) -> Result<(), Fail> {
     let words = words_of(alloc, "run job")?;
     let mut out = sink(alloc, 100)?;
     let mut err = sink(alloc, 100)?;
-    let status = run_program(&rt, alloc, &words, &mut files, &mut out, &mut err);
+    let mut keeper = no_images(alloc);
+    let status = run_program(
+        &rt,
+        alloc,
+        &words,
+        &mut files,
+        &mut keeper,
+        &mut out,
+        &mut err,
+    );
     assert_eq!(rt; status, 0);
     assert_eq!(rt; out.bytes(), b"a\t1\nb\t1\n".as_slice());
     assert_eq!(rt; err.bytes(), b"".as_slice());
@@ -408,6 +431,9 @@ fn tells_each_fault_by_its_status_and_a_line(rt: HostRuntime) -> Result<(), Fail
             2,
             "usage: option twice\n",
         ),
+        ("inspect x", COUNT, 2, "usage: extra word\n"),
+        ("inspect --every 1", COUNT, 2, "usage: unknown option\n"),
+        ("inspect", COUNT, 8, "keeper holds no image\n"),
         ("script", "", 2, "usage: missing operand\n"),
         ("script job", "", 3, "script line 1: bad line\n"),
         (
@@ -498,7 +524,14 @@ fn refuses_a_kind_that_has_no_function(rt: HostRuntime) -> Result<(), Fail> {
     let words = words_of(alloc, "run job")?;
     assert_eq!(rt;
         top(
-            &rt, alloc, &words, &functions, &mut files, &mut out, &mut err
+            &rt,
+            alloc,
+            &words,
+            &functions,
+            &mut files,
+            &mut no_images(alloc),
+            &mut out,
+            &mut err
         ),
         3
     );

@@ -1,13 +1,17 @@
 // The program, over the world that it is handed.
-ghost use Rattle.std.specs.Prelude.{◌≡◌, ◌≢◌, ◌<◌, ◌⊎◌, List, ℕ, [], ◌∷◌, length, Contains};
+ghost use Rattle.std.specs.Prelude.{◌≡◌, ◌≢◌, ◌<◌, ◌⊎◌, List, ℕ, [], ◌∷◌, length, Some, Contains};
 ghost use Rattle.flow_defs.specs.Jobs.{segments_needed, tasks};
 ghost use Rattle.flow_defs.specs.declared.job.Job.{Job};
+ghost use Rattle.flow_defs.specs.declared.image.Image.{Image};
 ghost use Rattle.outside.specs.Faults.{HasRisen};
+ghost use Rattle.outside.specs.Keepers.{KeptImage};
 ghost use Rattle.stage_fns.specs.Kinds.{kinds};
 ghost use Rattle.job_plan.specs.Limits.{IsOverLimit};
-ghost use Rattle.job_text.specs.Words.{IsGen};
+ghost use Rattle.job_text.specs.Words.{IsGen, IsInspect};
 ghost use Rattle.job_text.specs.declared.words.RunOptions.{RunOptions};
-ghost use Rattle.job_cli.specs.Run.{NamesCommand, NamesJob, HasDone, HasDoneInPart, HasPool, HasToldOverCredit, IsNoJob, IsTold, PassesLimit, TellsJob, TellsRun, TellsSources, AreWithinLimits};
+ghost use Rattle.job_cli.specs.Held.{TellsLast};
+ghost use Rattle.job_cli.specs.Inspects.{HasNoneToShow, IsKept};
+ghost use Rattle.job_cli.specs.Run.{NamesCommand, NamesJob, HasDone, HasDoneInPart, HasPool, HasToldOverCredit, IsHindered, IsNoJob, IsTold, PassesLimit, TellsJob, TellsRun, TellsSources, AreWithinLimits};
 ghost use Rattle.job_cli.specs.Scripts.{NamesScript, HasEnough, IsNoScript, IsScriptWith, PassesScriptLimit, TellsScript};
 ghost use Rattle.job_cli.specs.declared.run.TheConstants.{JOB_MAX};
 
@@ -15,7 +19,7 @@ use crate::output::tell;
 use crate::run::run;
 use flow_defs::{ListOf, Word};
 use job_text::laws::{job_texts_are_clear, words_are_clear};
-use outside::{Files, Sink};
+use outside::{Files, Keeper, Sink};
 use script_text::laws::script_texts_are_clear;
 use stage_fns::FnTable;
 use std::alloc::Global;
@@ -23,8 +27,8 @@ use std::sync::Wait;
 use std::thread::Threads;
 
 /// Does the command that the words are, and answers the status with which the program ends: 0 done,
-/// 2 the words are no command, 3 the text is no job's or no script's, 4 a fault of an input, 6 one of a link, which
-/// never comes over links in memory, 7 one of the output, 10 a limit is passed, 11 more came on a channel than its credit allows, 12 another fault of
+/// 2 the words are no command, 3 the text is no job's or no script's, 4 a fault of an input, 5 one of the keeper, 6 one of a link, which
+/// never comes over links in memory, 7 one of the output, 8 the keeper holds an image where a job is to start, or none to show, 10 a limit is passed, 11 more came on a channel than its credit allows, 12 another fault of
 /// a connection's other end, 70 want of memory. With another status than 0, `err` gets one line that tells of the
 /// fault.
 ///
@@ -32,21 +36,23 @@ use std::thread::Threads;
 /// sources at once, in pieces. The tasks are joined by links in memory. Its memory grows with the keys, the longest
 /// line and what the stages give for it, and with the pool of segments; the order in which tasks come to their turns
 /// changes nothing in what is printed. A script is held whole, with all replies to it, and so are the lines that are
-/// made of a seed.
-pub fn top<R: Threads + Wait + Sync, F: Files, O: Sink, E: Sink>(
+/// made of a seed and the image that is shown.
+pub fn top<R: Threads + Wait + Sync, F: Files, K: Keeper, O: Sink, E: Sink>(
     rt: &R,
     alloc: Global,
     words: &ListOf<Word>,
     functions: &FnTable,
     files: &mut F,
+    keeper: &mut K,
     out: &mut O,
     err: &mut E,
 ) -> u8
 where
     F::Input: Drop,
-    // Status 0 comes only where all work was done: the pool was large enough, no source was over a limit, and the output got
-    // the text of the tally, the replies to all events of the script or the lines of the seed, and nothing else.
-    ensures done { result ≡ 0 → HasDone words.now.items (kinds functions.now) (F.contents files.old) (O.got out.old) (O.got out.new) }
+    // Status 0 comes only where all work was done: the pool was large enough, the keeper held no image, no source was over a limit, and
+    // the output got the text of the tally, the replies to all events of the script, the lines of the seed or those of the keeper's last
+    // image, and nothing else.
+    ensures done { result ≡ 0 → HasDone words.now.items (kinds functions.now) (F.contents files.old) (K.images keeper.old) (O.got out.old) (O.got out.new) }
 
     // Which status comes where the words are no command, the text is no job's or no script's, or a limit is passed.
     ensures usage { result ≡ 2 → NamesCommand words.now.items → ⊥ }
@@ -66,7 +72,7 @@ where
         Contains (10 ∷ 4 ∷ 70 ∷ []) result }
     ensures source_refused { (options : RunOptions) (job : Job) (bytes : ℕ → List ℕ) (a : ℕ) →
         TellsRun words.now.items (kinds functions.now) (F.contents files.old) options job → TellsSources job (F.contents files.old) bytes →
-        a < tasks job 0 → IsOverLimit (bytes a) → Contains (10 ∷ 4 ∷ 11 ∷ 12 ∷ 70 ∷ []) result }
+        a < tasks job 0 → IsOverLimit (bytes a) → Contains (10 ∷ 4 ∷ 5 ∷ 8 ∷ 11 ∷ 12 ∷ 70 ∷ []) result }
     ensures over_refused { (text : List ℕ) → TellsScript words.now.items (F.contents files.old) text → PassesScriptLimit text →
         Contains (10 ∷ 4 ∷ 70 ∷ []) result }
 
@@ -74,30 +80,47 @@ where
     ensures input { result ≡ 4 → HasRisen (F.faults files.old) (F.faults files.new) }
     ensures output { result ≡ 7 → HasRisen (O.faults out.old) (O.faults out.new) }
 
+    // A keeper's fault comes only where its count rose. It is asked, and keeps what it holds.
+    ensures keeper { result ≡ 5 → HasRisen (K.faults keeper.old) (K.faults keeper.new) }
+    ensures kept { K.images keeper.new ≡ K.images keeper.old }
+
+    // What the keeper holds hinders a job only where there is an image, and `inspect` only where there is none, or its bytes spell none of
+    // its number; and in all these cases, where it tells its images.
+    ensures held { result ≡ 8 → IsHindered words.now.items (kinds functions.now) (F.contents files.old) (K.images keeper.old) }
+    ensures held_refused { (options : RunOptions) (job : Job) (kept : KeptImage) →
+        TellsRun words.now.items (kinds functions.now) (F.contents files.old) options job → HasPool options job →
+        TellsLast (K.images keeper.old) kept → Contains (8 ∷ 5 ∷ 4 ∷ 70 ∷ []) result }
+    ensures inspect_refused { (images : List KeptImage) → IsInspect words.now.items → K.images keeper.old ≡ Some images →
+        HasNoneToShow images → Contains (8 ∷ 5 ∷ 70 ∷ []) result }
+
     // A job's links are in memory, where none fails. Where data came over the credit, the line that is told says by how much.
     ensures no_link { result ≢ 6 }
     ensures over_credit { result ≡ 11 → HasToldOverCredit (E.got err.old) (E.got err.new) (HasRisen (E.faults err.old) (E.faults err.new)) }
 
-    // Where the words and the texts are good, no limit is passed and no count rises, all work is done unless memory runs out. That no
-    // other end of a connection has a fault is not said here.
+    // Where the words, the texts and what the keeper holds are good, no limit is passed and no count rises, all work is done unless memory
+    // runs out. That no other end of a connection has a fault is not said here.
     ensures complete { (options : RunOptions) (job : Job) (bytes : ℕ → List ℕ) →
         TellsRun words.now.items (kinds functions.now) (F.contents files.old) options job → TellsSources job (F.contents files.old) bytes →
-        HasPool options job → AreWithinLimits job bytes →
-        (HasRisen (F.faults files.old) (F.faults files.new) → ⊥) → (HasRisen (O.faults out.old) (O.faults out.new) → ⊥) →
+        HasPool options job → AreWithinLimits job bytes → K.images keeper.old ≡ Some [] →
+        (HasRisen (F.faults files.old) (F.faults files.new) → ⊥) → (HasRisen (K.faults keeper.old) (K.faults keeper.new) → ⊥) →
+        (HasRisen (O.faults out.old) (O.faults out.new) → ⊥) →
         Contains (0 ∷ 11 ∷ 12 ∷ 70 ∷ []) result }
     ensures complete_gen { (lines seed : ℕ) → IsGen words.now.items lines seed → (HasRisen (O.faults out.old) (O.faults out.new) → ⊥) →
         Contains (0 ∷ 70 ∷ []) result }
     ensures complete_script { (text : List ℕ) → TellsScript words.now.items (F.contents files.old) text → IsScriptWith HasEnough text →
         (HasRisen (F.faults files.old) (F.faults files.new) → ⊥) → (HasRisen (O.faults out.old) (O.faults out.new) → ⊥) →
         Contains (0 ∷ 70 ∷ []) result }
-    ensures known { Contains (0 ∷ 2 ∷ 3 ∷ 4 ∷ 7 ∷ 10 ∷ 11 ∷ 12 ∷ 70 ∷ []) result }
+    ensures complete_inspect { (kept : KeptImage) (image : Image) → IsInspect words.now.items → TellsLast (K.images keeper.old) kept →
+        IsKept kept image → (HasRisen (K.faults keeper.old) (K.faults keeper.new) → ⊥) →
+        (HasRisen (O.faults out.old) (O.faults out.new) → ⊥) → Contains (0 ∷ 70 ∷ []) result }
+    ensures known { Contains (0 ∷ 2 ∷ 3 ∷ 4 ∷ 5 ∷ 7 ∷ 8 ∷ 10 ∷ 11 ∷ 12 ∷ 70 ∷ []) result }
 
     // With another status than 0 and 7 the output got nothing, and with 7 a front of what status 0 writes.
     ensures silent { result ≢ 0 → result ≢ 7 → O.got out.new ≡ O.got out.old }
-    ensures front { result ≡ 7 → HasDoneInPart words.now.items (kinds functions.now) (F.contents files.old) (O.got out.old) (O.got out.new) }
+    ensures front { result ≡ 7 → HasDoneInPart words.now.items (kinds functions.now) (F.contents files.old) (K.images keeper.old) (O.got out.old) (O.got out.new) }
 
     // Which line was told, whatever became of it: no fault of `err` changes the status.
-    ensures told { IsTold words.now.items (kinds functions.now) (F.contents files.old) (E.got err.old) (E.got err.new)
+    ensures told { IsTold words.now.items (kinds functions.now) (F.contents files.old) (K.images keeper.old) (E.got err.old) (E.got err.new)
         (HasRisen (E.faults err.old) (E.faults err.new)) result }
 
     // Each input that was found is given back.
@@ -106,7 +129,7 @@ where
     words_are_clear();
     job_texts_are_clear();
     script_texts_are_clear();
-    match run(rt, alloc, words, functions, files, out) {
+    match run(rt, alloc, words, functions, files, keeper, out) {
         Ok(()) => 0,
         Err(fault) => {
             tell(err, fault);

@@ -4,13 +4,13 @@ use Rattle.std.specs.Prelude.{codes, bytes_eq, decimal, unwrap_or, IfOk, IfErr}
 use Rattle.std.specs.Result.{result_err}
 use Rattle.std.proofs.lemmas.Bool.{cond-true}
 use Rattle.job_text.specs.declared.words.Command.{Command}
-use Rattle.job_text.specs.declared.words.Command.TheVariants.{Run, Script, Gen}
+use Rattle.job_text.specs.declared.words.Command.TheVariants.{Run, Script, Gen, Inspect}
 use Rattle.job_text.specs.declared.words.RunOptions.{RunOptions}
 use Rattle.job_text.specs.declared.words.WordFault.{WordFault}
 use Rattle.job_text.specs.declared.words.WordFault.TheVariants.{Usage, Memory}
 use Rattle.job_text.specs.declared.words.UsageKind.{UsageKind}
 use Rattle.job_text.specs.declared.words.UsageKind.TheVariants.{UnknownCommand, MissingOperand}
-use Rattle.job_text.specs.Words.{is_operand, run_options, HasRange, IsRun, IsScript, IsGen, IsCommand, HasRanges, whole_number, run_fault, script_fault, operand_fault, number_fault, gen_fault, usage_fault, IsUsage}
+use Rattle.job_text.specs.Words.{is_operand, run_options, HasRange, IsRun, IsScript, IsGen, IsInspect, IsCommand, HasRanges, whole_number, run_fault, no_options_fault, operand_fault, number_fault, gen_fault, usage_fault, IsUsage}
 use Rattle.job_text.proofs.NumberWords.{if_none, decimal_whole, number_there, number_named}
 use Rattle.job_text.proofs.OptionLemmas.{options_within}
 use Rattle.job_text.proofs.SpellingLemmas.{same_bytes}
@@ -25,8 +25,9 @@ no_fault words (Run job options) is = ap usage_fault is.words_are ∙ cond-true 
 no_fault words (Script file) is = ap usage_fault is.words_are ∙ cond-true (is_operand file) None (Some MissingOperand) is.operand
 no_fault words (Gen lines seed) is =
     ap usage_fault is.words_are
-    ∙ number_there 2000000 lines (number_fault 18446744073709551615 script_fault) (decimal seed ∷ []) (lit< tt) is.few
-    ∙ number_there 18446744073709551615 seed script_fault [] (lit< tt) (let fits = is.fits in omega (arith, fits))
+    ∙ number_there 2000000 lines (number_fault 18446744073709551615 no_options_fault) (decimal seed ∷ []) (lit< tt) is.few
+    ∙ number_there 18446744073709551615 seed no_options_fault [] (lit< tt) (let fits = is.fits in omega (arith, fits))
+no_fault words Inspect is = ap usage_fault is
 
 -- What words begin with, told twice.
 first_byte : {words these those : List (List ℕ)} → words ≡ these → words ≡ those → get_or (get_or these 0 []) 0 0 ≡ get_or (get_or those 0 []) 0 0
@@ -46,6 +47,13 @@ one_command words (Run job options) (Gen lines seed) first second = absurd (let 
 one_command words (Script file) (Gen lines seed) first second = absurd (let same : 115 ≡ 103 = first_byte first.words_are second.words_are in omega (arith, same))
 one_command words (Gen lines seed) (Run job options) first second = absurd (let same : 103 ≡ 114 = first_byte first.words_are second.words_are in omega (arith, same))
 one_command words (Gen lines seed) (Script file) first second = absurd (let same : 103 ≡ 115 = first_byte first.words_are second.words_are in omega (arith, same))
+one_command words (Run job options) Inspect first second = absurd (let same : 114 ≡ 105 = first_byte first.words_are second in omega (arith, same))
+one_command words (Script file) Inspect first second = absurd (let same : 115 ≡ 105 = first_byte first.words_are second in omega (arith, same))
+one_command words (Gen lines seed) Inspect first second = absurd (let same : 103 ≡ 105 = first_byte first.words_are second in omega (arith, same))
+one_command words Inspect (Run job options) first second = absurd (let same : 105 ≡ 114 = first_byte first second.words_are in omega (arith, same))
+one_command words Inspect (Script file) first second = absurd (let same : 105 ≡ 115 = first_byte first second.words_are in omega (arith, same))
+one_command words Inspect (Gen lines seed) first second = absurd (let same : 105 ≡ 103 = first_byte first second.words_are in omega (arith, same))
+one_command words Inspect Inspect first second = refl
 one_command words (Gen lines seed) (Gen others other) first second =
     let same = sym first.words_are ∙ second.words_are in
     let many : lines ≡ others = same_decimal lines others (let few = first.few in omega (arith, few)) (let few = second.few in omega (arith, few)) (ap (λ (ws : List (List ℕ)). get_or ws 1 []) same) in
@@ -59,6 +67,7 @@ pub in_ranges : (words : List (List ℕ)) (command : Command) → IsCommand word
 in_ranges words (Run job options) is = run_range words job options is
 in_ranges words (Script file) is = tt
 in_ranges words (Gen lines seed) is = tt
+in_ranges words Inspect is = tt
 
 pub ranges_of : (words : List (List ℕ)) (r : Result Command WordFault) → IfOk r (IsCommand words) → IfOk r HasRanges
 ranges_of words (Ok command) is = in_ranges words command is
@@ -76,6 +85,7 @@ NamesCommand words =
     ((job : List ℕ) × (options : RunOptions) × IsRun words job options)
     ⊎ ((file : List ℕ) × IsScript words file)
     ⊎ ((lines : ℕ) × (seed : ℕ) × IsGen words lines seed)
+    ⊎ IsInspect words
 
 no_err : (r : Result RunOptions UsageKind) → result_err r ≡ None → (options : RunOptions) × (r ≡ Ok options)
 no_err (Ok options) is = (options, refl)
@@ -88,25 +98,25 @@ run_named command (job ∷ behind) name is =
     let options = no_err (run_options behind) operand.1 in
     inl (job, options.0, record { behind = behind; words_are = ap (λ w. w ∷ job ∷ behind) (same_bytes command (codes "run") name); operand = operand.0; options_are = options.1 })
 
-script_named : (command : List ℕ) (words : List (List ℕ)) → bytes_eq command (codes "script") ≡ true → operand_fault script_fault words ≡ None → NamesCommand (command ∷ words)
+script_named : (command : List ℕ) (words : List (List ℕ)) → bytes_eq command (codes "script") ≡ true → operand_fault no_options_fault words ≡ None → NamesCommand (command ∷ words)
 script_named command [] name is = absurd (cc)
 script_named command (file ∷ []) name is =
-    let operand : (is_operand file ≡ true) × (script_fault [] ≡ None) = if_none (is_operand file) None MissingOperand is in
+    let operand : (is_operand file ≡ true) × (no_options_fault [] ≡ None) = if_none (is_operand file) None MissingOperand is in
     inr (inl (file, record { words_are = ap (λ w. w ∷ file ∷ []) (same_bytes command (codes "script") name); operand = operand.0 }))
 script_named command (file ∷ word ∷ words) name is =
-    let operand : (is_operand file ≡ true) × (script_fault (word ∷ words) ≡ None) = if_none (is_operand file) (script_fault (word ∷ words)) MissingOperand is in
+    let operand : (is_operand file ≡ true) × (no_options_fault (word ∷ words) ≡ None) = if_none (is_operand file) (no_options_fault (word ∷ words)) MissingOperand is in
     absurd (cc (operand.1))
 
-none_behind : (words : List (List ℕ)) → script_fault words ≡ None → words ≡ []
+none_behind : (words : List (List ℕ)) → no_options_fault words ≡ None → words ≡ []
 none_behind [] is = refl
 none_behind (word ∷ words) is = absurd (cc (is))
 
 gen_named : (command : List ℕ) (words : List (List ℕ)) → bytes_eq command (codes "gen") ≡ true → gen_fault words ≡ None → NamesCommand (command ∷ words)
 gen_named command words name is =
-    let lines = number_named 2000000 (number_fault 18446744073709551615 script_fault) words (lit< tt) is in
-    let seed = number_named 18446744073709551615 script_fault lines.behind (lit< tt) lines.then in
+    let lines = number_named 2000000 (number_fault 18446744073709551615 no_options_fault) words (lit< tt) is in
+    let seed = number_named 18446744073709551615 no_options_fault lines.behind (lit< tt) lines.then in
     let end : seed.behind ≡ [] = none_behind seed.behind seed.then in
-    inr (inr (
+    inr (inr (inl (
       lines.number,
       seed.number,
       record {
@@ -116,23 +126,28 @@ gen_named command words name is =
         few = lines.within;
         fits = let within = seed.within in omega (arith, within);
       },
-    ))
+    )))
+
+inspect_named : (command : List ℕ) (words : List (List ℕ)) → bytes_eq command (codes "inspect") ≡ true → no_options_fault words ≡ None → NamesCommand (command ∷ words)
+inspect_named command words name is = inr (inr (inr (ap (λ w. w ∷ words) (same_bytes command (codes "inspect") name) ∙ ap (λ ws. codes "inspect" ∷ ws) (none_behind words is))))
 
 pub named : (words : List (List ℕ)) → usage_fault words ≡ None → NamesCommand words
 named [] is = absurd (cc)
-named (command ∷ words) is = by_name (bytes_eq command (codes "run")) (bytes_eq command (codes "script")) (bytes_eq command (codes "gen")) refl refl refl is
+named (command ∷ words) is = by_name (bytes_eq command (codes "run")) (bytes_eq command (codes "script")) (bytes_eq command (codes "gen")) (bytes_eq command (codes "inspect")) refl refl refl refl is
   where
-    by_name : (run script gen : Bool) → bytes_eq command (codes "run") ≡ run → bytes_eq command (codes "script") ≡ script → bytes_eq command (codes "gen") ≡ gen →
-        cond run (operand_fault run_fault words) (cond script (operand_fault script_fault words) (cond gen (gen_fault words) (Some UnknownCommand))) ≡ None → NamesCommand (command ∷ words)
-    by_name true script gen run_is script_is gen_is is = run_named command words run_is is
-    by_name false true gen run_is script_is gen_is is = script_named command words script_is is
-    by_name false false true run_is script_is gen_is is = gen_named command words gen_is is
-    by_name false false false run_is script_is gen_is is = absurd (cc)
+    by_name : (run script gen inspect : Bool) → bytes_eq command (codes "run") ≡ run → bytes_eq command (codes "script") ≡ script → bytes_eq command (codes "gen") ≡ gen → bytes_eq command (codes "inspect") ≡ inspect →
+        cond run (operand_fault run_fault words) (cond script (operand_fault no_options_fault words) (cond gen (gen_fault words) (cond inspect (no_options_fault words) (Some UnknownCommand)))) ≡ None → NamesCommand (command ∷ words)
+    by_name true script gen inspect run_is script_is gen_is inspect_is is = run_named command words run_is is
+    by_name false true gen inspect run_is script_is gen_is inspect_is is = script_named command words script_is is
+    by_name false false true inspect run_is script_is gen_is inspect_is is = gen_named command words gen_is is
+    by_name false false false true run_is script_is gen_is inspect_is is = inspect_named command words inspect_is is
+    by_name false false false false run_is script_is gen_is inspect_is is = absurd (cc)
 
 pub of_named : (words : List (List ℕ)) → NamesCommand words → usage_fault words ≡ None
 of_named words (inl run) = no_fault words (Run run.0 run.1) run.2
 of_named words (inr (inl script)) = no_fault words (Script script.0) script.1
-of_named words (inr (inr gen)) = no_fault words (Gen gen.0 gen.1) gen.2
+of_named words (inr (inr (inl gen))) = no_fault words (Gen gen.0 gen.1) gen.2
+of_named words (inr (inr (inr inspect))) = no_fault words Inspect inspect
 
 pub accepted : (words : List (List ℕ)) → (usage_fault words ≡ None) ↔ NamesCommand words
 accepted words = (named words, of_named words)
@@ -147,3 +162,6 @@ usage_told words (Err Memory) is fault kind = (λ told. absurd (cc), λ some. ab
 
 pub gen_usage : (words behind : List (List ℕ)) (word : List ℕ) → words ≡ word ∷ behind → bytes_eq word (codes "gen") ≡ true → usage_fault words ≡ gen_fault behind
 gen_usage words behind word words_are gen = ap usage_fault words_are ∙ ap (λ w. usage_fault (w ∷ behind)) (same_bytes word (codes "gen") gen)
+
+pub inspect_usage : (words behind : List (List ℕ)) (word : List ℕ) → words ≡ word ∷ behind → bytes_eq word (codes "inspect") ≡ true → usage_fault words ≡ no_options_fault behind
+inspect_usage words behind word words_are inspect = ap usage_fault words_are ∙ ap (λ w. usage_fault (w ∷ behind)) (same_bytes word (codes "inspect") inspect)

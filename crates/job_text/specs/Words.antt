@@ -3,7 +3,7 @@ use Rattle.std.specs.Prelude.{◌≡◌, ℕ, ◌≤◌, ◌<◌, ◌^◌, decim
 use Rattle.std.specs.Option.{option_map_or}
 use Rattle.std.specs.Result.{result_err}
 use Rattle.job_text.specs.declared.words.Command.{Command}
-use Rattle.job_text.specs.declared.words.Command.TheVariants.{Run, Script, Gen}
+use Rattle.job_text.specs.declared.words.Command.TheVariants.{Run, Script, Gen, Inspect}
 use Rattle.job_text.specs.declared.words.RunOptions.{RunOptions}
 use Rattle.job_text.specs.declared.words.WordFault.{WordFault}
 use Rattle.job_text.specs.declared.words.WordFault.TheVariants.{Usage, Memory}
@@ -107,17 +107,23 @@ pub record IsGen (words : List (List ℕ)) (lines seed : ℕ) : Type 0 where
   pub few : lines ≤ LINES_MAX
   pub fits : seed < 2 ^ 64
 
+-- The one word is `inspect`.
+abbrev pub IsInspect : List (List ℕ) → Type 0
+IsInspect words = words ≡ codes "inspect" ∷ []
+
 -- The words are this command.
 abbrev pub IsCommand : List (List ℕ) → Command → Type 0
 IsCommand words (Run job options) = IsRun words job options
 IsCommand words (Script file) = IsScript words file
 IsCommand words (Gen lines seed) = IsGen words lines seed
+IsCommand words Inspect = IsInspect words
 
 -- The options of a command are in their ranges.
 abbrev pub HasRanges : Command → Type 0
 HasRanges (Run job options) = HasRange options
 HasRanges (Script file) = ⊤
 HasRanges (Gen lines seed) = ⊤
+HasRanges Inspect = ⊤
 
 -- ---- what is told of faulty words
 
@@ -125,10 +131,10 @@ HasRanges (Gen lines seed) = ⊤
 abbrev pub run_fault : List (List ℕ) → Option UsageKind
 run_fault words = result_err (run_options words)
 
--- The first fault of the words behind the operand of `script`, which has no options.
-abbrev pub script_fault : List (List ℕ) → Option UsageKind
-script_fault [] = None
-script_fault (word ∷ words) = Some (stray_fault word)
+-- The first fault of the words behind the operands of a command that has no options.
+abbrev pub no_options_fault : List (List ℕ) → Option UsageKind
+no_options_fault [] = None
+no_options_fault (word ∷ words) = Some (stray_fault word)
 
 -- The first fault of the words behind a command's name: an operand, and words whose first fault is this.
 abbrev pub operand_fault : (List (List ℕ) → Option UsageKind) → List (List ℕ) → Option UsageKind
@@ -147,15 +153,16 @@ number_fault most fault (operand ∷ words) =
 
 -- The first fault of the words behind `gen`, which has no options.
 abbrev pub gen_fault : List (List ℕ) → Option UsageKind
-gen_fault words = number_fault LINES_MAX (number_fault 18446744073709551615 script_fault) words
+gen_fault words = number_fault LINES_MAX (number_fault 18446744073709551615 no_options_fault) words
 
 -- The first fault of the words, from the left.
 abbrev pub usage_fault : List (List ℕ) → Option UsageKind
 usage_fault [] = Some NoCommand
 usage_fault (command ∷ words) =
     if bytes_eq command (codes "run") then operand_fault run_fault words
-    else if bytes_eq command (codes "script") then operand_fault script_fault words
+    else if bytes_eq command (codes "script") then operand_fault no_options_fault words
     else if bytes_eq command (codes "gen") then gen_fault words
+    else if bytes_eq command (codes "inspect") then no_options_fault words
     else Some UnknownCommand
 
 -- What is told is this fault of words; that there is no memory is told only where they have none.

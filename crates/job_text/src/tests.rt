@@ -106,6 +106,11 @@ const FAULTY: &[(&[&str], &str)] = &[
     (&["gen", "1", "7 "], "usage: bad value"),
     (&["gen", "1", "7", "--pool"], "usage: unknown option"),
     (&["gen", "1", "7", "7"], "usage: extra word"),
+    (&["inspect", "x"], "usage: extra word"),
+    (&["inspect", ""], "usage: extra word"),
+    (&["inspect", "--every", "1"], "usage: unknown option"),
+    (&["inspect", "-", "x"], "usage: unknown option"),
+    (&["Inspect"], "usage: unknown command"),
 ];
 
 #[test]
@@ -229,6 +234,15 @@ fn lines_and_a_seed_are_read(rt: HostRuntime) -> Result<(), Fail> {
         };
         assert_eq!(rt; (lines, seed), wanted);
     }
+    Ok(())
+}
+
+#[test]
+fn inspect_has_no_operand(rt: HostRuntime) -> Result<(), Fail> {
+    let alloc = rt.alloc();
+    let Command::Inspect = read_words(alloc, &words_of(alloc, &["inspect"])?)? else {
+        return Err(Fail::from("the word `inspect` is another command"));
+    };
     Ok(())
 }
 

@@ -2,7 +2,7 @@
 ghost use Rattle.std.specs.Prelude.{◌≡◌, ◌↔◌, ◌⊎◌, ◌≤◌, ℕ, List, ◌∷◌, Option, Some, None, Err, IsTrue, IfOk, IfErr, MatchResult, codes, decimal};
 ghost use Rattle.std.specs.Result.{result_err};
 ghost use Rattle.job_text.specs.declared.words.WordFault.TheVariants.{Memory, Usage};
-ghost use Rattle.job_text.specs.Words.{IsRun, IsScript, IsGen, IsCommand, HasRanges, IsUsage, has_dash, is_operand, operand_fault, number_fault, run_fault, script_fault, gen_fault, usage_fault};
+ghost use Rattle.job_text.specs.Words.{IsRun, IsScript, IsGen, IsInspect, IsCommand, HasRanges, IsUsage, has_dash, is_operand, operand_fault, number_fault, run_fault, no_options_fault, gen_fault, usage_fault};
 
 use crate::options::{run_options, stray_fault};
 use crate::spelling::whole_number;
@@ -19,6 +19,8 @@ pub enum Command {
     Script { file: Word },
     /// Make so many lines, from 0 to 2,000,000, of a seed.
     Gen { lines: u64, seed: u64 },
+    /// Show the last image that the keeper holds.
+    Inspect,
 }
 
 /// The most lines that are made of a seed.
@@ -97,7 +99,8 @@ pub fn read_words(alloc: Global, words: &ListOf<Word>) -> Result<Command, WordFa
     ensures accepted { (usage_fault words.now.items ≡ None)
         ↔ (((job : List ℕ) × (options : RunOptions) × IsRun words.now.items job options)
         ⊎ ((file : List ℕ) × IsScript words.now.items file)
-        ⊎ ((lines : ℕ) × (seed : ℕ) × IsGen words.now.items lines seed)) }
+        ⊎ ((lines : ℕ) × (seed : ℕ) × IsGen words.now.items lines seed)
+        ⊎ IsInspect words.now.items) }
 {
     let [command, words @ ..] = words.as_slice() else {
         return Err(UsageKind::NoCommand.into());
@@ -108,6 +111,8 @@ pub fn read_words(alloc: Global, words: &ListOf<Word>) -> Result<Command, WordFa
         read_script(alloc, words)
     } else if command.text() == "gen" {
         read_gen(words)
+    } else if command.text() == "inspect" {
+        read_inspect(words)
     } else {
         Err(UsageKind::UnknownCommand.into())
     }
@@ -127,7 +132,7 @@ fn read_run(alloc: Global, words: &[Word]) -> Result<Command, WordFault>
 // Reads the words behind `script`.
 fn read_script(alloc: Global, words: &[Word]) -> Result<Command, WordFault>
     ensures command { IfOk result (IsCommand (codes "script" ∷ words.now)) }
-    ensures fault { IfErr result (λ told. IsUsage told (operand_fault script_fault words.now)) }
+    ensures fault { IfErr result (λ told. IsUsage told (operand_fault no_options_fault words.now)) }
 {
     let (file, behind) = operand(words)?;
     no_options(behind)?;
@@ -144,6 +149,15 @@ fn read_gen(words: &[Word]) -> Result<Command, WordFault>
     let (seed, behind) = number_operand(behind, u64::MAX)?;
     no_options(behind)?;
     Ok(Command::Gen { lines, seed })
+}
+
+// Reads the words behind `inspect`.
+fn read_inspect(words: &[Word]) -> Result<Command, WordFault>
+    ensures command { IfOk result (IsCommand (codes "inspect" ∷ words.now)) }
+    ensures fault { IfErr result (λ told. IsUsage told (no_options_fault words.now)) }
+{
+    no_options(words)?;
+    Ok(Command::Inspect)
 }
 
 // The number up to the most that stands first, and the words behind it.
@@ -174,9 +188,9 @@ fn operand(words: &[Word]) -> Result<(&Word, &[Word]), UsageKind>
     }
 }
 
-// Nothing may stand behind the operand of a command that has no options.
+// Nothing may stand behind the operands of a command that has no options.
 fn no_options(words: &[Word]) -> Result<(), UsageKind>
-    ensures { result_err result ≡ script_fault words.now }
+    ensures { result_err result ≡ no_options_fault words.now }
 {
     match words {
         [] => Ok(()),

@@ -7,18 +7,18 @@ use Rattle.job_cli.proofs.run.run.Goals as goal
 
 pub returns-in-Ok-clause-done : goal.returns-in-Ok-clause-done
 returns-in-Ok-clause-done g c = λ _.
-    prints_on c.args.words.now.items (kinds c.args.functions.now) (g.F.Files.contents c.args.files.now) (λ text. c.in_ok-text.text.items ≡ text)
+    prints_on c.args.words.now.items (kinds c.args.functions.now) (g.F.Files.contents c.args.files.now) (g.K.Keeper.images c.args.keeper.now) (λ text. c.in_ok-text.text.items ≡ text)
     (λ text. IfSome (g.O.Sink.got c.args.out.now) (λ had. g.O.Sink.got c.write_all.new.out ≡ Some (had ++ text)))
     (λ text is. subst (λ (t : List ℕ). IfSome (g.O.Sink.got c.args.out.now) (λ had. g.O.Sink.got c.write_all.new.out ≡ Some (had ++ t))) (c.as_slice.ensures ∙ is) c.in-Ok.ensures.told)
     c.in_ok-text.ensures.done
 
 pub returns-clause-fault : goal.returns-clause-fault
 returns-clause-fault g c =
-    prints_on c.args.words.now.items (kinds c.args.functions.now) (g.F.Files.contents c.args.files.now) (λ text. c.in_ok-text.text.items ≡ text) (λ text. ⊤) (λ text is. tt) c.in_ok-text.ensures.done
+    prints_on c.args.words.now.items (kinds c.args.functions.now) (g.F.Files.contents c.args.files.now) (g.K.Keeper.images c.args.keeper.now) (λ text. c.in_ok-text.text.items ≡ text) (λ text. ⊤) (λ text is. tt) c.in_ok-text.ensures.done
 
 pub returns-clause-front : goal.returns-clause-front
 returns-clause-front g c = λ _.
-    prints_on c.args.words.now.items (kinds c.args.functions.now) (g.F.Files.contents c.args.files.now) (λ text. c.in_ok-text.text.items ≡ text)
+    prints_on c.args.words.now.items (kinds c.args.functions.now) (g.F.Files.contents c.args.files.now) (g.K.Keeper.images c.args.keeper.now) (λ text. c.in_ok-text.text.items ≡ text)
     (λ text. IfSome (g.O.Sink.got c.args.out.now) (λ had. GotFront had text (g.O.Sink.got c.write_all.new.out)))
     (λ text is. subst (λ (t : List ℕ). IfSome (g.O.Sink.got c.args.out.now) (λ had. GotFront had t (g.O.Sink.got c.write_all.new.out))) (c.as_slice.ensures ∙ is) c.write_all.ensures.front)
     c.in_ok-text.ensures.done

@@ -1,0 +1,41 @@
+// Asks a keeper for what it holds.
+ghost use Rattle.std.specs.Prelude.{◌≡◌, ◌≤◌, IfOk, IfErr, IfSome, OnOk};
+ghost use Rattle.outside.specs.Faults.{HasRisen};
+ghost use Rattle.outside.specs.Keepers.{IsLastOf};
+ghost use Rattle.job_cli.specs.Causes.{status_of};
+ghost use Rattle.job_cli.specs.Held.{HoldsNone, IsHeldFault, IsKeeperFault};
+
+use crate::fault::Fault;
+use outside::{KeepFault, Keeper, Kept};
+use std::alloc::Global;
+
+/// The last image that the keeper holds, if there is one. It costs its length.
+pub fn ask_last<K: Keeper>(alloc: Global, keeper: &mut K) -> Result<Option<Kept>, Fault>
+    ensures told { IfOk result (λ last. IfSome (K.images keeper.old) (λ images. IsLastOf images last)) }
+    ensures fault { IfErr result IsKeeperFault }
+    ensures keeper { IfErr result (λ fault. status_of fault ≡ 5 → HasRisen (K.faults keeper.old) (K.faults keeper.new)) }
+    ensures same { K.images keeper.new ≡ K.images keeper.old }
+    ensures never_falls { K.faults keeper.old ≤ K.faults keeper.new }
+{
+    match keeper.last(alloc) {
+        Ok(last) => Ok(last),
+        Err(KeepFault::Failed) => Err(Fault::Keeper),
+        Err(KeepFault::Memory) => Err(Fault::Memory),
+    }
+}
+
+/// Sees that the keeper holds no image. A run begins without one.
+pub fn refuse_held<K: Keeper>(alloc: Global, keeper: &mut K) -> Result<(), Fault>
+    ensures none { OnOk result (HoldsNone (K.images keeper.old)) }
+    ensures fault { IfErr result (IsHeldFault (K.images keeper.old)) }
+    ensures keeper { IfErr result (λ fault. status_of fault ≡ 5 → HasRisen (K.faults keeper.old) (K.faults keeper.new)) }
+    ensures same { K.images keeper.new ≡ K.images keeper.old }
+    ensures never_falls { K.faults keeper.old ≤ K.faults keeper.new }
+{
+    match ask_last(alloc, keeper)? {
+        Some(kept) => Err(Fault::HoldsImage {
+            number: kept.number,
+        }),
+        None => Ok(()),
+    }
+}

@@ -31,6 +31,8 @@ entries-append (x ∷ xs) ys = ap (λ l. x.1 ∷ l) (entries-append xs ys)
 pub waited_stays : WaitedStays
 waited_stays zero history later starts waited = tt
 waited_stays (suc zero) history later starts waited = tt
-waited_stays (suc (suc before)) history later starts waited = (waited.0,
+waited_stays (suc (suc before)) history later starts waited = (
+  waited.0,
   subst (λ l. Contains l waited.0) (sym (entries-append history starts.0) ∙ ap entries_of (sym starts.1)) (Contains-append_left (entries_of history) (entries_of starts.0) waited.0 waited.1),
-  waited.2)
+  waited.2,
+)

@@ -12,9 +12,8 @@ use Rattle.outside.specs.Stops.{told_of}
 use Rattle.conn_parts.specs.Stopping.{StopCell, StopPass}
 use Rattle.input_gate.specs.Gates.{Account, IsNew}
 use Rattle.task_output.specs.Ending.{EndsAs, ToldAtEnd}
-use Rattle.task_taking.specs.Endings.{IsTakerEnd}
+use Rattle.task_taking.specs.Endings.{IsTakerEnd, ToldStop}
 use Rattle.aggregate_task.specs.Aggregates.{AggregateAccount}
-use Rattle.task_taking.specs.Endings.{ToldStop}
 
 -- it found no memory at its start
 pub account_unsent : (job : Job) (b : ℕ) (every : Option ℕ) (gate : Account) (sent : List Snapshot) (history : List (ℕ × Stored)) (takes : List TakeRun) → IsNew gate → sent ≡ [] → takes ≡ [] → AggregateAccount job b every gate sent history takes causes.Memory

@@ -1,12 +1,13 @@
 -- An aggregate task under way. As in Flink it counts the records that it takes, and acknowledges a checkpoint behind the barriers of all
 -- its channels. That it waits for the image before, by which it tells the last checkpoint of a job, is this project's own choice.
-use Rattle.std.specs.Prelude.{◌≡◌, ◌≢◌, ℕ, suc, ◌⊎◌, Bool, true, false, List, [], ◌++◌, length}
+use Rattle.std.specs.Prelude.{◌≡◌, ◌≢◌, ℕ, suc, ◌⊎◌, Bool, true, false, List, [], ◌++◌, length, Result, Ok, Err}
 use Rattle.std.specs.FinMap.{empty}
 use Rattle.turn_cell.specs.History.{StartsWith}
 use Rattle.turn_cell.specs.declared.pass.Pass.{Pass}
 use Rattle.turn_cell.specs.Passes.{IsPassOf, IsSamePass, seen}
 use Rattle.flow_defs.specs.declared.cause.Cause.{Cause}
 use Rattle.flow_defs.specs.declared.cause.Cause.TheVariants as causes
+use Rattle.flow_defs.specs.declared.image.TakeRun.{TakeRun}
 use Rattle.flow_defs.specs.Jobs.{IsJob, last_edge}
 use Rattle.flow_defs.specs.Tables.{Values, table_of}
 use Rattle.plain_machine.specs.Histories.{records}
@@ -17,11 +18,12 @@ use Rattle.outside.specs.declared.last_image.Stored.{Stored}
 use Rattle.input_gate.specs.Gates.{Account}
 use Rattle.snapshot_channel.specs.Passes as channels
 use Rattle.snapshot_channel.specs.Passes.{opening, opening_of, sent_by, task_of}
-use Rattle.task_output.specs.Waiting.{HasWaited}
+use Rattle.task_output.specs.Waiting.{HasWaited, KnowsLast}
 use Rattle.task_taking.specs.Takings.{Taking, HasTaken, IsAtBarrier, IsInStep, AllBlocked}
 use Rattle.task_taking.specs.Endings.{LastIs}
 use Rattle.aggregate_task.specs.declared.acks.Acks.{Acks}
-use Rattle.aggregate_task.specs.Snapshots.{AreSnapshots, all_taken}
+use Rattle.aggregate_task.specs.declared.checkpoint.Ending.{Ending}
+use Rattle.aggregate_task.specs.Snapshots.{AreSnapshots, SentSnapshot, all_taken}
 
 -- ---- by what it acknowledges
 
@@ -84,3 +86,11 @@ pub record IsAtCheckpoint (gate : Account) (taking : Taking) (counts : Values) (
 -- It breaks off for want of memory, or where it has seen that another worker met a fault.
 abbrev pub BreaksFor : Acks → Cause → Type 0
 BreaksFor acks cause = (cause ≡ causes.Memory) ⊎ ((cause ≡ causes.Stopped) × (seen acks.stop_pass ≢ []))
+
+-- It has sent the snapshot for checkpoint k behind those before, and knows whether that is the last; or it broke off before it sent it, and
+-- has the runs back.
+abbrev pub Acknowledged : Acks → ℕ → Values → List TakeRun → Acks → Result Bool Ending → Type 0
+Acknowledged before k table runs after (Ok last) =
+    SentSnapshot before.job.now before.index k table runs (sent_by before.pass) (sent_by after.pass)
+    × KnowsLast before.every (seen after.last_pass) (length (sent_by before.pass)) last
+Acknowledged before k table runs after (Err end) = (sent_by after.pass ≡ sent_by before.pass) × (end.takes.items ≡ runs) × BreaksFor after end.cause

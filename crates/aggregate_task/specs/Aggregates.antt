@@ -1,24 +1,23 @@
 -- What an aggregate task did. As in Flink it counts the records that it takes, and its snapshots hold its table. That it tells so whatever
 -- its cause is this project's own choice.
-use Rattle.std.specs.Prelude.{◌≡◌, ◌≢◌, ℕ, suc, ◌⊎◌, List, [], ◌++◌, length, Option}
+use Rattle.std.specs.Prelude.{◌≡◌, ℕ, suc, List, [], length, Option}
 use Rattle.std.specs.FinMap.{empty}
-use Rattle.turn_cell.specs.Passes.{IsPassOf, number, seen, mine}
+use Rattle.turn_cell.specs.Passes.{IsPassOf, seen, mine}
 use Rattle.flow_defs.specs.declared.cause.Cause.{Cause}
-use Rattle.flow_defs.specs.declared.cause.Cause.TheVariants as causes
 use Rattle.flow_defs.specs.declared.image.Snapshot.{Snapshot}
 use Rattle.flow_defs.specs.declared.image.TakeRun.{TakeRun}
 use Rattle.flow_defs.specs.declared.job.Job.{Job}
 use Rattle.flow_defs.specs.Jobs.{last_edge}
 use Rattle.checkpoint_laws.specs.Chapters.{Takes, task_at}
 use Rattle.outside.specs.declared.last_image.Stored.{Stored}
-use Rattle.outside.specs.Stops.{told_of}
-use Rattle.conn_parts.specs.Stopping.{StopCell, StopPass}
 use Rattle.input_gate.specs.Gates.{Account}
 use Rattle.snapshot_channel.specs.Passes as channels
-use Rattle.snapshot_channel.specs.Passes.{opening, opening_of, task_of}
+use Rattle.snapshot_channel.specs.Passes.{opening, opening_of, sent_by, task_of}
 use Rattle.task_output.specs.Waiting.{HasWaited}
 use Rattle.task_taking.specs.Endings.{Gave, IsTakerEnd}
+use Rattle.aggregate_task.specs.declared.acks.Acks.{Acks}
 use Rattle.aggregate_task.specs.declared.aggregate.AggregateWorld.{AggregateWorld}
+use Rattle.aggregate_task.specs.declared.checkpoint.Ending.{Ending}
 use Rattle.aggregate_task.specs.Snapshots.{AreSnapshots}
 
 -- What task b of the aggregate did: it took groups of records, each before a barrier of all its channels, and sent a snapshot for each of
@@ -32,9 +31,13 @@ pub record AggregateAccount (job : Job) (b : ℕ) (every : Option ℕ) (gate : A
   pub waited : HasWaited (length sent) history
   pub cause_is : IsTakerEnd every history gate groups rest cause
 
+-- So it did by what it acknowledges by, where it ends so.
+abbrev pub HasAccount : Account → Acks → Ending → Type 0
+HasAccount gate acks end = AggregateAccount acks.job.now acks.index acks.every gate (sent_by acks.pass) (seen acks.last_pass) end.takes.items end.cause
+
 -- Task b of the aggregate is lent fresh passes: of the channel of snapshots, which is opened for this job from the start on and for this
--- interval, of the cell of the last image, and of the stop cell. What the braces bind is what the
--- functions may be.
+-- interval, of the cell of the last image, and of the stop cell. What the braces bind is
+-- what the functions may be.
 module _ {S A F G f g : _} where
   pub record IsLent (b : ℕ) (every : Option ℕ) (world : AggregateWorld S A F G f g) : Type 0 where
     pub pass : channels.IsFresh world.snapshots.now world.snapshot_pass

@@ -7,8 +7,8 @@ ghost use Rattle.job_plan.specs.Plans.{CanRun};
 ghost use Rattle.record_writer.specs.Writers.{ways_into};
 ghost use Rattle.input_gate.specs.Gates.{IsNew};
 ghost use Rattle.snapshot_channel.specs.Passes as channels;
-ghost use Rattle.aggregate_task.specs.Aggregates.{AggregateAccount, IsLent};
 ghost use Rattle.task_taking.specs.Endings.{ToldStop};
+ghost use Rattle.aggregate_task.specs.Aggregates.{AggregateAccount, IsLent};
 
 use crate::acks::Acks;
 use crate::checkpoint::Ending;

@@ -1,13 +1,11 @@
 // A checkpoint of an aggregate task.
 ghost use Rattle.std.specs.Prelude.{◌≡◌, suc, length, IfErr, MatchResult};
-ghost use Rattle.turn_cell.specs.Passes.{seen};
 ghost use Rattle.flow_defs.specs.Jobs.{IsJob, last_edge};
 ghost use Rattle.plain_machine.specs.Images.{AreRuns, HasShortKeys};
 ghost use Rattle.snapshot_channel.specs.Passes.{sent_by};
-ghost use Rattle.task_output.specs.Waiting.{KnowsLast};
-ghost use Rattle.aggregate_task.specs.Acknowledging.{BreaksFor, IsAcking, IsAtCheckpoint, IsSame, IsUnderWay};
-ghost use Rattle.aggregate_task.specs.Aggregates.{AggregateAccount};
-ghost use Rattle.aggregate_task.specs.Snapshots.{IsSnapshotWith, SentSnapshot};
+ghost use Rattle.aggregate_task.specs.Acknowledging.{Acknowledged, BreaksFor, IsAcking, IsAtCheckpoint, IsSame, IsUnderWay};
+ghost use Rattle.aggregate_task.specs.Aggregates.{HasAccount};
+ghost use Rattle.aggregate_task.specs.Snapshots.{IsSnapshotWith};
 
 use crate::acks::{Acks, AcksStopped};
 use flow_defs::{Cause, Job, ListOf, Snapshot, Table, TakeRun, TaskId};
@@ -41,8 +39,7 @@ pub fn take_checkpoint<G: Gate, R: Wait>(
     requires own { IsAcking acks.old }
     ensures gate { (G.ends gate.new ≡ G.ends gate.old) × ((G.account gate.new).channels ≡ (G.account gate.old).channels) }
     ensures own { IsAcking acks.new × IsSame acks.old acks.new }
-    ensures taken { MatchResult result (λ last. IsUnderWay (G.account gate.new) taking.new counts.now acks.new last)
-        (λ end. AggregateAccount acks.new.job.now acks.new.index acks.new.every (G.account gate.new) (sent_by acks.new.pass) (seen acks.new.last_pass) end.takes.items end.cause) }
+    ensures taken { MatchResult result (λ last. IsUnderWay (G.account gate.new) taking.new counts.now acks.new last) (λ end. HasAccount (G.account gate.new) acks.new end) }
     ensures breaks { IfErr result (λ end. BreaksFor acks.new end.cause) }
 {
     what_was_taken_was_given();
@@ -69,8 +66,7 @@ fn acknowledge<R: Wait>(
     requires keys { HasShortKeys counts.now }
     requires runs { AreRuns acks.old.job.now (last_edge acks.old.job.now) acks.old.index takes.items }
     ensures own { IsAcking acks.new × IsSame acks.old acks.new }
-    ensures sent { MatchResult result (λ last. SentSnapshot acks.old.job.now acks.old.index k counts.now takes.items (sent_by acks.old.pass) (sent_by acks.new.pass) × KnowsLast acks.old.every (seen acks.new.last_pass) (length (sent_by acks.old.pass)) last)
-        (λ end. (sent_by acks.new.pass ≡ sent_by acks.old.pass) × (end.takes.items ≡ takes.items) × BreaksFor acks.new end.cause) }
+    ensures sent { Acknowledged acks.old k counts.now takes.items acks.new result }
 {
     let last = match acks.learn_last(rt, k) {
         Ok(last) => last,

@@ -11,7 +11,7 @@ ghost use Rattle.input_gate.specs.Gates.{IsNew};
 ghost use Rattle.snapshot_channel.specs.Passes.{sent_by};
 ghost use Rattle.task_taking.specs.Takings.{HasTaken, IsInStep};
 ghost use Rattle.aggregate_task.specs.Acknowledging.{IsAcking, IsSame};
-ghost use Rattle.aggregate_task.specs.Aggregates.{AggregateAccount};
+ghost use Rattle.aggregate_task.specs.Aggregates.{HasAccount};
 
 use crate::acks::Acks;
 use crate::checkpoint::{Ending, take_checkpoint};
@@ -39,7 +39,7 @@ pub fn take_all<G: Gate, R: Wait>(
     requires gate { IsNew (G.account gate.old) × ((G.account gate.old).channels ≡ ways_into acks.old.job.now (last_edge acks.old.job.now)) }
     ensures gate { (G.ends gate.new ≡ G.ends gate.old) × ((G.account gate.new).channels ≡ (G.account gate.old).channels) }
     ensures own { IsAcking acks.new × IsSame acks.old acks.new }
-    ensures account { AggregateAccount acks.new.job.now acks.new.index acks.new.every (G.account gate.new) (sent_by acks.new.pass) (seen acks.new.last_pass) result.takes.items result.cause }
+    ensures account { HasAccount (G.account gate.new) acks.new result }
     ensures stopped { result.cause ≡ Cause.Stopped → G.saw_stop gate.new ⊎ (seen acks.new.stop_pass ≢ []) }
 {
     let edge = acks.job.stages.as_slice().len() as u32;
@@ -66,7 +66,7 @@ fn count_all<G: Gate, R: Wait>(
     requires new { HasTaken acks.old.job.now (last_edge acks.old.job.now) acks.old.index (G.account gate.old) taking [] [] × IsInStep (G.account gate.old) taking }
     ensures gate { (G.ends gate.new ≡ G.ends gate.old) × ((G.account gate.new).channels ≡ (G.account gate.old).channels) }
     ensures own { IsAcking acks.new × IsSame acks.old acks.new }
-    ensures account { AggregateAccount acks.new.job.now acks.new.index acks.new.every (G.account gate.new) (sent_by acks.new.pass) (seen acks.new.last_pass) result.takes.items result.cause }
+    ensures account { HasAccount (G.account gate.new) acks.new result }
     ensures stopped { result.cause ≡ Cause.Stopped → G.saw_stop gate.new ⊎ (seen acks.new.stop_pass ≢ []) }
 {
     what_was_taken_was_given();

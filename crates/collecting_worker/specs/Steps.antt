@@ -74,7 +74,7 @@ pub record HasKept (old new : Worker) (before after : Option (List KeptImage)) (
   pub all_ended_is : all_ended ≡ has_all_ended image
   pub stop : mine new.stop_pass ≡ mine old.stop_pass
 
--- No image was kept, and the stop cell was told of a fault.
+-- No image was kept, and the stop cell was told of the fault, where it is the worker's own.
 pub record HasBroken (old new : Worker) (before after : Option (List KeptImage)) (cause : Cause) : Type 0 where
   pub kept : after ≡ before
   pub told : mine new.last_pass ≡ mine old.last_pass

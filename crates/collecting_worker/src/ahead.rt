@@ -1,6 +1,5 @@
 // Snapshots that came before their checkpoint.
 ghost use Rattle.std.specs.Prelude.{◌≡◌, ℕ, ◌<◌, length, remove, slice_index_or, IfSome, IfNone};
-ghost use Rattle.flow_defs.specs.declared.image.Snapshot.{Snapshot as AnySnapshot};
 
 use flow_defs::Snapshot;
 

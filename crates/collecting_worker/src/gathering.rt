@@ -1,12 +1,8 @@
 // Gathers the snapshots of a checkpoint.
-ghost use Rattle.std.specs.Prelude.{◌≡◌, ◌≢◌, ◌+◌, [], ℕ, List, true, IfOk, IfErr, IfSome, IfNone, OnErr};
-ghost use Rattle.turn_cell.specs.History.{StartsWith};
+ghost use Rattle.std.specs.Prelude.{◌≡◌, ◌≢◌, ◌+◌, [], ℕ, true, IfOk, IfErr, IfSome, IfNone, OnErr};
 ghost use Rattle.turn_cell.specs.Passes.{IsPassOf, IsSamePass, seen};
-ghost use Rattle.flow_defs.specs.declared.cause.Cause.TheVariants.{Memory};
-ghost use Rattle.flow_defs.specs.declared.job.Job.{Job};
 ghost use Rattle.snapshot_channel.specs.Passes.{IsCollecting, received_by};
-ghost use Rattle.outside.specs.declared.stop.StopEntry.{StopEntry};
-ghost use Rattle.collecting_worker.specs.Gathering.{IsBetween, IsComplete, IsGathering, IsInHand, IsOpen, IsSameGathering, MayBeLast, every_of, job_of};
+ghost use Rattle.collecting_worker.specs.Gathering.{IsBetween, IsComplete, IsInHand, IsOpen, IsSameGathering, MayBeLast, every_of, job_of};
 ghost use Rattle.collecting_worker.specs.Steps.{BreaksFor};
 
 use crate::ahead::take_numbered;

@@ -1,5 +1,5 @@
 // The worker, from one checkpoint to the next.
-ghost use Rattle.std.specs.Prelude.{◌≡◌, ◌≢◌, ◌≤◌, ◌<◌, ◌+◌, ◌++◌, ◌∷◌, [], ℕ, List, Option, Some, None, true, IfOk, IfErr, OnOk};
+ghost use Rattle.std.specs.Prelude.{◌≡◌, ◌≢◌, ◌≤◌, ◌<◌, ◌+◌, ◌++◌, [], ℕ, None, true, IfOk, IfErr, OnOk};
 ghost use Rattle.turn_cell.specs.Passes.{mine, number, seen};
 ghost use Rattle.flow_defs.specs.declared.cause.Cause.TheVariants.{Stopped};
 ghost use Rattle.plain_machine.specs.Spelling.{spelling};

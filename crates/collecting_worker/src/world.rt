@@ -42,12 +42,16 @@ pub struct CollectEnd {
 }
 
 /// Collects the snapshots of all tasks, and stores the image of one checkpoint after the other, from number 1
-/// on. With no interval the first one is the last; with one it is that behind the image in which all sources are
-/// ended. As Flink's default one checkpoint is open at a time; a snapshot for a later one waits until that is
-/// open.
+/// on. `every` is how many lines a source reads between two checkpoints, from 1. With None the first checkpoint
+/// is the last; else it is the one behind the image in which all sources are ended. As Flink's default one
+/// checkpoint is open at a time; a snapshot for a later one waits until that is open.
 ///
-/// An image is stored in a turn of the stop cell that shows no fault, so none is once one was met. It is
-/// stored before the other workers are told of it.
+/// An image is stored in a turn of the stop cell that shows no fault, so none is once one was met. The others are
+/// told of it behind that.
+///
+/// It ends as `Done` with the last image. It ends as `Keeper`, `BigImage`, `Peer` or `Memory` for a fault of its
+/// own, which it has told, and as `Stopped` where it saw another's. It holds one image beside the one that it
+/// stored last, and the cost of a checkpoint is in proportion to the bytes of its image.
 pub fn collect_images<K: Keeper, R: Wait>(
     rt: &R,
     alloc: Global,

@@ -14,7 +14,6 @@ use Rattle.job_plan.specs.Limits.{HasLongLine}
 use Rattle.job_outcome.specs.Outcomes.{AreTold, IsRunCause, IsOfInput}
 use Rattle.job_run.specs.Wires.{IsLinkGround}
 use Rattle.job_cli.specs.Causes.{of_cause, status_of}
-use Rattle.job_cli.specs.declared.fault.Fault.{Fault}
 use Rattle.job_cli.specs.Run.{TellsSources}
 use Rattle.job_cli.specs.Sources.{source_name, AreInputsOf, HasFaulty, IsRunFault}
 

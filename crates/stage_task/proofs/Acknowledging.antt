@@ -1,5 +1,5 @@
 -- A stage acknowledges a checkpoint.
-use Rattle.std.proofs.Common.{◌≡◌, Bor, ℕ, zero, suc, ◌+◌, ◌-◌, ◌<◌, Bool, true, false, List, [], ◌∷◌, ◌++◌, length, Option, Some, None, refl, sym, ap, subst, ◌∙◌, append-nil, length-append, arith}
+use Rattle.std.proofs.Common.{◌≡◌, Bor, ℕ, zero, suc, ◌+◌, ◌-◌, ◌<◌, Bool, true, false, List, [], ◌∷◌, ◌++◌, length, Option, Some, None, sym, ap, subst, ◌∙◌, append-nil, length-append, arith}
 use Rattle.std.specs.Prelude.{All}
 use Rattle.std.specs.FinMap.{empty}
 use Rattle.std.proofs.lemmas.List.Elements.{All-nil}
@@ -28,7 +28,7 @@ use Rattle.snapshot_channel.specs.Snapshots.{AreTakesAt, FitsTask, LeadsTo, Come
 use Rattle.snapshot_channel.specs.Passes.{IsPassOf, opening_of, sent_by, task_of}
 use Rattle.task_taking.specs.Takings.{Taking, HasTaken, IsAtBarrier}
 use Rattle.task_taking.specs.Endings.{LastIs, ResumedIsGiven}
-use Rattle.task_output.specs.Outputs.{Output, HasSent, HasBegun, count_behind}
+use Rattle.task_output.specs.Outputs.{Output, HasSent, count_behind}
 use Rattle.task_output.specs.Laws.{SentIsBegun, BarrierIsLeftAside}
 use Rattle.task_output.specs.Waiting.{KnowsLast, HasWaited, SeenIsWaited, WaitedStays}
 use Rattle.stage_task.specs.declared.checkpoints.StageOutput.{StageOutput}

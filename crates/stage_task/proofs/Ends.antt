@@ -1,5 +1,5 @@
 -- Where a stage takes no more.
-use Rattle.std.proofs.Common.{◌≡◌, ◌≢◌, ℕ, suc, ◌<◌, ◌+◌, Bool, true, false, cond, List, [], ◌∷◌, ◌++◌, length, Option, refl, sym, ap, subst, ◌∙◌, inl, inr, append-nil, append_assoc, arith}
+use Rattle.std.proofs.Common.{◌≡◌, ◌≢◌, ◌⊎◌, ℕ, suc, ◌<◌, ◌+◌, false, cond, List, [], ◌∷◌, ◌++◌, length, Option, refl, sym, ap, subst, ◌∙◌, inl, inr, append-nil, append_assoc, arith}
 use Rattle.std.proofs.lemmas.List.{length-map}
 use Rattle.turn_cell.specs.History.{StartsWith}
 use Rattle.turn_cell.specs.Passes.{seen}
@@ -12,7 +12,7 @@ use Rattle.flow_defs.specs.declared.job.Job.{Job}
 use Rattle.plain_machine.specs.Emitting.{apply_behind}
 use Rattle.checkpoint_laws.specs.Chapters.{Takes, applied}
 use Rattle.outside.specs.declared.last_image.Stored.{Stored}
-use Rattle.record_writer.specs.Writers.{SendPass, IsNextBarrier}
+use Rattle.record_writer.specs.Writers.{SendPass, IsNextBarrier, HasSeenFault}
 use Rattle.input_gate.specs.Gates.{Account, AllOver, stops_in}
 use Rattle.snapshot_channel.specs.Passes.{sent_by}
 use Rattle.task_taking.specs.Steps.{IsTakerCause}
@@ -52,6 +52,9 @@ stopped_not_done = λ is. cc
 pub memory_not_done : causes.Memory ≢ causes.Done
 memory_not_done = λ is. cc
 
+memory_not_stopped : causes.Memory ≢ causes.Stopped
+memory_not_stopped = λ is. cc
+
 barrier_not_done : causes.Peer peers.Barrier ≢ causes.Done
 barrier_not_done = λ is. cc
 
@@ -86,6 +89,19 @@ taker_end every history gate groups rest (causes.Peer peers.Left) is other = is
 taker_end every history gate groups rest (causes.Peer peers.Cut) is other = absurd is
 taker_end every history gate groups rest (causes.Peer peers.Refused) is other = absurd is
 taker_end every history gate groups rest causes.Memory is other = tt
+
+-- ---- where it was stopped
+
+pub among_stopped : (saw : Type 0) (job : Job) (e a size : ℕ) (out : Output) (groups : List (List (List ℕ))) (records given : List (List ℕ)) (cause cause' : Cause) → EndedAmong job e a size out groups records given cause → cause' ≡ cause → cause' ≡ causes.Stopped → saw ⊎ HasSeenFault out.writer
+among_stopped saw job e a size out groups records given cause cause' among same is =
+    elim among.cause_is [ inl full ↦ absurd (memory_not_stopped (sym full ∙ sym same ∙ is)) | inr stopped ↦ inr stopped.1 ]
+
+-- ---- by other names
+
+pub named : (job : Job) (e b size : ℕ) (every : Option ℕ) (gate : Account) (passes : List SendPass) (sent : List Snapshot) (history : List (ℕ × Stored)) (takes takes' : List TakeRun) (cause cause' : Cause) → takes' ≡ takes → cause' ≡ cause
+    → StageAccount job e b size every gate passes sent history takes cause → StageAccount job e b size every gate passes sent history takes' cause'
+named job e b size every gate passes sent history takes takes' cause cause' one two was =
+    subst (λ (l : List TakeRun). StageAccount job e b size every gate passes sent history l cause') (sym one) (subst (StageAccount job e b size every gate passes sent history takes) (sym two) was)
 
 -- ---- where it takes on
 
@@ -213,16 +229,6 @@ module _ (before gate : Account) (t t' : Taking) (out : StageOutput) (behind : I
           done = λ is. (refl, all.each);
           cause_is = (over, refl, behind.last);
         }
-
--- ---- by other names
-
-pub named : (job : Job) (e b size : ℕ) (every : Option ℕ) (gate : Account) (passes : List SendPass) (sent : List Snapshot) (history : List (ℕ × Stored)) (takes takes' : List TakeRun) (cause cause' : Cause) → takes' ≡ takes → cause' ≡ cause
-    → StageAccount job e b size every gate passes sent history takes cause → StageAccount job e b size every gate passes sent history takes' cause'
-named job e b size every gate passes sent history takes takes' cause cause' one two was =
-    subst (λ (l : List TakeRun). StageAccount job e b size every gate passes sent history l cause') (sym one) (subst (StageAccount job e b size every gate passes sent history takes) (sym two) was)
-
-pub memory_not_stopped : causes.Memory ≢ causes.Stopped
-memory_not_stopped = λ is. cc
 
 -- the next barrier has the number of the checkpoint
 pub next_mark : (out : StageOutput) (before : Account) (t : Taking) (groups : List (List (ℕ × List ℕ))) (took : List (ℕ × List ℕ)) → HasApplied before t out groups took → (k : ℕ) → k ≡ suc (length groups) → IsNextBarrier out.output.writer k

@@ -1,5 +1,5 @@
 -- How the task of a stage begins and ends.
-use Rattle.std.proofs.Common.{◌≡◌, ◌≢◌, Bor, ℕ, zero, suc, ◌+◌, ◌<◌, ◌⊎◌, false, List, [], ◌∷◌, ◌++◌, Option, refl, sym, ap, subst, ◌∙◌, inl, inr, arith}
+use Rattle.std.proofs.Common.{◌≡◌, ◌≢◌, Bor, ℕ, zero, suc, ◌+◌, ◌⊎◌, false, List, [], ◌∷◌, ◌++◌, Option, refl, sym, ap, subst, ◌∙◌, inl, inr, arith}
 use Rattle.turn_cell.specs.History.{StartsWith}
 use Rattle.turn_cell.specs.Passes.{IsPassOf, IsSamePass, seen}
 use Rattle.flow_defs.specs.declared.cause.Cause.{Cause}
@@ -21,7 +21,7 @@ use Rattle.input_gate.specs.Gates as gates
 use Rattle.input_gate.specs.Gates.{Account}
 use Rattle.snapshot_channel.specs.Passes.{sent_by}
 use Rattle.task_taking.specs.Endings.{IsTakerEnd}
-use Rattle.task_taking.specs.Takings.{Taking, HasTaken}
+use Rattle.task_taking.specs.Takings.{Taking, HasTaken, untaken}
 use Rattle.task_output.specs.Ending.{EndsAs, ToldAtEnd}
 use Rattle.task_output.specs.Outputs.{WritesFor, HasSent, BegunOn, end_of}
 use Rattle.stage_task.specs.declared.checkpoints.StageOutput.{StageOutput}
@@ -50,6 +50,10 @@ under_way gate taking partition w out new channels none writes fresh none_sent u
       };
       not_last = refl;
     }
+
+-- a task that has taken nothing has noted nothing
+pub none_noted : (t : Taking) (job : Job) (e b : ℕ) (runs : List TakeRun) → t ≡ untaken job e b → runs ≡ t.runs → runs ≡ []
+none_noted t job e b runs is same = same ∙ ap (λ (x : Taking). x.runs) is
 
 none_at : (passes : List SendPass) (c : ℕ) → AreNew passes → mine_at c passes ≡ []
 none_at [] c new = refl

@@ -1,16 +1,13 @@
 -- A stateless task under way. As in Flink it puts a barrier behind what it emitted for the records that it took before its snapshot, and
 -- goes on. That what it did is told by what it took from each barrier to the next is this project's own choice.
-use Rattle.std.specs.Prelude.{◌≡◌, ℕ, suc, ◌<◌, ◌⊎◌, ⊤, Bool, true, false, List, [], ◌∷◌, ◌++◌, length, map, Result, Ok, Err}
-use Rattle.std.specs.FinMap.{empty}
+use Rattle.std.specs.Prelude.{◌≡◌, ℕ, suc, ◌<◌, ◌⊎◌, Bool, true, false, List, [], ◌∷◌, ◌++◌, length, Result, Ok, Err}
 use Rattle.turn_cell.specs.Passes as passes
 use Rattle.turn_cell.specs.Passes.{seen}
 use Rattle.flow_defs.specs.declared.cause.Cause.{Cause}
 use Rattle.flow_defs.specs.declared.cause.Cause.TheVariants as causes
-use Rattle.flow_defs.specs.declared.image.Snapshot.{Snapshot}
 use Rattle.flow_defs.specs.declared.job.Job.{Job}
 use Rattle.flow_defs.specs.Jobs.{last_edge}
-use Rattle.plain_machine.specs.Emitting.{count_after}
-use Rattle.checkpoint_laws.specs.Chapters.{Takes, applied, task_at}
+use Rattle.checkpoint_laws.specs.Chapters.{applied, task_at}
 use Rattle.record_writer.specs.Writers.{IsSame, HasSeenFault}
 use Rattle.input_gate.specs.Gates.{Account}
 use Rattle.snapshot_channel.specs.Passes.{IsPassOf, opening_of, sent_by, task_of}

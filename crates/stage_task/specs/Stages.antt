@@ -1,6 +1,6 @@
 -- What the task of a stateless stage did. As in Flink it emits what its function gives for each record that it takes, and acknowledges each
 -- checkpoint. That it tells so whatever its cause is this project's own choice.
-use Rattle.std.specs.Prelude.{◌≡◌, ◌≢◌, ℕ, suc, ◌<◌, ◌≤◌, ◌⊎◌, Bool, List, [], ◌++◌, length, Option, IfSome}
+use Rattle.std.specs.Prelude.{◌≡◌, ◌≢◌, ℕ, suc, ◌<◌, ◌≤◌, ◌⊎◌, List, [], ◌++◌, Option, IfSome}
 use Rattle.turn_cell.specs.History.{StartsWith}
 use Rattle.turn_cell.specs.Passes.{IsPassOf, number, seen, mine}
 use Rattle.flow_defs.specs.declared.cause.Cause.{Cause}

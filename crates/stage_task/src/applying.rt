@@ -27,6 +27,11 @@ use task_output::laws::what_was_sent_was_begun;
 use task_taking::laws::what_was_taken_was_given;
 use task_taking::{Taken, TaskTaking};
 
+// What a task ends with where its channels end before the last checkpoint, or give more behind it.
+const WRONG_BARRIER: Cause = Cause::Peer {
+    fault: PeerFault::Barrier,
+};
+
 /// Emits what the stage gives for each record that is taken, and acknowledges each checkpoint, up to the last
 /// one. Behind that it ends its channels.
 pub fn apply_all<G: Gate, R: Wait>(
@@ -83,11 +88,6 @@ pub fn apply_all<G: Gate, R: Wait>(
     }
     unreachable!()
 }
-
-// What a task ends with where its channels end before the last checkpoint, or give more behind it.
-const WRONG_BARRIER: Cause = Cause::Peer {
-    fault: PeerFault::Barrier,
-};
 
 // The task ends so, with the runs of what it took behind its last barrier.
 fn end_of(taking: TaskTaking, cause: Cause) -> TakerEnd

@@ -1,4 +1,4 @@
-use Rattle.std.proofs.Common.{◌≡◌, Ok, Err, suc, [], ◌++◌, ◌∷◌, inl, inr, false, true, refl, sym, ap, subst, ◌∙◌}
+use Rattle.std.proofs.Common.{◌≡◌, Ok, suc, inr, refl, sym, subst, ◌∙◌}
 use Rattle.flow_defs.specs.declared.cause.Cause.TheVariants as causes
 use Rattle.flow_defs.specs.declared.cause.PeerFault.TheVariants as peers
 use Rattle.flow_defs.specs.Stages.{apply}
@@ -6,15 +6,13 @@ use Rattle.plain_machine.specs.Emitting.{apply_behind}
 use Rattle.checkpoint_laws.specs.Chapters.{applied}
 use Rattle.snapshot_channel.specs.Passes.{sent_by}
 use Rattle.turn_cell.specs.Passes.{seen}
-use Rattle.record_writer.specs.Writers.{IsNextBarrier}
 use Rattle.task_taking.specs.Steps.{TookNext, GoesOn}
 use Rattle.task_taking.specs.declared.taking.Taken.{Taken}
 use Rattle.stage_task.specs.Snapshots.{all_applied}
-use Rattle.stage_task.specs.Applying.{HasAcknowledged}
 use Rattle.stage_task.proofs.Records.{applied_behind, gives_there}
-use Rattle.stage_task.proofs.SameStage.{same_twice, same_itself, same_output, own_output}
+use Rattle.stage_task.proofs.SameStage.{same_itself, same_output, own_output}
 use Rattle.flow_defs.specs.Records.{IsShort}
-use Rattle.stage_task.proofs.Ends.{memory_not_stopped, line_applied, line_ended, marked, mark_ended, gate_ended, ended_early, named, next_mark}
+use Rattle.stage_task.proofs.Ends.{among_stopped, line_applied, line_ended, marked, mark_ended, gate_ended, ended_early, named, next_mark}
 use Rattle.stage_task.proofs.applying.apply_all.Goals as goal
 
 pub loop-item-init : goal.loop-item-init
@@ -68,8 +66,8 @@ returns-in-Err-apply_one-clause-stopped g c =
     let before = g.G.Gate.account c.loop-item.gate in
     let gate = g.G.Gate.account c.next-in-loop-item.new.gate in
     let t = c.next-in-loop-item.new.self in
-    λ is. (let among = c.in-Err-apply_one.ensures.emitted out.job.now (suc out.edge) out.index out.output.writer.size (all_applied out.job.now out.edge u.groups) (applied out.job.now out.edge u.took) u.applied_them.sent in
-    elim among.cause_is [ inl full ↦ absurd (memory_not_stopped (sym full ∙ sym c.end_of.ensures.1 ∙ is)) | inr stopped ↦ inr stopped.1 ])
+    among_stopped (g.G.Gate.saw_stop c.next-in-loop-item.new.gate) out.job.now (suc out.edge) out.index out.output.writer.size c.apply_one.new.output (all_applied out.job.now out.edge u.groups) (applied out.job.now out.edge u.took) (apply c.in-Some.stage.now c.as_slice-line.result.now) c.in-Err-apply_one.cause c.end_of.result.cause
+    (c.in-Err-apply_one.ensures.emitted out.job.now (suc out.edge) out.index out.output.writer.size (all_applied out.job.now out.edge u.groups) (applied out.job.now out.edge u.took) u.applied_them.sent) c.end_of.ensures.1
 
 pub loop-item-preserved-in-Ok : goal.loop-item-preserved-in-Ok
 loop-item-preserved-in-Ok g c =

@@ -1,4 +1,4 @@
-use Rattle.std.proofs.Common.{Ok, Err, suc, [], inl, inr, sym, ap, subst, ◌∙◌}
+use Rattle.std.proofs.Common.{Ok, suc, [], inr, subst}
 use Rattle.flow_defs.specs.declared.cause.Cause.TheVariants as causes
 use Rattle.flow_defs.specs.declared.cause.PeerFault.TheVariants as peers
 use Rattle.snapshot_channel.specs.Passes.{sent_by}
@@ -6,7 +6,7 @@ use Rattle.turn_cell.specs.Passes.{seen}
 use Rattle.task_taking.specs.Steps.{TookNext, GoesOn}
 use Rattle.task_taking.specs.declared.taking.Taken.{Taken}
 use Rattle.stage_task.specs.Snapshots.{all_applied}
-use Rattle.stage_task.proofs.Ends.{finished, finish_ended, line_behind, barrier_behind, ended_behind, named, stopped_not_done}
+use Rattle.stage_task.proofs.Ends.{finished, finish_ended, line_behind, barrier_behind, ended_behind, named}
 use Rattle.stage_task.proofs.applying.end_behind_last.Goals as goal
 
 pub returns-in-Ok-clause-ended : goal.returns-in-Ok-clause-ended

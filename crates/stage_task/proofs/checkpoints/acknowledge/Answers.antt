@@ -1,8 +1,8 @@
-use Rattle.std.proofs.Common.{refl, sym, ap, ◌∙◌}
+use Rattle.std.proofs.Common.{refl, ap, ◌∙◌}
 use Rattle.flow_defs.specs.Items.{Items}
 use Rattle.flow_defs.specs.declared.image.Snapshot.{Snapshot}
 use Rattle.flow_defs.specs.declared.image.TakeRun.{TakeRun}
-use Rattle.barriers.specs.Alignments.{Alignment, is_open}
+use Rattle.barriers.specs.Alignments.{is_open}
 use Rattle.snapshot_channel.specs.Passes.{sent_by}
 use Rattle.stage_task.specs.declared.checkpoints.StageOutput.{StageOutput}
 use Rattle.stage_task.proofs.Acknowledging.{may_send, own_later, resumed_at, unacknowledged, still_resumed, acknowledged, own_acknowledged}

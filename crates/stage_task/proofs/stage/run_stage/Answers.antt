@@ -1,17 +1,15 @@
-use Rattle.std.proofs.Common.{◌≡◌, ◌≢◌, ◌+◌, ◌⊎◌, [], suc, refl, ap, sym, subst, ◌∙◌, arith}
+use Rattle.std.proofs.Common.{◌≡◌, ◌≢◌, ◌+◌, ◌⊎◌, [], suc, ap, sym, subst, ◌∙◌, arith}
 use Rattle.turn_cell.specs.Passes.{seen, IsSamePass}
-use Rattle.turn_cell.specs.declared.pass.Pass.{Pass}
 use Rattle.flow_defs.specs.declared.cause.Cause.TheVariants as causes
 use Rattle.flow_defs.specs.Items.{Items}
 use Rattle.flow_defs.specs.declared.image.TakeRun.{TakeRun}
 use Rattle.record_writer.specs.declared.partition.PartitionPasses.{PartitionPasses}
 use Rattle.record_writer.specs.Partitions.{ArePassesOf, IsPartitionOf}
-use Rattle.record_writer.specs.Writers.{Writer, IsSame, HasSeenFault}
+use Rattle.record_writer.specs.Writers.{Writer, IsSame}
 use Rattle.snapshot_channel.specs.Passes.{sent_by}
-use Rattle.task_taking.specs.Takings.{Taking}
 use Rattle.stage_task.specs.declared.checkpoints.StageOutput.{StageOutput}
 use Rattle.stage_task.specs.Stages.{StageAccount}
-use Rattle.stage_task.proofs.Running.{under_way, unbegun, account_ended, account_of_same, written_back, told_by_stage}
+use Rattle.stage_task.proofs.Running.{under_way, unbegun, none_noted, account_ended, account_of_same, written_back, told_by_stage}
 use Rattle.stage_task.proofs.stage.run_stage.Goals as goal
 
 pub returns-in_default-clause-account : goal.returns-in_default-clause-account
@@ -65,4 +63,4 @@ returns-in-Err-clause-account g c =
     account_ended world.job.now c.args.edge c.args.index world.partition.size c.args.every gate c.in-Err.refused.passes.subpartitions.items (sent_by world.snapshot_pass) (seen world.last_pass) c.into_runs.result.items causes.Memory c.end_task-cause-in-Err.result c.end_task-cause-in-Err.ensures.cause
     (subst (λ (p : PartitionPasses). StageAccount world.job.now c.args.edge c.args.index world.partition.size c.args.every gate p.subpartitions.items (sent_by world.snapshot_pass) (seen world.last_pass) c.into_runs.result.items causes.Memory) (sym c.in-Err.ensures.refused.0)
     (unbegun world.job.now c.args.edge c.args.index world.partition.size c.args.every gate world.partition.passes.subpartitions.items (sent_by world.snapshot_pass) (seen world.last_pass) c.into_runs.result.items c.requires.task.gate_new c.requires.lent.partition_is.new c.requires.lent.fresh.1
-    (c.into_runs.ensures ∙ ap (λ (t : Taking). t.runs) c.in-Ok.ensures.is)))
+    (none_noted c.in-Ok.taking world.job.now c.args.edge c.args.index c.into_runs.result.items c.in-Ok.ensures.is c.into_runs.ensures)))

@@ -5,7 +5,6 @@ use Rattle.stage_fns.specs.Functions.{Functions, HasStage, HasAgg, with_stage, w
 use Rattle.conn_parts.specs.Shares.{AreNew}
 use Rattle.record_writer.specs.Writers.{AreOwnAt, HaveSizeAt}
 use Rattle.stage_task.proofs.OneChannel.{one_own, one_new, one_size, one_way}
-use Rattle.task_taking.proofs.Samples.{new_account}
 use Rattle.stage_task.proofs.tests.stage_sends.Goals as goal
 
 pub stage-end-requires-clause-lent : goal.stage-end-requires-clause-lent

@@ -1,8 +1,8 @@
 -- What the task of a stateless stage did. As in Flink it emits what its function gives for each record that it takes, and acknowledges each
 -- checkpoint. That it tells so whatever its cause is this project's own choice.
-use Rattle.std.specs.Prelude.{◌≡◌, ◌≢◌, ℕ, suc, ◌<◌, ◌≤◌, ◌⊎◌, List, [], ◌++◌, Option, IfSome}
+use Rattle.std.specs.Prelude.{◌≡◌, ℕ, suc, ◌<◌, ◌≤◌, List, [], Option, IfSome}
 use Rattle.turn_cell.specs.History.{StartsWith}
-use Rattle.turn_cell.specs.Passes.{IsPassOf, number, seen, mine}
+use Rattle.turn_cell.specs.Passes.{IsPassOf}
 use Rattle.flow_defs.specs.declared.cause.Cause.{Cause}
 use Rattle.flow_defs.specs.declared.cause.Cause.TheVariants as causes
 use Rattle.flow_defs.specs.declared.image.Snapshot.{Snapshot}
@@ -12,9 +12,7 @@ use Rattle.flow_defs.specs.Jobs.{IsJob, last_edge, tasks}
 use Rattle.plain_machine.specs.Emitting.{receiver_on}
 use Rattle.checkpoint_laws.specs.Chapters.{Takes, applied, task_at}
 use Rattle.outside.specs.declared.last_image.Stored.{Stored}
-use Rattle.outside.specs.Stops.{told_of}
 use Rattle.conn_parts.specs.Shares.{mine_at}
-use Rattle.conn_parts.specs.Stopping.{StopCell, StopPass}
 use Rattle.record_writer.specs.Partitions.{IsPartitionOf}
 use Rattle.record_writer.specs.declared.partition.Partition.{Partition}
 use Rattle.record_writer.specs.declared.partition.PartitionPasses.{PartitionPasses}

@@ -15,7 +15,7 @@ use Rattle.channel_state.specs.Contents.{FitsItsText}
 use Rattle.checkpoint_laws.specs.Collecting as laws
 use Rattle.checkpoint_laws.specs.Collecting.{Collected, IsLast, IsMadeOf}
 use Rattle.collector.specs.declared.collector.Checkpoint.{Checkpoint}
-use Rattle.collector.specs.Faults.{IsFaultOf}
+use Rattle.collector.specs.Faults.{IsFaultOf, IsNothingSaved}
 use Rattle.collector.specs.Images.{IsImageOf, SnapshotsMakeFitting}
 use Rattle.collector.specs.Pieces.{is_of, piece}
 use Rattle.collecting_worker.specs.Images.{IsMadeFrom, IsSnapshotFor, has_all_ended}
@@ -56,9 +56,9 @@ fits_its_text law job received cp image has h sound = record {
   short = subst (λ (t : List ℕ). length t ≤ 65536) (sym h.image_is.text) has.short;
 }
 
-pub collected : (job : Job) (every : Option ℕ) (received : List Snapshot) (cp : Checkpoint) (old image : Image) → IsComplete job received cp image → IsFaultOf job image None
+pub collected : (job : Job) (every : Option ℕ) (received : List Snapshot) (cp : Checkpoint) (old image : Image) → IsComplete job received cp image → (image.final_one ≡ true → IsNothingSaved job image)
     → old.number + 1 ≡ cp.number → old.final_one ≡ false → IsLast every old image → Collected job every old image
-collected job every received cp old image h sound next not_last last =
+collected job every received cp old image h still next not_last last =
     let is = h.image_is in
     record {
       number = is.number_is ∙ sym next;
@@ -72,7 +72,7 @@ collected job every received cp old image h sound next not_last last =
       takes = is.takes;
       saved_in = is.saved_in;
       saved_out = is.saved_out;
-      last_is_empty = λ final. sound.1 final;
+      last_is_empty = still;
     }
 
 -- ---- whether all are ended

@@ -15,7 +15,7 @@ use Rattle.plain_machine.specs.Spelling.{spelling}
 use Rattle.checkpoint_laws.specs.Chapters.{Linked}
 use Rattle.checkpoint_laws.specs.Collecting.{Collected, IsLast}
 use Rattle.collector.specs.declared.collector.Checkpoint.{Checkpoint}
-use Rattle.collector.specs.Faults.{IsFaultOf}
+use Rattle.collector.specs.Faults.{IsFaultOf, IsNothingSaved}
 use Rattle.collector.specs.Images.{SnapshotsMakeFitting}
 use Rattle.outside.specs.Keepers.{KeptImage, with_image}
 use Rattle.outside.specs.declared.last_image.Stored.{Stored}
@@ -29,11 +29,11 @@ last_of_more : (base image : Image) (images : List Image) → last_of base (imag
 last_of_more base image [] = refl
 last_of_more base image (x ∷ images) = last_of_more x image images
 
-linked_more : (R : Image → Image → Type 0) (base image : Image) (images : List Image) → Linked R base images → R (last_of base images) image → Linked R base (images ++ image ∷ [])
+pub linked_more : (R : Image → Image → Type 0) (base image : Image) (images : List Image) → Linked R base images → R (last_of base images) image → Linked R base (images ++ image ∷ [])
 linked_more R base image [] h r = (r, tt)
 linked_more R base image (x ∷ images) h r = (h.0, linked_more R x image images h.1 r)
 
-all_more : (P : Image → Type 0) (images : List Image) (image : Image) → AllByRecursion P images → P image → AllByRecursion P (images ++ image ∷ [])
+pub all_more : (P : Image → Type 0) (images : List Image) (image : Image) → AllByRecursion P images → P image → AllByRecursion P (images ++ image ∷ [])
 all_more P [] image h p = (p, tt)
 all_more P (x ∷ images) image h p = (h.0, all_more P images image h.1 p)
 
@@ -143,8 +143,13 @@ module _ (law : SnapshotsMakeFitting) (job : Job) (every : Option ℕ) (received
   is_last : (base : Image) → IsStart job base → IsLast every (last_of base going.images) image
   is_last base start = (going.behind base start).last image complete.image_is.last
 
+  collected_next : (image.final_one ≡ true → IsNothingSaved job image) → (base : Image) → IsStart job base → Collected job every (last_of base going.images) image
+  collected_next still base start =
+      let behind = going.behind base start in
+      collected job every more cp (last_of base going.images) image complete still (ap (λ n. n + 1) behind.number ∙ omega (arith, going.many)) behind.not_last (is_last base start)
+
   pub next_image : IsNext job every more going.images image
-  next_image = record { made = made_from job more cp image complete; number_is = number_next; last = is_last }
+  next_image = record { made = made_from job more cp image complete; number_is = number_next; last = is_last; collected = collected_next }
 
   abbrev all_images : List Image
   all_images = going.images ++ image ∷ []
@@ -156,8 +161,7 @@ module _ (law : SnapshotsMakeFitting) (job : Job) (every : Option ℕ) (received
         record {
           kept = kept ∙ ap (λ k. with_image k image.number (spelling image)) was.kept ∙ kept_more before going.images image;
           told_are = tells ∙ ap (λ l. l ++ stored_of image ∷ []) was.told_are ∙ sym (map_more stored_of going.images image);
-          collected = λ base start. linked_more (Collected job every) base image going.images (was.collected base start)
-              (collected job every more cp (last_of base going.images) image complete sound (ap (λ n. n + 1) (going.behind base start).number ∙ omega (arith, going.many)) (going.behind base start).not_last (is_last base start));
+          collected = λ base start. linked_more (Collected job every) base image going.images (was.collected base start) (collected_next sound.1 base start);
           fit = all_more (Fits job) going.images image was.fit (complete_fits law job more cp image complete sound);
           made = all_more (IsMadeFrom job more) going.images image was.made (made_from job more cp image complete);
         }

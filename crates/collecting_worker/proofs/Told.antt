@@ -1,5 +1,5 @@
 -- The images that were stored are collected.
-use Rattle.std.proofs.Common.{ℕ, zero, suc, ◌<◌, ◌≤◌, List, [], ◌∷◌, length, subst, arith}
+use Rattle.std.proofs.Common.{ℕ, zero, suc, ◌<◌, ◌≤◌, List, [], ◌∷◌, length, Option, subst, arith}
 use Rattle.std.specs.Prelude.{Contains, slice_index_or}
 use Rattle.std.specs.List.{AllByRecursion}
 use Rattle.std.proofs.lemmas.List.Elements.{Contains-append_left}
@@ -11,7 +11,7 @@ use Rattle.checkpoint_laws.specs.Chapters.{Linked, shown, task_at}
 use Rattle.checkpoint_laws.specs.Collecting.{IsMadeOf, Collected}
 use Rattle.snapshot_channel.specs.Snapshots.{IsBeginning, same_task, snapshots_of}
 use Rattle.collecting_worker.specs.Images.{IsMadeFrom, IsSnapshotFor}
-use Rattle.collecting_worker.specs.Laws.{StoredAreCollected}
+use Rattle.collecting_worker.specs.Laws.{AreCollected, StoredAreCollected}
 use Rattle.collecting_worker.proofs.Members.{contains_in, in_contained, in_filter}
 use Rattle.collecting_worker.proofs.Receipts.{same_same}
 
@@ -38,19 +38,27 @@ module _ (job : Job) (base : Image) (received : List Snapshot) where
   each_at (x ∷ images) h zero i a low stage index = h.0.each i a stage index
   each_at (x ∷ images) h (suc k) i a low stage index = each_at images h.1 k i a (omega (arith, low)) stage index
 
-sent_it : (received sent : List Snapshot) (i a k : ℕ) (x : Snapshot) → IsBeginning (snapshots_of (task_at i a) received) sent → IsSnapshotFor received i a k x → Contains sent x
+pub sent_it : (received sent : List Snapshot) (i a k : ℕ) (x : Snapshot) → IsBeginning (snapshots_of (task_at i a) received) sent → IsSnapshotFor received i a k x → Contains sent x
 sent_it received sent i a k x beginning h =
     let inside = contains_in (snapshots_of (task_at i a) received) x (in_filter (λ (y : Snapshot). same_task y.task (task_at i a)) received x (in_contained received x h.received_it) (same_same x.task (task_at i a) h.task_is)) in
     subst (λ l. Contains l x) beginning.1 (Contains-append_left (snapshots_of (task_at i a) received) beginning.0 x inside)
 
-pub stored_are_collected : StoredAreCollected
-stored_are_collected job every base received before after told images sent start stored beginnings = (
-  snapshot_of job base received images stored.made,
+-- Images that were made of what was received, one collected behind the other, are collected, whether they were stored or not.
+pub made_are_collected : (job : Job) (every : Option ℕ) (base : Image) (received : List Snapshot) (images : List Image) (sent : ℕ → ℕ → List Snapshot) →
+    AllByRecursion (IsMadeFrom job received) images → Linked (Collected job every) base images →
+    ((i a : ℕ) → i ≤ suc (last_edge job) → a < tasks job i → IsBeginning (snapshots_of (task_at i a) received) (sent i a)) →
+    (snapshot : ℕ → ℕ → ℕ → Snapshot) × AreCollected job every base images sent snapshot
+made_are_collected job every base received images sent made linked beginnings = (
+  snapshot_of job base received images made,
   record {
     acknowledged = λ k i a low stage index.
-        let h = each_at job base received images stored.made k i a low stage index in
-        (sent_it received (sent i a) i a (slice_index_or images k base).number (snapshot_of job base received images stored.made k i a) (beginnings i a stage index) h, h.number_is);
-    made = λ k low. made_at job base received images stored.made k low;
-    collected = λ k low. linked_at (Collected job every) base base images (stored.collected base start) k low;
+        let h = each_at job base received images made k i a low stage index in
+        (sent_it received (sent i a) i a (slice_index_or images k base).number (snapshot_of job base received images made k i a) (beginnings i a stage index) h, h.number_is);
+    made = λ k low. made_at job base received images made k low;
+    collected = λ k low. linked_at (Collected job every) base base images linked k low;
   },
 )
+
+pub stored_are_collected : StoredAreCollected
+stored_are_collected job every base received before after told images sent start stored beginnings =
+    made_are_collected job every base received images sent stored.made (stored.collected base start) beginnings

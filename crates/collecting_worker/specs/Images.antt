@@ -1,6 +1,6 @@
 -- The images that the collecting worker makes and stores. As in Flink a checkpoint is complete once each
 -- task has acknowledged it, and it is stored then. What is told of an image is this project's own choice.
-use Rattle.std.specs.Prelude.{◌≡◌, ℕ, suc, ◌<◌, ◌≤◌, Bool, List, ◌++◌, length, map, Contains, Option}
+use Rattle.std.specs.Prelude.{◌≡◌, ℕ, suc, ◌<◌, ◌≤◌, Bool, true, List, ◌++◌, length, map, Contains, Option}
 use Rattle.std.specs.Option.{option_map}
 use Rattle.std.specs.List.{AllByRecursion, list_all}
 use Rattle.flow_defs.specs.declared.job.Job.{Job}
@@ -12,6 +12,7 @@ use Rattle.plain_machine.specs.Spelling.{spelling}
 use Rattle.plain_machine.specs.Chains.{last_of}
 use Rattle.checkpoint_laws.specs.Chapters.{Linked, task_at}
 use Rattle.checkpoint_laws.specs.Collecting.{IsMadeOf, IsLast, Collected}
+use Rattle.collector.specs.Faults.{IsNothingSaved}
 use Rattle.outside.specs.Keepers.{KeptImage}
 use Rattle.outside.specs.declared.last_image.Stored.{Stored}
 
@@ -27,11 +28,13 @@ pub record IsMadeFrom (job : Job) (received : List Snapshot) (image : Image) : T
   pub made : IsMadeOf job image snapshot
   pub each : (i a : ℕ) → i ≤ suc (last_edge job) → a < tasks job i → IsSnapshotFor received i a image.number (snapshot i a)
 
--- It is that of the next checkpoint behind these images, and is the last as that checkpoint is.
+-- It is that of the next checkpoint behind these images, and is the last as that checkpoint is. It is collected behind them, but that
+-- something may stand in it where it is the last.
 pub record IsNext (job : Job) (every : Option ℕ) (received : List Snapshot) (images : List Image) (image : Image) : Type 0 where
   pub made : IsMadeFrom job received image
   pub number_is : image.number ≡ suc (length images)
   pub last : (base : Image) → IsStart job base → IsLast every (last_of base images) image
+  pub collected : (image.final_one ≡ true → IsNothingSaved job image) → (base : Image) → IsStart job base → Collected job every (last_of base images) image
 
 -- An image as it is kept.
 abbrev pub kept_of : Image → KeptImage

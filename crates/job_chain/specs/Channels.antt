@@ -8,7 +8,7 @@ use Rattle.input_channel.specs.declared.entry.ReceiveEntry.{ReceiveEntry}
 use Rattle.input_channel.specs.Inboxes.{pushed}
 use Rattle.input_gate.specs.Turning.{given_in}
 use Rattle.task_output.specs.Outputs.{parcels_put}
-use Rattle.job_laws.specs.Channels.{SendingEnd, ReceivingEnd}
+use Rattle.job_chain.specs.Ends.{SendingEnd, ReceivingEnd}
 
 -- Where what arrived begins what was taken, what the polls of a gate gave begins what the task put, barriers among the data.
 abbrev pub GivenFollowsPut : Type 0

@@ -1,2 +1,3 @@
-pub mod Ran
+pub mod Ends
 pub mod Channels
+pub mod Ran

@@ -5,7 +5,11 @@ pub mod PlanLemmas
 pub mod RunLemmas
 pub mod ScriptLemmas
 pub mod SegmentLemmas
+pub mod SelfLemmas
 pub mod SourceLemmas
 pub mod TopLemmas
 pub mod Told
 pub mod Written
+pub mod SameJobs
+pub mod StoringLemmas
+pub mod TextJobs

@@ -1,5 +1,5 @@
 -- From the parts of a run to the run.
-use Rattle.std.proofs.Common.{◌≡◌, ℕ, ◌≤◌, List, [], ◌∷◌, length, Option, Some, None, IfSome, refl, subst, inl, inr}
+use Rattle.std.proofs.Common.{◌≡◌, ℕ, ◌≤◌, List, [], ◌∷◌, length, Option, Some, None, Result, Ok, Err, IfSome, IfOk, refl, subst, inl, inr}
 use Rattle.std.specs.Prelude.{⊤}
 use Rattle.std.specs.List.{AllByRecursion}
 use Rattle.flow_defs.specs.declared.job.Job.{Job}
@@ -10,20 +10,24 @@ use Rattle.flow_defs.specs.Tables.{table_text}
 use Rattle.plain_machine.specs.Worth.{tally}
 use Rattle.stage_fns.specs.Functions.{Functions, HasStage}
 use Rattle.job_text.specs.declared.words.RunOptions.{RunOptions}
-use Rattle.job_text.specs.Words.{IsRun, IsScript, IsInspect, usage_fault}
+use Rattle.job_text.specs.declared.words.Command.{Command}
+use Rattle.job_text.specs.declared.words.Command.TheVariants.{Run as RunCommand}
+use Rattle.job_text.specs.Laws.{WordsAreOneCommand}
+use Rattle.job_text.specs.Words.{IsCommand, IsRun, IsScript, IsInspect, usage_fault}
 use Rattle.job_text.specs.JobText.{IsJobText}
 use Rattle.job_text.specs.JobFaults.{first_fault}
 use Rattle.job_cli.specs.declared.run.TheConstants.{JOB_MAX}
 use Rattle.job_cli.specs.declared.fault.Fault.{Fault}
-use Rattle.job_cli.specs.declared.fault.Fault.TheVariants.{Usage, JobLine, ScriptLine, JobInput, ScriptInput, SourceInput, Keeper, Output, HoldsImage, HoldsNoImage, NotImage, LongJob, LongScript, LongLine, BigSource, TooFewSegments, Link, OverCredit, Peer, Memory}
+use Rattle.job_cli.specs.declared.fault.Fault.TheVariants.{Usage, JobLine, ScriptLine, JobInput, ScriptInput, SourceInput, Keeper, Output, HoldsImage, HoldsNoImage, NotImage, LongJob, LongScript, LongLine, BigSource, BigImage, TooFewSegments, Link, OverCredit, Peer, Memory}
 use Rattle.job_plan.specs.Plans.{IsReady, CanRun}
-use Rattle.job_cli.specs.Sources.{IsRunFault}
+use Rattle.job_cli.specs.Sources.{TellsSources, HasLargeImage, IsRunFault, IsSourceFault}
+use Rattle.job_cli.specs.SelfRuns.{IsSelfFault, NamesSelfRun}
 use Rattle.job_cli.specs.Scripts.{IsScriptWith, HasEnough, IsScriptFault, ScriptRunsTo, printed_replies}
 use Rattle.outside.specs.Keepers.{KeptImage}
 use Rattle.job_cli.specs.Held.{HoldsLast, HoldsNone, IsHeldFault}
 use Rattle.job_cli.specs.Inspects.{Inspects, Shows, IsInspectFault}
 use Rattle.job_cli.specs.TextFaults.{IsWordFault, IsJobFileFault, IsTextFault, IsSmallPoolFault}
-use Rattle.job_cli.specs.Run.{NamesCommand, NamesRun, NamesGoodJob, NamesReadyJob, RunsTo, Prints, IsFaultOf, HasPool, HasSmallPool, IsGoodText, TellsSources, AreWithinLimits}
+use Rattle.job_cli.specs.Run.{NamesCommand, NamesRun, NamesGoodJob, NamesReadyJob, RunsTo, Prints, IsFaultOf, HasPool, HasSmallPool, IsGoodText, NamesAnyRun, TellsRun, AreWithinLimits}
 
 -- stages with arguments and functions are ready
 all_ready : (functions : Functions) (stages : List Stage) → AllByRecursion (λ (s : Stage). IsArgument s.kind s.arg.items) stages → AllByRecursion (λ (s : Stage). HasStage functions s.kind) stages → AllByRecursion (IsReady functions) stages
@@ -54,6 +58,7 @@ of_words words functions contents held Output law is = absurd is
 of_words words functions contents held LongJob law is = absurd is
 of_words words functions contents held (LongLine a) law is = absurd is
 of_words words functions contents held (BigSource a) law is = absurd is
+of_words words functions contents held BigImage law is = absurd is
 of_words words functions contents held (ScriptLine line) law is = absurd is
 of_words words functions contents held ScriptInput law is = absurd is
 of_words words functions contents held LongScript law is = absurd is
@@ -93,6 +98,7 @@ module _ (words : List (List ℕ)) (functions : Functions) (contents : List ℕ 
   of_job_file Output is = absurd is
   of_job_file (LongLine a) is = absurd is
   of_job_file (BigSource a) is = absurd is
+  of_job_file BigImage is = absurd is
   of_job_file (ScriptLine line) is = absurd is
   of_job_file ScriptInput is = absurd is
   of_job_file LongScript is = absurd is
@@ -103,7 +109,7 @@ module _ (words : List (List ℕ)) (functions : Functions) (contents : List ℕ 
 
   -- a fault of the text
   pub of_text : (text : List ℕ) (fault : Fault) → IfSome (contents name) (λ read. text ≡ read) → length text ≤ JOB_MAX → IsTextFault functions text fault → IsFaultOf words functions contents held fault
-  of_text text (JobLine line kind) told fits is = of_text_read text (λ o t. (length t ≤ JOB_MAX) × (first_fault functions t ≡ Some (line, kind))) told (fits, is)
+  of_text text (JobLine line kind) told fits is = inl (of_text_read text (λ o t. (length t ≤ JOB_MAX) × (first_fault functions t ≡ Some (line, kind))) told (fits, is))
   of_text text Memory told fits is = inl (name, options, is_run)
   of_text text (Usage kind) told fits is = absurd is
   of_text text JobInput told fits is = absurd is
@@ -116,6 +122,7 @@ module _ (words : List (List ℕ)) (functions : Functions) (contents : List ℕ 
   of_text text LongJob told fits is = absurd is
   of_text text (LongLine a) told fits is = absurd is
   of_text text (BigSource a) told fits is = absurd is
+  of_text text BigImage told fits is = absurd is
   of_text text (ScriptLine line) told fits is = absurd is
   of_text text ScriptInput told fits is = absurd is
   of_text text LongScript told fits is = absurd is
@@ -142,6 +149,7 @@ module _ (words : List (List ℕ)) (functions : Functions) (contents : List ℕ 
   of_pool text job LongScript told fits none is fault = absurd fault
   of_pool text job (LongLine a) told fits none is fault = absurd fault
   of_pool text job (BigSource a) told fits none is fault = absurd fault
+  of_pool text job BigImage told fits none is fault = absurd fault
   of_pool text job Link told fits none is fault = absurd fault
   of_pool text job (OverCredit channel received announced) told fits none is fault = absurd fault
   of_pool text job (Peer peer) told fits none is fault = absurd fault
@@ -169,25 +177,31 @@ module _ (words : List (List ℕ)) (functions : Functions) (contents : List ℕ 
   of_held LongScript ready fault = absurd fault
   of_held (LongLine a) ready fault = absurd fault
   of_held (BigSource a) ready fault = absurd fault
+  of_held BigImage ready fault = absurd fault
   of_held (TooFewSegments have need) ready fault = absurd fault
   of_held Link ready fault = absurd fault
   of_held (OverCredit channel received announced) ready fault = absurd fault
   of_held (Peer peer) ready fault = absurd fault
 
-  -- a fault of a source or of the exchange
-  pub of_run : (text : List ℕ) (job : Job) (fault : Fault) → HoldsNone held → ((P : Job → Type 0) → P job → NamesReadyJob words functions contents P) → IsRunFault job contents fault → IsFaultOf words functions contents held fault
-  of_run text job (SourceInput a) none ready is = (none, ready (λ j. IsRunFault j contents (SourceInput a)) is)
-  of_run text job (LongLine a) none ready is = (none, ready (λ j. IsRunFault j contents (LongLine a)) is)
-  of_run text job (BigSource a) none ready is = (none, ready (λ j. IsRunFault j contents (BigSource a)) is)
-  of_run text job (OverCredit channel received announced) none ready is = ((none, ready (λ j. ⊤) tt), is)
-  of_run text job (Peer peer) none ready is = (none, ready (λ j. ⊤) tt)
+  -- the same of what holds under the options
+  pub of_ready : (text : List ℕ) (job : Job) (P : RunOptions → Job → Type 0) → IfSome (contents name) (λ read. text ≡ read) → length text ≤ JOB_MAX → first_fault functions text ≡ None → IsJobText functions text job → HasPool options job → P options job → NamesGoodJob words functions contents (λ o j. HasPool o j × P o j)
+  of_ready text job P told fits none is enough p = of_job_read text job (λ o j. HasPool o j × P o j) told fits none is (enough, p)
+
+  -- a fault of a source, of the exchange, of an image or of the keeper
+  pub of_run : (text : List ℕ) (job : Job) (fault : Fault) → HoldsNone held → ((P : RunOptions → Job → Type 0) → P options job → NamesGoodJob words functions contents (λ o j. HasPool o j × P o j)) → IsRunFault job options.every contents fault → IsFaultOf words functions contents held fault
+  of_run text job (SourceInput a) none ready is = (none, ready (λ o j. IsSourceFault j contents (SourceInput a)) is)
+  of_run text job (LongLine a) none ready is = (none, ready (λ o j. IsSourceFault j contents (LongLine a)) is)
+  of_run text job (BigSource a) none ready is = (none, ready (λ o j. IsSourceFault j contents (BigSource a)) is)
+  of_run text job BigImage none ready is = (none, ready (λ o j. HasLargeImage j o.every contents) is)
+  of_run text job (OverCredit channel received announced) none ready is = (inl (none, ready (λ o j. ⊤) tt), is)
+  of_run text job (Peer peer) none ready is = inl (none, ready (λ o j. ⊤) tt)
+  of_run text job Keeper none ready is = inl (ready (λ o j. ⊤) tt)
   of_run text job Memory none ready is = inl (name, options, is_run)
   of_run text job (Usage kind) none ready is = absurd is
   of_run text job (JobLine line kind) none ready is = absurd is
   of_run text job (ScriptLine line) none ready is = absurd is
   of_run text job JobInput none ready is = absurd is
   of_run text job ScriptInput none ready is = absurd is
-  of_run text job Keeper none ready is = absurd is
   of_run text job Output none ready is = absurd is
   of_run text job (HoldsImage number) none ready is = absurd is
   of_run text job HoldsNoImage none ready is = absurd is
@@ -232,6 +246,7 @@ of_script words functions contents held name is_script Output is = absurd is
 of_script words functions contents held name is_script LongJob is = absurd is
 of_script words functions contents held name is_script (LongLine a) is = absurd is
 of_script words functions contents held name is_script (BigSource a) is = absurd is
+of_script words functions contents held name is_script BigImage is = absurd is
 of_script words functions contents held name is_script Link is = absurd is
 of_script words functions contents held name is_script (OverCredit channel received announced) is = absurd is
 of_script words functions contents held name is_script (Peer fault) is = absurd is
@@ -251,7 +266,7 @@ pub of_inspect : (words : List (List ℕ)) (functions : Functions) (contents : L
 of_inspect words functions contents held inspect Keeper is = inr inspect
 of_inspect words functions contents held inspect HoldsNoImage is = (inspect, is)
 of_inspect words functions contents held inspect (NotImage number place) is = (inspect, is)
-of_inspect words functions contents held inspect Memory is = inr (inr (inr inspect))
+of_inspect words functions contents held inspect Memory is = inr (inr (inr (inr inspect)))
 of_inspect words functions contents held inspect (Usage kind) is = absurd is
 of_inspect words functions contents held inspect (JobLine line kind) is = absurd is
 of_inspect words functions contents held inspect (ScriptLine line) is = absurd is
@@ -264,6 +279,7 @@ of_inspect words functions contents held inspect LongJob is = absurd is
 of_inspect words functions contents held inspect LongScript is = absurd is
 of_inspect words functions contents held inspect (LongLine a) is = absurd is
 of_inspect words functions contents held inspect (BigSource a) is = absurd is
+of_inspect words functions contents held inspect BigImage is = absurd is
 of_inspect words functions contents held inspect (TooFewSegments have need) is = absurd is
 of_inspect words functions contents held inspect Link is = absurd is
 of_inspect words functions contents held inspect (OverCredit channel received announced) is = absurd is
@@ -282,9 +298,57 @@ pub prints_on : (words : List (List ℕ)) (functions : Functions) (contents : Li
 prints_on words functions contents held P Q leads (inl run) = inl (runs_on words functions contents held P Q leads run)
 prints_on words functions contents held P Q leads (inr (inl script)) = inr (inl (script_runs_on words contents P Q leads script))
 prints_on words functions contents held P Q leads (inr (inr (inl gen))) = inr (inr (inl (gen.0, gen.1, gen.2, leads _ gen.3)))
-prints_on words functions contents held P Q leads (inr (inr (inr inspects))) = inr (inr (inr (inspects_on words held P Q leads inspects)))
+prints_on words functions contents held P Q leads (inr (inr (inr (inl run)))) = inr (inr (inr (inl (run.0, run.1, run.2, (run.3.0, leads _ run.3.1)))))
+prints_on words functions contents held P Q leads (inr (inr (inr (inr inspects)))) = inr (inr (inr (inr (inspects_on words held P Q leads inspects))))
 
 -- what holds of a text that was read holds of the bytes that are told
 pub held_too : (o : Option (List ℕ)) (text : List ℕ) (P : List ℕ → Type 0) → IfSome o (λ held. text ≡ held) → P text → IfSome o P
 held_too None text P told p = tt
 held_too (Some held) text P told p = subst P told p
+
+-- ---- the images of a run
+
+-- words are those of one run
+pub one_run : WordsAreOneCommand → (words : List (List ℕ)) (a b : List ℕ) (p q : RunOptions) → IsRun words a p → IsRun words b q → (a ≡ b) × (p ≡ q)
+one_run one words a b p q first second = let same = one words (RunCommand a p) (RunCommand b q) first second in ((cc), (cc))
+
+if_any : {A B : Type 0} (r : Result A B) (P : A → Type 0) → ((a : A) → P a) → IfOk r P
+if_any (Ok a) P all = all a
+if_any (Err b) P all = tt
+
+-- what is said of a run where the words are of another command
+module _ (one : WordsAreOneCommand) (words : List (List ℕ)) (command : Command) (is : IsCommand words command) (other : (job : List ℕ) (options : RunOptions) → command ≡ RunCommand job options → ⊥) where
+  pub no_run : NamesAnyRun words → ⊥
+  no_run (job, options, is_run) = other job options (one words command (RunCommand job options) is is_run)
+
+  pub no_last : {A B : Type 0} (r : Result A B) (functions : Functions) (contents : List ℕ → Option (List ℕ)) (P : A → RunOptions → Job → (ℕ → List ℕ) → Type 0) →
+      IfOk r (λ a. (options : RunOptions) (job : Job) (bytes : ℕ → List ℕ) → TellsRun words functions contents options job → TellsSources job contents bytes → P a options job bytes)
+  no_last r functions contents P =
+      if_any r (λ a. (options : RunOptions) (job : Job) (bytes : ℕ → List ℕ) → TellsRun words functions contents options job → TellsSources job contents bytes → P a options job bytes)
+      (λ a options job bytes run tells. absurd (no_run (run.tells.job, options, run.tells.is_run)))
+
+-- ---- a run over lines of a seed
+
+-- a fault of such a run
+pub of_selfrun : (words : List (List ℕ)) (functions : Functions) (contents : List ℕ → Option (List ℕ)) (held : Option (List KeptImage)) → NamesSelfRun words → (fault : Fault) → IsSelfFault functions fault → IsFaultOf words functions contents held fault
+of_selfrun words functions contents held named (JobLine line kind) is = inr (named, is)
+of_selfrun words functions contents held named (OverCredit channel received announced) is = (inr (named, is.0), is.1)
+of_selfrun words functions contents held named (Peer peer) is = inr (named, is)
+of_selfrun words functions contents held named Memory is = inr (inr (inr (inl named)))
+of_selfrun words functions contents held named (Usage kind) is = absurd is
+of_selfrun words functions contents held named (ScriptLine line) is = absurd is
+of_selfrun words functions contents held named JobInput is = absurd is
+of_selfrun words functions contents held named ScriptInput is = absurd is
+of_selfrun words functions contents held named (SourceInput a) is = absurd is
+of_selfrun words functions contents held named Keeper is = absurd is
+of_selfrun words functions contents held named Output is = absurd is
+of_selfrun words functions contents held named (HoldsImage number) is = absurd is
+of_selfrun words functions contents held named HoldsNoImage is = absurd is
+of_selfrun words functions contents held named (NotImage number place) is = absurd is
+of_selfrun words functions contents held named LongJob is = absurd is
+of_selfrun words functions contents held named LongScript is = absurd is
+of_selfrun words functions contents held named (LongLine a) is = absurd is
+of_selfrun words functions contents held named (BigSource a) is = absurd is
+of_selfrun words functions contents held named BigImage is = absurd is
+of_selfrun words functions contents held named (TooFewSegments have need) is = absurd is
+of_selfrun words functions contents held named Link is = absurd is

@@ -1,12 +1,11 @@
 -- From what is known of a fault to what its status says.
-use Rattle.std.proofs.Common.{◌≡◌, ℕ, zero, suc, ◌≤◌, ◌<◌, List, [], ◌∷◌, ◌++◌, length, map, get_or, Option, Some, None, Contains, IfSome, refl, sym, ap, subst, ◌∙◌, arith, inl, inr, ◌⊎◌}
-use Rattle.std.specs.Prelude.{⊤, slice_get}
-use Rattle.std.specs.Option.{option_map_or}
+use Rattle.std.proofs.Common.{◌≡◌, ℕ, ◌≤◌, ◌<◌, List, [], ◌∷◌, ◌++◌, length, Option, Some, None, Contains, IfSome, refl, sym, ap, subst, ◌∙◌, arith, inl, inr, ◌⊎◌}
+use Rattle.std.specs.Prelude.{⊤}
 use Rattle.std.proofs.lemmas.List.{length-map}
 use Rattle.flow_defs.specs.Items.{Items}
 use Rattle.flow_defs.specs.Tables.{table_text}
 use Rattle.plain_machine.specs.Worth.{tally}
-use Rattle.job_text.specs.declared.words.Command.TheVariants.{Run as RunCommand, Script as ScriptCommand, Gen as GenCommand, Inspect as InspectCommand}
+use Rattle.job_text.specs.declared.words.Command.TheVariants.{Run as RunCommand, Script as ScriptCommand, Gen as GenCommand, SelfRun as SelfRunCommand, Inspect as InspectCommand}
 use Rattle.job_text.specs.declared.words.RunOptions.{RunOptions}
 use Rattle.job_text.specs.Laws.{JobTextHasNoFault, JobTextNamesItsFiles, CommandHasNoFault, WordsAreOneCommand, source_files}
 use Rattle.flow_defs.specs.declared.image.Image.{Image}
@@ -14,13 +13,13 @@ use Rattle.flow_defs.specs.declared.job.Job.{Job}
 use Rattle.flow_defs.specs.Jobs.{segments_needed, tasks}
 use Rattle.flow_defs.specs.Lines.{lines}
 use Rattle.stage_fns.specs.Functions.{Functions}
-use Rattle.job_text.specs.Words.{IsRun, IsScript, IsGen, IsInspect, usage_fault}
+use Rattle.job_text.specs.Words.{IsRun, IsScript, IsGen, IsSelfRun, IsInspect, usage_fault}
 use Rattle.job_text.specs.JobText.{IsJobText}
 use Rattle.job_text.specs.JobFaults.{first_fault}
 use Rattle.job_cli.specs.declared.run.TheConstants.{JOB_MAX}
 use Rattle.job_plan.specs.declared.limits.TheConstants.{SOURCE_MAX}
 use Rattle.job_cli.specs.declared.fault.Fault.{Fault}
-use Rattle.job_cli.specs.declared.fault.Fault.TheVariants.{Usage, JobLine, ScriptLine, JobInput, ScriptInput, SourceInput, Keeper, Output, HoldsImage, HoldsNoImage, NotImage, LongJob, LongScript, LongLine, BigSource, TooFewSegments, Link, OverCredit, Peer, Memory}
+use Rattle.job_cli.specs.declared.fault.Fault.TheVariants.{Usage, JobLine, ScriptLine, JobInput, ScriptInput, SourceInput, Keeper, Output, HoldsImage, HoldsNoImage, NotImage, LongJob, LongScript, LongLine, BigSource, BigImage, TooFewSegments, Link, OverCredit, Peer, Memory}
 use Rattle.job_cli.specs.Causes.{status_of}
 use Rattle.job_cli.specs.FaultTexts.{fault_line}
 use Rattle.job_cli.specs.Front.{GotFront}
@@ -29,22 +28,17 @@ use Rattle.job_cli.specs.Held.{HoldsLast, HoldsNone, TellsLast}
 use Rattle.job_cli.specs.Inspects.{Shows, IsKept, IsNoImageAt, HasNoneToShow}
 use Rattle.job_cli.proofs.InspectLemmas.{none_and_last, told_last, none_shown, is_shown}
 use Rattle.job_plan.specs.Limits.{HasLongLine, IsOverLimit}
-use Rattle.job_cli.specs.Sources.{source_name, IsOfSource}
+use Rattle.job_outcome.specs.Storing.{IsTooLarge}
+use Rattle.job_cli.specs.Sources.{TellsSources, HasLargeImage, source_name, IsOfSource}
 use Rattle.job_cli.proofs.SegmentLemmas.{needs_same}
+use Rattle.job_cli.proofs.TextJobs.{tells_same}
+use Rattle.job_cli.specs.SelfRuns.{HasFunctions, LacksFunction, NamesSelfRun, self_text}
+use Rattle.job_cli.proofs.SelfLemmas.{self_clear}
 use Rattle.job_cli.specs.declared.script.TheConstants.{SCRIPT_MAX}
 use Rattle.job_cli.specs.Scripts.{NamesScript, Replies, IsScriptWith, HasEnough, HasTooFew, HasBadLine, IsNoScript, PassesScriptLimit, TellsScript, printed_replies}
 use Rattle.script_text.specs.declared.event.Script.{Script}
 use Rattle.script_text.specs.Laws.{ScriptTextHasNoBadLine, ScriptTextIsOfOneScript}
-use Rattle.job_cli.specs.Run.{NamesCommand, NamesRun, NamesJob, NamesGoodJob, NamesReadyJob, IsGoodText, HasPool, HasSmallPool, Prints, IsFaultOf, HasToldOverCredit, IsHindered, IsNoJob, IsOverLimits, PassesLimit, TellsJob, TellsRun, TellsSources, AreWithinLimits}
-
-abbrev file_name : Items ℕ → List ℕ
-file_name file = file.items
-
--- the name of a source stands among the files
-name_in : (sources : List (Items ℕ)) (a : ℕ) → option_map_or file_name (slice_get sources a) [] ≡ get_or (map file_name sources) a []
-name_in [] a = refl
-name_in (file ∷ sources) zero = refl
-name_in (file ∷ sources) (suc a) = name_in sources a
+use Rattle.job_cli.specs.Run.{NamesCommand, NamesRun, NamesJob, NamesGoodJob, NamesReadyJob, IsGoodText, HasPool, HasSmallPool, Prints, IsFaultOf, HasToldOverCredit, IsHindered, IsNoJob, IsOverLimits, PassesLimit, TellsJob, TellsRun, AreWithinLimits}
 
 module _ (words : List (List ℕ)) (functions : Functions) (contents : List ℕ → Option (List ℕ)) (held : Option (List KeptImage)) where
   -- ---- of the statuses
@@ -67,6 +61,7 @@ module _ (words : List (List ℕ)) (functions : Functions) (contents : List ℕ 
   known_status LongScript is = (7, omega arith, refl)
   known_status (LongLine a) is = (7, omega arith, refl)
   known_status (BigSource a) is = (7, omega arith, refl)
+  known_status BigImage is = (7, omega arith, refl)
   known_status (TooFewSegments have need) is = (7, omega arith, refl)
   known_status (OverCredit channel received announced) is = (8, omega arith, refl)
   known_status (Peer peer) is = (9, omega arith, refl)
@@ -89,6 +84,7 @@ module _ (words : List (List ℕ)) (functions : Functions) (contents : List ℕ 
   no_link LongScript is six = cc
   no_link (LongLine a) is six = cc
   no_link (BigSource a) is six = cc
+  no_link BigImage is six = cc
   no_link (TooFewSegments have need) is six = cc
   no_link (OverCredit channel received announced) is six = cc
   no_link (Peer peer) is six = cc
@@ -114,10 +110,34 @@ module _ (words : List (List ℕ)) (functions : Functions) (contents : List ℕ 
   told_over before after risen LongScript eleven is front all = absurd (cc)
   told_over before after risen (LongLine a) eleven is front all = absurd (cc)
   told_over before after risen (BigSource a) eleven is front all = absurd (cc)
+  told_over before after risen BigImage eleven is front all = absurd (cc)
   told_over before after risen (TooFewSegments have need) eleven is front all = absurd (cc)
   told_over before after risen (OverCredit channel received announced) eleven is front all = (channel, received, announced, is.1, front, all)
   told_over before after risen (Peer peer) eleven is front all = absurd (cc)
   told_over before after risen Memory eleven is front all = absurd (cc)
+
+  pub not_zero : (fault : Fault) → status_of fault ≡ 0 → ⊥
+  not_zero (Usage kind) zero_is = cc
+  not_zero (JobLine line kind) zero_is = cc
+  not_zero (ScriptLine line) zero_is = cc
+  not_zero JobInput zero_is = cc
+  not_zero ScriptInput zero_is = cc
+  not_zero (SourceInput a) zero_is = cc
+  not_zero Keeper zero_is = cc
+  not_zero Output zero_is = cc
+  not_zero (HoldsImage number) zero_is = cc
+  not_zero HoldsNoImage zero_is = cc
+  not_zero (NotImage number place) zero_is = cc
+  not_zero LongJob zero_is = cc
+  not_zero LongScript zero_is = cc
+  not_zero (LongLine a) zero_is = cc
+  not_zero (BigSource a) zero_is = cc
+  not_zero BigImage zero_is = cc
+  not_zero (TooFewSegments have need) zero_is = cc
+  not_zero Link zero_is = cc
+  not_zero (OverCredit channel received announced) zero_is = cc
+  not_zero (Peer peer) zero_is = cc
+  not_zero Memory zero_is = cc
 
   -- ---- of the words
 
@@ -126,21 +146,25 @@ module _ (words : List (List ℕ)) (functions : Functions) (contents : List ℕ 
 
   pub names_command : (fault : Fault) → (status_of fault ≡ 2 → ⊥) → IsFaultOf words functions contents held fault → NamesCommand words
   names_command (Usage kind) other is = absurd (other refl)
-  names_command (JobLine line kind) other is = inl (is.job, is.options, is.is_run)
+  names_command (JobLine line kind) other (inl is) = inl (is.job, is.options, is.is_run)
+  names_command (JobLine line kind) other (inr self) = inr (inr (inr (inl self.0)))
   names_command JobInput other is = inl (is.job, is.options, is.is_run)
   names_command (SourceInput a) other is = is_named _ is.1
   names_command Link other is = absurd is
-  names_command (OverCredit channel received announced) other is = is_named _ is.0.1
-  names_command (Peer peer) other is = is_named _ is.1
+  names_command (OverCredit channel received announced) other (inl run, over) = is_named _ run.1
+  names_command (OverCredit channel received announced) other (inr self, over) = inr (inr (inr (inl self.0)))
+  names_command (Peer peer) other (inl run) = is_named _ run.1
+  names_command (Peer peer) other (inr self) = inr (inr (inr (inl self.0)))
   names_command Output other (inl run) = is_named _ run.1
   names_command Output other (inr (inl run)) = inr (inl (run.0, run.1))
   names_command Output other (inr (inr (inl gen))) = inr (inr (inl (gen.0, gen.1, gen.2)))
-  names_command Output other (inr (inr (inr inspects))) = inr (inr (inr inspects.0))
+  names_command Output other (inr (inr (inr (inl self)))) = inr (inr (inr (inl (self.0, self.1, self.2))))
+  names_command Output other (inr (inr (inr (inr inspects)))) = inr (inr (inr (inr inspects.0)))
   names_command Keeper other (inl run) = is_named _ run
-  names_command Keeper other (inr inspect) = inr (inr (inr inspect))
+  names_command Keeper other (inr inspect) = inr (inr (inr (inr inspect)))
   names_command (HoldsImage number) other is = is_named _ is.0
-  names_command HoldsNoImage other is = inr (inr (inr is.0))
-  names_command (NotImage number place) other is = inr (inr (inr is.0))
+  names_command HoldsNoImage other is = inr (inr (inr (inr is.0)))
+  names_command (NotImage number place) other is = inr (inr (inr (inr is.0)))
   names_command (ScriptLine line) other is = inr (inl (is.0, is.1))
   names_command ScriptInput other is = inr (inl (is.0, is.1))
   names_command LongScript other is = inr (inl (is.0, is.1))
@@ -149,6 +173,7 @@ module _ (words : List (List ℕ)) (functions : Functions) (contents : List ℕ 
   names_command LongJob other is = inl (is.job, is.options, is.is_run)
   names_command (LongLine a) other is = is_named _ is.1
   names_command (BigSource a) other is = is_named _ is.1
+  names_command BigImage other is = is_named _ is.1
   names_command Memory other is = is
 
   -- ---- of the text
@@ -161,27 +186,32 @@ module _ (words : List (List ℕ)) (functions : Functions) (contents : List ℕ 
   bad_script None line is = tt
   bad_script (Some text) line is = (line, is)
 
-  pub no_job : (fault : Fault) → status_of fault ≡ 3 → IsFaultOf words functions contents held fault → NamesJob words contents (IsNoJob functions) ⊎ NamesScript words contents IsNoScript
-  no_job (JobLine line kind) three is = inl (record { job = is.job; options = is.options; is_run = is.is_run; holds = some_fault (contents is.job) (line, kind) is.holds })
-  no_job (ScriptLine line) three is = inr (is.0, is.1, bad_script (contents is.0) line is.2)
-  no_job (Usage kind) three is = absurd (cc)
-  no_job JobInput three is = absurd (cc)
-  no_job (SourceInput a) three is = absurd (cc)
-  no_job Keeper three is = absurd (cc)
-  no_job (HoldsImage number) three is = absurd (cc)
-  no_job HoldsNoImage three is = absurd (cc)
-  no_job (NotImage number place) three is = absurd (cc)
-  no_job Link three is = absurd (cc)
-  no_job (OverCredit channel received announced) three is = absurd (cc)
-  no_job (Peer peer) three is = absurd (cc)
-  no_job Output three is = absurd (cc)
-  no_job LongJob three is = absurd (cc)
-  no_job (LongLine a) three is = absurd (cc)
-  no_job (BigSource a) three is = absurd (cc)
-  no_job ScriptInput three is = absurd (cc)
-  no_job LongScript three is = absurd (cc)
-  no_job (TooFewSegments have need) three is = absurd (cc)
-  no_job Memory three is = absurd (cc)
+  lacking : JobTextHasNoFault → (fault : _) → first_fault functions self_text ≡ Some fault → HasFunctions functions → ⊥
+  lacking law fault is has = let none = self_clear law functions has in cc
+
+  pub no_job : JobTextHasNoFault → (fault : Fault) → status_of fault ≡ 3 → IsFaultOf words functions contents held fault → NamesJob words contents (IsNoJob functions) ⊎ NamesScript words contents IsNoScript ⊎ LacksFunction words functions
+  no_job law (JobLine line kind) three (inl is) = inl (record { job = is.job; options = is.options; is_run = is.is_run; holds = some_fault (contents is.job) (line, kind) is.holds })
+  no_job law (JobLine line kind) three (inr self) = inr (inr (self.0, lacking law (line, kind) self.1))
+  no_job law (ScriptLine line) three is = inr (inl (is.0, is.1, bad_script (contents is.0) line is.2))
+  no_job law (Usage kind) three is = absurd (cc)
+  no_job law JobInput three is = absurd (cc)
+  no_job law (SourceInput a) three is = absurd (cc)
+  no_job law Keeper three is = absurd (cc)
+  no_job law (HoldsImage number) three is = absurd (cc)
+  no_job law HoldsNoImage three is = absurd (cc)
+  no_job law (NotImage number place) three is = absurd (cc)
+  no_job law Link three is = absurd (cc)
+  no_job law (OverCredit channel received announced) three is = absurd (cc)
+  no_job law (Peer peer) three is = absurd (cc)
+  no_job law Output three is = absurd (cc)
+  no_job law LongJob three is = absurd (cc)
+  no_job law (LongLine a) three is = absurd (cc)
+  no_job law (BigSource a) three is = absurd (cc)
+  no_job law BigImage three is = absurd (cc)
+  no_job law ScriptInput three is = absurd (cc)
+  no_job law LongScript three is = absurd (cc)
+  no_job law (TooFewSegments have need) three is = absurd (cc)
+  no_job law Memory three is = absurd (cc)
 
   -- ---- of the limits
 
@@ -198,7 +228,13 @@ module _ (words : List (List ℕ)) (functions : Functions) (contents : List ℕ 
       → IfSome o (IsOverLimits functions contents options)
   over_source options None a P leads is = tt
   over_source options (Some text) a P leads is =
-      inr (is.2.0, is.2.1, inr (a, (is.2.2.1.0, over (contents (source_name is.2.0 a)) P leads is.2.2.1.1)))
+      inr (is.2.0, is.2.1, inr (inl (a, (is.2.2.1.0, over (contents (source_name is.2.0 a)) P leads is.2.2.1.1))))
+
+  large_image : (options : RunOptions) (o : Option (List ℕ))
+      → IfSome o (λ text. IsGoodText functions (λ job. HasPool options job × HasLargeImage job options.every contents) text)
+      → IfSome o (IsOverLimits functions contents options)
+  large_image options None is = tt
+  large_image options (Some text) is = inr (is.2.0, is.2.1, inr (inr is.2.2.1))
 
   small_pool : (options : RunOptions) (o : Option (List ℕ)) (have need : ℕ)
       → IfSome o (λ text. IsGoodText functions (λ job. HasSmallPool options job have need) text)
@@ -218,6 +254,7 @@ module _ (words : List (List ℕ)) (functions : Functions) (contents : List ℕ 
   passes_limit LongJob ten is = inl (record { job = is.job; options = is.options; is_run = is.is_run; holds = long_job is.options (contents is.job) is.holds })
   passes_limit (LongLine a) ten is = inl (record { job = is.1.job; options = is.1.options; is_run = is.1.is_run; holds = over_source is.1.options (contents is.1.job) a (λ bytes. HasLongLine (lines bytes)) (λ bytes long. inr long) is.1.holds })
   passes_limit (BigSource a) ten is = inl (record { job = is.1.job; options = is.1.options; is_run = is.1.is_run; holds = over_source is.1.options (contents is.1.job) a (λ bytes. SOURCE_MAX < length bytes) (λ bytes big. inl big) is.1.holds })
+  passes_limit BigImage ten is = inl (record { job = is.1.job; options = is.1.options; is_run = is.1.is_run; holds = large_image is.1.options (contents is.1.job) is.1.holds })
   passes_limit (TooFewSegments have need) ten (inl is) = inl (record { job = is.job; options = is.options; is_run = is.is_run; holds = small_pool is.options (contents is.job) have need is.holds })
   passes_limit (TooFewSegments have need) ten (inr is) = inr (is.0, is.1, too_few (contents is.0) have need is.2)
   passes_limit (Usage kind) ten is = absurd (cc)
@@ -268,6 +305,7 @@ module _ (words : List (List ℕ)) (functions : Functions) (contents : List ℕ 
   hindered LongScript eight is = absurd (cc)
   hindered (LongLine a) eight is = absurd (cc)
   hindered (BigSource a) eight is = absurd (cc)
+  hindered BigImage eight is = absurd (cc)
   hindered (TooFewSegments have need) eight is = absurd (cc)
   hindered (OverCredit channel received announced) eight is = absurd (cc)
   hindered (Peer peer) eight is = absurd (cc)
@@ -295,6 +333,18 @@ module _ (words : List (List ℕ)) (functions : Functions) (contents : List ℕ 
   no_gen_too : (lines seed : ℕ) → IsGen words lines seed → IsInspect words → ⊥
   no_gen_too lines seed gen inspect = let same = one_command words (GenCommand lines seed) InspectCommand gen inspect in cc
 
+  no_self : (job : List ℕ) (options : RunOptions) → IsRun words job options → NamesSelfRun words → ⊥
+  no_self job options run self = let same = one_command words (RunCommand job options) (SelfRunCommand self.0 self.1) run self.2 in cc
+
+  no_self_script : (file : List ℕ) → IsScript words file → NamesSelfRun words → ⊥
+  no_self_script file script self = let same = one_command words (ScriptCommand file) (SelfRunCommand self.0 self.1) script self.2 in cc
+
+  no_self_gen : (lines seed : ℕ) → IsGen words lines seed → NamesSelfRun words → ⊥
+  no_self_gen lines seed gen self = let same = one_command words (GenCommand lines seed) (SelfRunCommand self.0 self.1) gen self.2 in cc
+
+  no_self_show : IsInspect words → NamesSelfRun words → ⊥
+  no_self_show inspect self = let same = one_command words InspectCommand (SelfRunCommand self.0 self.1) inspect self.2 in cc
+
   same_run : (a b : List ℕ) (p q : RunOptions) → IsRun words a p → IsRun words b q → (a ≡ b) × (p ≡ q)
   same_run a b p q first second = let same = one_command words (RunCommand a p) (RunCommand b q) first second in ((cc), (cc))
 
@@ -317,7 +367,8 @@ module _ (words : List (List ℕ)) (functions : Functions) (contents : List ℕ 
   no_command (Usage kind) two is (inl run) = usage_not kind run.0 run.1 run.2 is
   no_command (Usage kind) two is (inr (inl script)) = let none = no_usage_fault words (ScriptCommand script.0) script.1 in cc
   no_command (Usage kind) two is (inr (inr (inl gen))) = let none = no_usage_fault words (GenCommand gen.0 gen.1) gen.2 in cc
-  no_command (Usage kind) two is (inr (inr (inr inspect))) = let none = no_usage_fault words InspectCommand inspect in cc
+  no_command (Usage kind) two is (inr (inr (inr (inl self)))) = let none = no_usage_fault words (SelfRunCommand self.0 self.1) self.2 in cc
+  no_command (Usage kind) two is (inr (inr (inr (inr inspect)))) = let none = no_usage_fault words InspectCommand inspect in cc
   no_command (JobLine line kind) two is named = absurd (cc)
   no_command JobInput two is named = absurd (cc)
   no_command (SourceInput a) two is named = absurd (cc)
@@ -332,6 +383,7 @@ module _ (words : List (List ℕ)) (functions : Functions) (contents : List ℕ 
   no_command LongJob two is named = absurd (cc)
   no_command (LongLine a) two is named = absurd (cc)
   no_command (BigSource a) two is named = absurd (cc)
+  no_command BigImage two is named = absurd (cc)
   no_command (ScriptLine line) two is named = absurd (cc)
   no_command ScriptInput two is named = absurd (cc)
   no_command LongScript two is named = absurd (cc)
@@ -359,15 +411,19 @@ module _ (words : List (List ℕ)) (functions : Functions) (contents : List ℕ 
     text_refused bad (HoldsImage number) is = absurd (no_good_text options text tells _ bad is.0)
     text_refused bad HoldsNoImage is = absurd (no_inspect tells.job options tells.is_run is.0)
     text_refused bad (NotImage number place) is = absurd (no_inspect tells.job options tells.is_run is.0)
-    text_refused bad (OverCredit channel received announced) is = absurd (no_good_text options text tells _ bad is.0.1)
-    text_refused bad (Peer peer) is = absurd (no_good_text options text tells _ bad is.1)
+    text_refused bad (OverCredit channel received announced) (inl run, by) = absurd (no_good_text options text tells _ bad run.1)
+    text_refused bad (OverCredit channel received announced) (inr self, by) = absurd (no_self tells.job options tells.is_run self.0)
+    text_refused bad (Peer peer) (inl run) = absurd (no_good_text options text tells _ bad run.1)
+    text_refused bad (Peer peer) (inr self) = absurd (no_self tells.job options tells.is_run self.0)
     text_refused bad Output (inl run) = absurd (no_good_text options text tells _ bad run.1)
     text_refused bad Output (inr (inl run)) = absurd (no_script run.0 run.1)
     text_refused bad Output (inr (inr (inl gen))) = absurd (no_gen tells.job options gen.0 gen.1 tells.is_run gen.2)
-    text_refused bad Output (inr (inr (inr inspects))) = absurd (no_inspect tells.job options tells.is_run inspects.0)
+    text_refused bad Output (inr (inr (inr (inl self)))) = absurd (no_self tells.job options tells.is_run (self.0, self.1, self.2))
+    text_refused bad Output (inr (inr (inr (inr inspects)))) = absurd (no_inspect tells.job options tells.is_run inspects.0)
     text_refused bad LongJob is = let long = told_of options text tells (λ o t. JOB_MAX < length t) is in absurd (let fits = bad.0 in omega (arith, fits, long))
     text_refused bad (LongLine a) is = absurd (no_good_text options text tells _ bad is.1)
     text_refused bad (BigSource a) is = absurd (no_good_text options text tells _ bad is.1)
+    text_refused bad BigImage is = absurd (no_good_text options text tells _ bad is.1)
     text_refused bad Memory is = (2, omega arith, refl)
     text_refused bad (ScriptLine line) is = absurd (no_script is.0 is.1)
     text_refused bad ScriptInput is = absurd (no_script is.0 is.1)
@@ -377,7 +433,8 @@ module _ (words : List (List ℕ)) (functions : Functions) (contents : List ℕ 
 
     pub job_refused : JOB_MAX < length text → (fault : Fault) → IsFaultOf words functions contents held fault → Contains (10 ∷ 4 ∷ 70 ∷ []) (status_of fault)
     job_refused long (Usage kind) is = absurd (usage_not kind tells.job options tells.is_run is)
-    job_refused long (JobLine line kind) is = let fits = (told_of options text tells (λ o t. (length t ≤ JOB_MAX) × (first_fault functions t ≡ Some (line, kind))) is).0 in absurd (omega (arith, fits, long))
+    job_refused long (JobLine line kind) (inl is) = let fits = (told_of options text tells (λ o t. (length t ≤ JOB_MAX) × (first_fault functions t ≡ Some (line, kind))) is).0 in absurd (omega (arith, fits, long))
+    job_refused long (JobLine line kind) (inr self) = absurd (no_self tells.job options tells.is_run self.0)
     job_refused long JobInput is = (1, omega arith, refl)
     job_refused long (SourceInput a) is = (1, omega arith, refl)
     job_refused long Link is = absurd is
@@ -386,15 +443,19 @@ module _ (words : List (List ℕ)) (functions : Functions) (contents : List ℕ 
     job_refused long (HoldsImage number) is = absurd (no_long_text options text tells _ long is.0)
     job_refused long HoldsNoImage is = absurd (no_inspect tells.job options tells.is_run is.0)
     job_refused long (NotImage number place) is = absurd (no_inspect tells.job options tells.is_run is.0)
-    job_refused long (OverCredit channel received announced) is = absurd (no_long_text options text tells _ long is.0.1)
-    job_refused long (Peer peer) is = absurd (no_long_text options text tells _ long is.1)
+    job_refused long (OverCredit channel received announced) (inl run, by) = absurd (no_long_text options text tells _ long run.1)
+    job_refused long (OverCredit channel received announced) (inr self, by) = absurd (no_self tells.job options tells.is_run self.0)
+    job_refused long (Peer peer) (inl run) = absurd (no_long_text options text tells _ long run.1)
+    job_refused long (Peer peer) (inr self) = absurd (no_self tells.job options tells.is_run self.0)
     job_refused long Output (inl run) = absurd (no_long_text options text tells _ long run.1)
     job_refused long Output (inr (inl run)) = absurd (no_script run.0 run.1)
     job_refused long Output (inr (inr (inl gen))) = absurd (no_gen tells.job options gen.0 gen.1 tells.is_run gen.2)
-    job_refused long Output (inr (inr (inr inspects))) = absurd (no_inspect tells.job options tells.is_run inspects.0)
+    job_refused long Output (inr (inr (inr (inl self)))) = absurd (no_self tells.job options tells.is_run (self.0, self.1, self.2))
+    job_refused long Output (inr (inr (inr (inr inspects)))) = absurd (no_inspect tells.job options tells.is_run inspects.0)
     job_refused long LongJob is = (0, omega arith, refl)
     job_refused long (LongLine a) is = (0, omega arith, refl)
     job_refused long (BigSource a) is = (0, omega arith, refl)
+    job_refused long BigImage is = (0, omega arith, refl)
     job_refused long Memory is = (2, omega arith, refl)
     job_refused long (ScriptLine line) is = absurd (no_script is.0 is.1)
     job_refused long ScriptInput is = absurd (no_script is.0 is.1)
@@ -413,11 +474,15 @@ module _ (words : List (List ℕ)) (functions : Functions) (contents : List ℕ 
     no_show_too : IsInspect words → ⊥
     no_show_too inspect = no_inspect run.tells.job options run.tells.is_run inspect
 
+    no_self_too : NamesSelfRun words → ⊥
+    no_self_too self = no_self run.tells.job options run.tells.is_run self
+
     usage_no : (kind : _) → usage_fault words ≡ Some kind → ⊥
     usage_no kind is = usage_not kind run.tells.job options run.tells.is_run is
 
     no_line : (line : ℕ) (kind : _) → IsFaultOf words functions contents held (JobLine line kind) → ⊥
-    no_line line kind is = let fault = (told_of options run.text run.tells (λ o t. (length t ≤ JOB_MAX) × (first_fault functions t ≡ Some (line, kind))) is).1 in let clear = none in cc
+    no_line line kind (inr self) = no_self_too self.0
+    no_line line kind (inl is) = let fault = (told_of options run.text run.tells (λ o t. (length t ≤ JOB_MAX) × (first_fault functions t ≡ Some (line, kind))) is).1 in let clear = none in cc
 
     no_long_job : IsFaultOf words functions contents held LongJob → ⊥
     no_long_job is = let long = told_of options run.text run.tells (λ o t. JOB_MAX < length t) is in let fits = run.fits in omega (arith, fits, long)
@@ -439,7 +504,8 @@ module _ (words : List (List ℕ)) (functions : Functions) (contents : List ℕ 
     pool_not_done P few (inl named) = not_ready _ few named.1
     pool_not_done P few (inr (inl script)) = names_script script.0 script.1
     pool_not_done P few (inr (inr (inl gen))) = no_gen run.tells.job options gen.0 gen.1 run.tells.is_run gen.2
-    pool_not_done P few (inr (inr (inr inspects))) = no_show_too inspects.0
+    pool_not_done P few (inr (inr (inr (inl self)))) = no_self_too (self.0, self.1, self.2)
+    pool_not_done P few (inr (inr (inr (inr inspects)))) = no_show_too inspects.0
 
     pub pool_refused : options.pool < segments_needed job → (fault : Fault) → IsFaultOf words functions contents held fault → Contains (10 ∷ 4 ∷ 70 ∷ []) (status_of fault)
     pool_refused few (Usage kind) is = absurd (usage_no kind is)
@@ -452,12 +518,15 @@ module _ (words : List (List ℕ)) (functions : Functions) (contents : List ℕ 
     pool_refused few (HoldsImage number) is = absurd (not_ready _ few is.0)
     pool_refused few HoldsNoImage is = absurd (no_show_too is.0)
     pool_refused few (NotImage number place) is = absurd (no_show_too is.0)
-    pool_refused few (OverCredit channel received announced) is = absurd (not_ready _ few is.0.1)
-    pool_refused few (Peer peer) is = absurd (not_ready _ few is.1)
+    pool_refused few (OverCredit channel received announced) (inl run, by) = absurd (not_ready _ few run.1)
+    pool_refused few (OverCredit channel received announced) (inr self, by) = absurd (no_self run.tells.job options run.tells.is_run self.0)
+    pool_refused few (Peer peer) (inl run) = absurd (not_ready _ few run.1)
+    pool_refused few (Peer peer) (inr self) = absurd (no_self run.tells.job options run.tells.is_run self.0)
     pool_refused few Output is = absurd (pool_not_done (λ text. ⊤) few is)
     pool_refused few LongJob is = (0, omega arith, refl)
     pool_refused few (LongLine b) is = (0, omega arith, refl)
     pool_refused few (BigSource b) is = (0, omega arith, refl)
+    pool_refused few BigImage is = (0, omega arith, refl)
     pool_refused few Memory is = (2, omega arith, refl)
     pool_refused few (ScriptLine line) is = absurd (names_script is.0 is.1)
     pool_refused few ScriptInput is = absurd (names_script is.0 is.1)
@@ -476,16 +545,12 @@ module _ (words : List (List ℕ)) (functions : Functions) (contents : List ℕ 
     same_many : (other : Job) → IsJobText functions run.text other → tasks other 0 ≡ tasks job 0
     same_many other is =
         let same : source_files other ≡ source_files job = files functions run.text other job is run.is_job in
-        sym (length-map other.sources.items file_name) ∙ ap length same ∙ length-map job.sources.items file_name
+        sym (length-map other.sources.items (λ (file : Items ℕ). file.items)) ∙ ap length same ∙ length-map job.sources.items (λ (file : Items ℕ). file.items)
 
     module _ (bytes : ℕ → List ℕ) (sources : TellsSources job contents bytes) where
       -- the sources of each job of the text are told to have these bytes
       tells_too : (other : Job) → IsJobText functions run.text other → TellsSources other contents bytes
-      tells_too other is a inside =
-          let same : source_files other ≡ source_files job = files functions run.text other job is run.is_job in
-          let many = same_many other is in
-          let name : source_name other a ≡ source_name job a = name_in other.sources.items a ∙ ap (λ l. get_or l a []) same ∙ sym (name_in job.sources.items a) in
-          ap contents name ∙ sources a (omega (arith, many, inside))
+      tells_too other is = tells_same job other contents bytes (files functions run.text other job is run.is_job) sources
 
       is_told : (other : Job) → IsJobText functions run.text other → (a : ℕ) → a < tasks other 0 → (P : List ℕ → Type 0) → IfSome (contents (source_name other a)) P → P (bytes a)
       is_told other is a inside P told = subst (λ o. IfSome o P) (tells_too other is a inside) told
@@ -494,7 +559,8 @@ module _ (words : List (List ℕ)) (functions : Functions) (contents : List ℕ 
       pub not_done : (P : List ℕ → Type 0) (a : ℕ) → a < tasks job 0 → IsOverLimit (bytes a) → Prints words functions contents held P → ⊥
       not_done P a inside over (inr (inl script)) = names_script script.0 script.1
       not_done P a inside over (inr (inr (inl gen))) = no_gen run.tells.job options gen.0 gen.1 run.tells.is_run gen.2
-      not_done P a inside over (inr (inr (inr inspects))) = no_show_too inspects.0
+      not_done P a inside over (inr (inr (inr (inl self)))) = no_self_too (self.0, self.1, self.2)
+      not_done P a inside over (inr (inr (inr (inr inspects)))) = no_show_too inspects.0
       not_done P a inside over (inl runs) =
           let it = good options run.text run.tells (λ o j. HasPool o j × ((bs : ℕ → List ℕ) → TellsSources j contents bs → AreWithinLimits j bs × P (table_text (tally j (λ b. lines (bs b)))))) runs.1 in
           let many = same_many it.2.0 it.2.1 in
@@ -516,6 +582,7 @@ module _ (words : List (List ℕ)) (functions : Functions) (contents : List ℕ 
       source_refused a inside over LongJob is = absurd (no_long_job is)
       source_refused a inside over (LongLine b) is = (0, omega arith, refl)
       source_refused a inside over (BigSource b) is = (0, omega arith, refl)
+      source_refused a inside over BigImage is = (0, omega arith, refl)
       source_refused a inside over Memory is = (6, omega arith, refl)
       source_refused a inside over (ScriptLine line) is = absurd (names_script is.0 is.1)
       source_refused a inside over ScriptInput is = absurd (names_script is.0 is.1)
@@ -530,27 +597,34 @@ module _ (words : List (List ℕ)) (functions : Functions) (contents : List ℕ 
           let many = same_many it.2.0 it.2.1 in
           within b (omega (arith, many, inside)) (leads (bytes b) (is_told it.2.0 it.2.1 b inside P it.2.2.1.1))
 
-      pub completes : HasPool options job → AreWithinLimits job bytes → held ≡ Some [] → (fault : Fault) → (status_of fault ≡ 4 → ⊥) → (status_of fault ≡ 5 → ⊥) → (status_of fault ≡ 7 → ⊥) → IsFaultOf words functions contents held fault → Contains (0 ∷ 11 ∷ 12 ∷ 70 ∷ []) (status_of fault)
-      completes enough within empty (Usage kind) input keeper output is = absurd (usage_no kind is)
-      completes enough within empty (JobLine line kind) input keeper output is = absurd (no_line line kind is)
-      completes enough within empty JobInput input keeper output is = absurd (input refl)
-      completes enough within empty (SourceInput b) input keeper output is = absurd (input refl)
-      completes enough within empty Keeper input keeper output is = absurd (keeper refl)
-      completes enough within empty (HoldsImage number) input keeper output is = absurd (none_and_last (λ kept. kept.number ≡ number) held empty is.1)
-      completes enough within empty HoldsNoImage input keeper output is = absurd (no_show_too is.0)
-      completes enough within empty (NotImage number place) input keeper output is = absurd (no_show_too is.0)
-      completes enough within empty Link input keeper output is = absurd is
-      completes enough within empty (OverCredit channel received announced) input keeper output is = (1, omega arith, refl)
-      completes enough within empty (Peer peer) input keeper output is = (2, omega arith, refl)
-      completes enough within empty Output input keeper output is = absurd (output refl)
-      completes enough within empty LongJob input keeper output is = absurd (no_long_job is)
-      completes enough within empty (LongLine b) input keeper output is = absurd (no_source b (λ bs. HasLongLine (lines bs)) (λ bs long. inr long) within is.1)
-      completes enough within empty (BigSource b) input keeper output is = absurd (no_source b (λ bs. SOURCE_MAX < length bs) (λ bs big. inl big) within is.1)
-      completes enough within empty Memory input keeper output is = (3, omega arith, refl)
-      completes enough within empty (ScriptLine line) input keeper output is = absurd (names_script is.0 is.1)
-      completes enough within empty ScriptInput input keeper output is = absurd (names_script is.0 is.1)
-      completes enough within empty LongScript input keeper output is = absurd (names_script is.0 is.1)
-      completes enough within empty (TooFewSegments have need) input keeper output is = absurd (no_small_pool enough have need is)
+      -- no image of a job of the text is too large
+      no_large : ((other : Job) → IsJobText functions run.text other → IsTooLarge other (λ a. lines (bytes a)) options.every → ⊥) → NamesGoodJob words functions contents (λ o j. HasPool o j × HasLargeImage j o.every contents) → ⊥
+      no_large small named =
+          let it = good options run.text run.tells (λ o j. HasPool o j × HasLargeImage j o.every contents) named in
+          small it.2.0 it.2.1 (it.2.2.1 bytes (tells_too it.2.0 it.2.1))
+
+      pub completes : HasPool options job → AreWithinLimits job bytes → ((other : Job) → IsJobText functions run.text other → IsTooLarge other (λ a. lines (bytes a)) options.every → ⊥) → held ≡ Some [] → (fault : Fault) → (status_of fault ≡ 4 → ⊥) → (status_of fault ≡ 5 → ⊥) → (status_of fault ≡ 7 → ⊥) → IsFaultOf words functions contents held fault → Contains (0 ∷ 11 ∷ 12 ∷ 70 ∷ []) (status_of fault)
+      completes enough within small empty (Usage kind) input keeper output is = absurd (usage_no kind is)
+      completes enough within small empty (JobLine line kind) input keeper output is = absurd (no_line line kind is)
+      completes enough within small empty JobInput input keeper output is = absurd (input refl)
+      completes enough within small empty (SourceInput b) input keeper output is = absurd (input refl)
+      completes enough within small empty Keeper input keeper output is = absurd (keeper refl)
+      completes enough within small empty (HoldsImage number) input keeper output is = absurd (none_and_last (λ kept. kept.number ≡ number) held empty is.1)
+      completes enough within small empty HoldsNoImage input keeper output is = absurd (no_show_too is.0)
+      completes enough within small empty (NotImage number place) input keeper output is = absurd (no_show_too is.0)
+      completes enough within small empty Link input keeper output is = absurd is
+      completes enough within small empty (OverCredit channel received announced) input keeper output is = (1, omega arith, refl)
+      completes enough within small empty (Peer peer) input keeper output is = (2, omega arith, refl)
+      completes enough within small empty Output input keeper output is = absurd (output refl)
+      completes enough within small empty LongJob input keeper output is = absurd (no_long_job is)
+      completes enough within small empty (LongLine b) input keeper output is = absurd (no_source b (λ bs. HasLongLine (lines bs)) (λ bs long. inr long) within is.1)
+      completes enough within small empty (BigSource b) input keeper output is = absurd (no_source b (λ bs. SOURCE_MAX < length bs) (λ bs big. inl big) within is.1)
+      completes enough within small empty BigImage input keeper output is = absurd (no_large small is.1)
+      completes enough within small empty Memory input keeper output is = (3, omega arith, refl)
+      completes enough within small empty (ScriptLine line) input keeper output is = absurd (names_script is.0 is.1)
+      completes enough within small empty ScriptInput input keeper output is = absurd (names_script is.0 is.1)
+      completes enough within small empty LongScript input keeper output is = absurd (names_script is.0 is.1)
+      completes enough within small empty (TooFewSegments have need) input keeper output is = absurd (no_small_pool enough have need is)
 
     -- ---- a run whose keeper tells an image
 
@@ -562,7 +636,8 @@ module _ (words : List (List ℕ)) (functions : Functions) (contents : List ℕ 
       held_not_done P (inl runs) = not_none runs.0
       held_not_done P (inr (inl script)) = names_script script.0 script.1
       held_not_done P (inr (inr (inl gen))) = no_gen run.tells.job options gen.0 gen.1 run.tells.is_run gen.2
-      held_not_done P (inr (inr (inr inspects))) = no_show_too inspects.0
+      held_not_done P (inr (inr (inr (inl self)))) = no_self_too (self.0, self.1, self.2)
+      held_not_done P (inr (inr (inr (inr inspects)))) = no_show_too inspects.0
 
       pub held_refused : HasPool options job → (fault : Fault) → IsFaultOf words functions contents held fault → Contains (8 ∷ 5 ∷ 4 ∷ 70 ∷ []) (status_of fault)
       held_refused enough (Usage kind) is = absurd (usage_no kind is)
@@ -581,9 +656,12 @@ module _ (words : List (List ℕ)) (functions : Functions) (contents : List ℕ 
       held_refused enough LongScript is = absurd (names_script is.0 is.1)
       held_refused enough (LongLine a) is = absurd (not_none is.0)
       held_refused enough (BigSource a) is = absurd (not_none is.0)
+      held_refused enough BigImage is = absurd (not_none is.0)
       held_refused enough (TooFewSegments have need) is = absurd (no_small_pool enough have need is)
-      held_refused enough (OverCredit channel received announced) is = absurd (not_none is.0.0)
-      held_refused enough (Peer peer) is = absurd (not_none is.0)
+      held_refused enough (OverCredit channel received announced) (inl run, by) = absurd (not_none run.0)
+      held_refused enough (OverCredit channel received announced) (inr self, by) = absurd (no_self run.tells.job options run.tells.is_run self.0)
+      held_refused enough (Peer peer) (inl run) = absurd (not_none run.0)
+      held_refused enough (Peer peer) (inr self) = absurd (no_self run.tells.job options run.tells.is_run self.0)
       held_refused enough Memory is = (3, omega arith, refl)
 
   -- ---- scripts
@@ -607,7 +685,8 @@ module _ (words : List (List ℕ)) (functions : Functions) (contents : List ℕ 
     script_printed P (inl run) = absurd (no_job_too _ run.1)
     script_printed P (inr (inl run)) = told_script (Replies P) run
     script_printed P (inr (inr (inl gen))) = absurd (no_lines tells.file gen.0 gen.1 tells.is_script gen.2)
-    script_printed P (inr (inr (inr inspects))) = absurd (no_show tells.file tells.is_script inspects.0)
+    script_printed P (inr (inr (inr (inl self)))) = absurd (no_self_script tells.file tells.is_script (self.0, self.1, self.2))
+    script_printed P (inr (inr (inr (inr inspects)))) = absurd (no_show tells.file tells.is_script inspects.0)
 
     module _ (clear : ScriptTextHasNoBadLine) (one : ScriptTextIsOfOneScript) where
       pub no_bad_too : (P : Script → Type 0) → IsNoScript text → IsScriptWith P text → ⊥
@@ -634,20 +713,24 @@ module _ (words : List (List ℕ)) (functions : Functions) (contents : List ℕ 
       script_refused bad (TooFewSegments have need) (inl run) = absurd (no_job_too _ run)
       script_refused bad (TooFewSegments have need) (inr is) = absurd (no_bad_too (λ script. HasTooFew script have need) bad (told_script (IsScriptWith (λ script. HasTooFew script have need)) is))
       script_refused bad Output is = absurd (no_bad_too (λ script. HasEnough script × ⊤) bad (script_printed (λ t. ⊤) is))
-      script_refused bad (JobLine line kind) is = absurd (no_job_too _ is)
+      script_refused bad (JobLine line kind) (inl is) = absurd (no_job_too _ is)
+      script_refused bad (JobLine line kind) (inr self) = absurd (no_self_script tells.file tells.is_script self.0)
       script_refused bad JobInput is = absurd (no_job_too _ is)
       script_refused bad (SourceInput a) is = absurd (no_job_too _ is.1)
       script_refused bad LongJob is = absurd (no_job_too _ is)
       script_refused bad (LongLine a) is = absurd (no_job_too _ is.1)
       script_refused bad (BigSource a) is = absurd (no_job_too _ is.1)
+      script_refused bad BigImage is = absurd (no_job_too _ is.1)
       script_refused bad Keeper (inl run) = absurd (no_job_too _ run)
       script_refused bad Keeper (inr inspect) = absurd (no_show tells.file tells.is_script inspect)
       script_refused bad (HoldsImage number) is = absurd (no_job_too _ is.0)
       script_refused bad HoldsNoImage is = absurd (no_show tells.file tells.is_script is.0)
       script_refused bad (NotImage number place) is = absurd (no_show tells.file tells.is_script is.0)
       script_refused bad Link is = absurd is
-      script_refused bad (OverCredit channel received announced) is = absurd (no_job_too _ is.0.1)
-      script_refused bad (Peer peer) is = absurd (no_job_too _ is.1)
+      script_refused bad (OverCredit channel received announced) (inl run, by) = absurd (no_job_too _ run.1)
+      script_refused bad (OverCredit channel received announced) (inr self, by) = absurd (no_self_script tells.file tells.is_script self.0)
+      script_refused bad (Peer peer) (inl run) = absurd (no_job_too _ run.1)
+      script_refused bad (Peer peer) (inr self) = absurd (no_self_script tells.file tells.is_script self.0)
 
       pub over_refused : PassesScriptLimit text → (fault : Fault) → IsFaultOf words functions contents held fault → Contains (10 ∷ 4 ∷ 70 ∷ []) (status_of fault)
       over_refused over (Usage kind) is = absurd (no_usage kind is)
@@ -657,20 +740,24 @@ module _ (words : List (List ℕ)) (functions : Functions) (contents : List ℕ 
       over_refused over LongScript is = (0, omega arith, refl)
       over_refused over (TooFewSegments have need) is = (0, omega arith, refl)
       over_refused over Output is = absurd (over_not_good over (with_enough (λ t. ⊤) (script_printed (λ t. ⊤) is)))
-      over_refused over (JobLine line kind) is = absurd (no_job_too _ is)
+      over_refused over (JobLine line kind) (inl is) = absurd (no_job_too _ is)
+      over_refused over (JobLine line kind) (inr self) = absurd (no_self_script tells.file tells.is_script self.0)
       over_refused over JobInput is = absurd (no_job_too _ is)
       over_refused over (SourceInput a) is = absurd (no_job_too _ is.1)
       over_refused over LongJob is = absurd (no_job_too _ is)
       over_refused over (LongLine a) is = absurd (no_job_too _ is.1)
       over_refused over (BigSource a) is = absurd (no_job_too _ is.1)
+      over_refused over BigImage is = absurd (no_job_too _ is.1)
       over_refused over Keeper (inl run) = absurd (no_job_too _ run)
       over_refused over Keeper (inr inspect) = absurd (no_show tells.file tells.is_script inspect)
       over_refused over (HoldsImage number) is = absurd (no_job_too _ is.0)
       over_refused over HoldsNoImage is = absurd (no_show tells.file tells.is_script is.0)
       over_refused over (NotImage number place) is = absurd (no_show tells.file tells.is_script is.0)
       over_refused over Link is = absurd is
-      over_refused over (OverCredit channel received announced) is = absurd (no_job_too _ is.0.1)
-      over_refused over (Peer peer) is = absurd (no_job_too _ is.1)
+      over_refused over (OverCredit channel received announced) (inl run, by) = absurd (no_job_too _ run.1)
+      over_refused over (OverCredit channel received announced) (inr self, by) = absurd (no_self_script tells.file tells.is_script self.0)
+      over_refused over (Peer peer) (inl run) = absurd (no_job_too _ run.1)
+      over_refused over (Peer peer) (inr self) = absurd (no_self_script tells.file tells.is_script self.0)
 
       -- no work is done where the text is over its limit, or of a script with too few segments
       pub over_not_done : (P : List ℕ → Type 0) → PassesScriptLimit text → Prints words functions contents held P → ⊥
@@ -688,20 +775,24 @@ module _ (words : List (List ℕ)) (functions : Functions) (contents : List ℕ 
       script_completes good (TooFewSegments have need) input output (inl run) = absurd (no_job_too _ run)
       script_completes good (TooFewSegments have need) input output (inr is) = absurd (over_not_good (too_few words functions contents held (Some text) have need (told_script (IsScriptWith (λ script. HasTooFew script have need)) is)) good)
       script_completes good Output input output is = absurd (output refl)
-      script_completes good (JobLine line kind) input output is = absurd (no_job_too _ is)
+      script_completes good (JobLine line kind) input output (inl is) = absurd (no_job_too _ is)
+      script_completes good (JobLine line kind) input output (inr self) = absurd (no_self_script tells.file tells.is_script self.0)
       script_completes good JobInput input output is = absurd (no_job_too _ is)
       script_completes good (SourceInput a) input output is = absurd (no_job_too _ is.1)
       script_completes good LongJob input output is = absurd (no_job_too _ is)
       script_completes good (LongLine a) input output is = absurd (no_job_too _ is.1)
       script_completes good (BigSource a) input output is = absurd (no_job_too _ is.1)
+      script_completes good BigImage input output is = absurd (no_job_too _ is.1)
       script_completes good Keeper input output (inl run) = absurd (no_job_too _ run)
       script_completes good Keeper input output (inr inspect) = absurd (no_show tells.file tells.is_script inspect)
       script_completes good (HoldsImage number) input output is = absurd (no_job_too _ is.0)
       script_completes good HoldsNoImage input output is = absurd (no_show tells.file tells.is_script is.0)
       script_completes good (NotImage number place) input output is = absurd (no_show tells.file tells.is_script is.0)
       script_completes good Link input output is = absurd is
-      script_completes good (OverCredit channel received announced) input output is = absurd (no_job_too _ is.0.1)
-      script_completes good (Peer peer) input output is = absurd (no_job_too _ is.1)
+      script_completes good (OverCredit channel received announced) input output (inl run, by) = absurd (no_job_too _ run.1)
+      script_completes good (OverCredit channel received announced) input output (inr self, by) = absurd (no_self_script tells.file tells.is_script self.0)
+      script_completes good (Peer peer) input output (inl run) = absurd (no_job_too _ run.1)
+      script_completes good (Peer peer) input output (inr self) = absurd (no_self_script tells.file tells.is_script self.0)
 
   -- ---- lines of a seed
 
@@ -721,20 +812,62 @@ module _ (words : List (List ℕ)) (functions : Functions) (contents : List ℕ 
     gen_completes LongScript output is = absurd (names_no_script _ is)
     gen_completes (TooFewSegments have need) output (inl run) = absurd (names_no_job _ run)
     gen_completes (TooFewSegments have need) output (inr is) = absurd (names_no_script _ is)
-    gen_completes (JobLine line kind) output is = absurd (names_no_job _ is)
+    gen_completes (JobLine line kind) output (inl is) = absurd (names_no_job _ is)
+    gen_completes (JobLine line kind) output (inr self) = absurd (no_self_gen lines seed gen self.0)
     gen_completes JobInput output is = absurd (names_no_job _ is)
     gen_completes (SourceInput a) output is = absurd (names_no_job _ is.1)
     gen_completes LongJob output is = absurd (names_no_job _ is)
     gen_completes (LongLine a) output is = absurd (names_no_job _ is.1)
     gen_completes (BigSource a) output is = absurd (names_no_job _ is.1)
+    gen_completes BigImage output is = absurd (names_no_job _ is.1)
     gen_completes Keeper output (inl run) = absurd (names_no_job _ run)
     gen_completes Keeper output (inr inspect) = absurd (no_gen_too lines seed gen inspect)
     gen_completes (HoldsImage number) output is = absurd (names_no_job _ is.0)
     gen_completes HoldsNoImage output is = absurd (no_gen_too lines seed gen is.0)
     gen_completes (NotImage number place) output is = absurd (no_gen_too lines seed gen is.0)
     gen_completes Link output is = absurd is
-    gen_completes (OverCredit channel received announced) output is = absurd (names_no_job _ is.0.1)
-    gen_completes (Peer peer) output is = absurd (names_no_job _ is.1)
+    gen_completes (OverCredit channel received announced) output (inl run, by) = absurd (names_no_job _ run.1)
+    gen_completes (OverCredit channel received announced) output (inr self, by) = absurd (no_self_gen lines seed gen self.0)
+    gen_completes (Peer peer) output (inl run) = absurd (names_no_job _ run.1)
+    gen_completes (Peer peer) output (inr self) = absurd (no_self_gen lines seed gen self.0)
+
+  -- ---- a run over lines of a seed
+
+  module _ (lines seed : ℕ) (self : IsSelfRun words lines seed) where
+    self_no_job : (P : RunOptions → List ℕ → Type 0) → NamesRun words contents P → ⊥
+    self_no_job P run = no_self run.job run.options run.is_run (lines, seed, self)
+
+    self_no_script : (P : List ℕ → Type 0) → NamesScript words contents P → ⊥
+    self_no_script P script = no_self_script script.0 script.1 (lines, seed, self)
+
+    self_no_show : IsInspect words → ⊥
+    self_no_show inspect = no_self_show inspect (lines, seed, self)
+
+    pub self_completes : JobTextHasNoFault → HasFunctions functions → (fault : Fault) → (status_of fault ≡ 7 → ⊥) → IsFaultOf words functions contents held fault → Contains (0 ∷ 11 ∷ 12 ∷ 70 ∷ []) (status_of fault)
+    self_completes law has (Usage kind) output is = absurd (let none = no_usage_fault words (SelfRunCommand lines seed) self in cc)
+    self_completes law has (JobLine line kind) output (inl run) = absurd (self_no_job _ run)
+    self_completes law has (JobLine line kind) output (inr lacks) = absurd (let none = self_clear law functions has in let some = lacks.1 in cc)
+    self_completes law has (OverCredit channel received announced) output is = (1, omega arith, refl)
+    self_completes law has (Peer peer) output is = (2, omega arith, refl)
+    self_completes law has Memory output is = (3, omega arith, refl)
+    self_completes law has Output output is = absurd (output refl)
+    self_completes law has (ScriptLine line) output is = absurd (self_no_script _ is)
+    self_completes law has ScriptInput output is = absurd (self_no_script _ is)
+    self_completes law has LongScript output is = absurd (self_no_script _ is)
+    self_completes law has (TooFewSegments have need) output (inl run) = absurd (self_no_job _ run)
+    self_completes law has (TooFewSegments have need) output (inr is) = absurd (self_no_script _ is)
+    self_completes law has JobInput output is = absurd (self_no_job _ is)
+    self_completes law has (SourceInput a) output is = absurd (self_no_job _ is.1)
+    self_completes law has LongJob output is = absurd (self_no_job _ is)
+    self_completes law has (LongLine a) output is = absurd (self_no_job _ is.1)
+    self_completes law has (BigSource a) output is = absurd (self_no_job _ is.1)
+    self_completes law has BigImage output is = absurd (self_no_job _ is.1)
+    self_completes law has Keeper output (inl run) = absurd (self_no_job _ run)
+    self_completes law has Keeper output (inr inspect) = absurd (self_no_show inspect)
+    self_completes law has (HoldsImage number) output is = absurd (self_no_job _ is.0)
+    self_completes law has HoldsNoImage output is = absurd (self_no_show is.0)
+    self_completes law has (NotImage number place) output is = absurd (self_no_show is.0)
+    self_completes law has Link output is = absurd is
 
   -- ---- what the keeper holds
 
@@ -750,7 +883,8 @@ module _ (words : List (List ℕ)) (functions : Functions) (contents : List ℕ 
     shown_printed P (inl run) = absurd (no_job_named _ run.1)
     shown_printed P (inr (inl script)) = absurd (no_script_named _ script)
     shown_printed P (inr (inr (inl gen))) = absurd (no_gen_too gen.0 gen.1 gen.2 inspect)
-    shown_printed P (inr (inr (inr inspects))) = inspects.1
+    shown_printed P (inr (inr (inr (inl self)))) = absurd (no_self_show inspect (self.0, self.1, self.2))
+    shown_printed P (inr (inr (inr (inr inspects)))) = inspects.1
 
     pub none_not_done : (P : List ℕ → Type 0) → HasNoneToShow images → Prints words functions contents held P → ⊥
     none_not_done P none prints = none_shown images none P held told (shown_printed P prints)
@@ -760,7 +894,8 @@ module _ (words : List (List ℕ)) (functions : Functions) (contents : List ℕ 
 
     pub inspect_refused : HasNoneToShow images → (fault : Fault) → IsFaultOf words functions contents held fault → Contains (8 ∷ 5 ∷ 70 ∷ []) (status_of fault)
     inspect_refused none (Usage kind) is = absurd (no_usage_too kind is)
-    inspect_refused none (JobLine line kind) is = absurd (no_job_named _ is)
+    inspect_refused none (JobLine line kind) (inl is) = absurd (no_job_named _ is)
+    inspect_refused none (JobLine line kind) (inr self) = absurd (no_self_show inspect self.0)
     inspect_refused none (ScriptLine line) is = absurd (no_script_named _ is)
     inspect_refused none JobInput is = absurd (no_job_named _ is)
     inspect_refused none ScriptInput is = absurd (no_script_named _ is)
@@ -775,16 +910,20 @@ module _ (words : List (List ℕ)) (functions : Functions) (contents : List ℕ 
     inspect_refused none LongScript is = absurd (no_script_named _ is)
     inspect_refused none (LongLine a) is = absurd (no_job_named _ is.1)
     inspect_refused none (BigSource a) is = absurd (no_job_named _ is.1)
+    inspect_refused none BigImage is = absurd (no_job_named _ is.1)
     inspect_refused none (TooFewSegments have need) (inl run) = absurd (no_job_named _ run)
     inspect_refused none (TooFewSegments have need) (inr is) = absurd (no_script_named _ is)
-    inspect_refused none (OverCredit channel received announced) is = absurd (no_job_named _ is.0.1)
-    inspect_refused none (Peer peer) is = absurd (no_job_named _ is.1)
+    inspect_refused none (OverCredit channel received announced) (inl run, by) = absurd (no_job_named _ run.1)
+    inspect_refused none (OverCredit channel received announced) (inr self, by) = absurd (no_self_show inspect self.0)
+    inspect_refused none (Peer peer) (inl run) = absurd (no_job_named _ run.1)
+    inspect_refused none (Peer peer) (inr self) = absurd (no_self_show inspect self.0)
     inspect_refused none Memory is = (2, omega arith, refl)
 
     pub inspect_completes : (kept : KeptImage) (image : Image) → last_image images ≡ Some kept → IsKept kept image → (fault : Fault) → (status_of fault ≡ 5 → ⊥) → (status_of fault ≡ 7 → ⊥) →
         IsFaultOf words functions contents held fault → Contains (0 ∷ 70 ∷ []) (status_of fault)
     inspect_completes kept image last is_kept (Usage kind) keeper output is = absurd (no_usage_too kind is)
-    inspect_completes kept image last is_kept (JobLine line kind) keeper output is = absurd (no_job_named _ is)
+    inspect_completes kept image last is_kept (JobLine line kind) keeper output (inl is) = absurd (no_job_named _ is)
+    inspect_completes kept image last is_kept (JobLine line kind) keeper output (inr self) = absurd (no_self_show inspect self.0)
     inspect_completes kept image last is_kept (ScriptLine line) keeper output is = absurd (no_script_named _ is)
     inspect_completes kept image last is_kept JobInput keeper output is = absurd (no_job_named _ is)
     inspect_completes kept image last is_kept ScriptInput keeper output is = absurd (no_script_named _ is)
@@ -799,8 +938,11 @@ module _ (words : List (List ℕ)) (functions : Functions) (contents : List ℕ 
     inspect_completes kept image last is_kept LongScript keeper output is = absurd (no_script_named _ is)
     inspect_completes kept image last is_kept (LongLine a) keeper output is = absurd (no_job_named _ is.1)
     inspect_completes kept image last is_kept (BigSource a) keeper output is = absurd (no_job_named _ is.1)
+    inspect_completes kept image last is_kept BigImage keeper output is = absurd (no_job_named _ is.1)
     inspect_completes kept image last is_kept (TooFewSegments have need) keeper output (inl run) = absurd (no_job_named _ run)
     inspect_completes kept image last is_kept (TooFewSegments have need) keeper output (inr is) = absurd (no_script_named _ is)
-    inspect_completes kept image last is_kept (OverCredit channel received announced) keeper output is = absurd (no_job_named _ is.0.1)
-    inspect_completes kept image last is_kept (Peer peer) keeper output is = absurd (no_job_named _ is.1)
+    inspect_completes kept image last is_kept (OverCredit channel received announced) keeper output (inl run, by) = absurd (no_job_named _ run.1)
+    inspect_completes kept image last is_kept (OverCredit channel received announced) keeper output (inr self, by) = absurd (no_self_show inspect self.0)
+    inspect_completes kept image last is_kept (Peer peer) keeper output (inl run) = absurd (no_job_named _ run.1)
+    inspect_completes kept image last is_kept (Peer peer) keeper output (inr self) = absurd (no_self_show inspect self.0)
     inspect_completes kept image last is_kept Memory keeper output is = (1, omega arith, refl)

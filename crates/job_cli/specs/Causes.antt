@@ -5,7 +5,7 @@ use Rattle.flow_defs.specs.declared.cause.Cause.TheVariants as causes
 use Rattle.job_cli.specs.declared.input.InputFault.{InputFault}
 use Rattle.job_cli.specs.declared.input.InputFault.TheVariants.{Failed as InputFailed, TooBig as InputTooBig, LongLine as InputLongLine, Memory as InputMemory}
 use Rattle.job_cli.specs.declared.fault.Fault.{Fault}
-use Rattle.job_cli.specs.declared.fault.Fault.TheVariants.{Usage, JobLine, ScriptLine, JobInput, ScriptInput, SourceInput, Keeper, Output, HoldsImage, HoldsNoImage, NotImage, LongJob, LongScript, LongLine, BigSource, TooFewSegments, Link, OverCredit, Peer, Memory}
+use Rattle.job_cli.specs.declared.fault.Fault.TheVariants.{Usage, JobLine, ScriptLine, JobInput, ScriptInput, SourceInput, Keeper, Output, HoldsImage, HoldsNoImage, NotImage, LongJob, LongScript, LongLine, BigSource, BigImage, TooFewSegments, Link, OverCredit, Peer, Memory}
 
 -- A fault of the file with the job's text, of the file with the script's, and of the source with this index.
 abbrev pub of_job_file : InputFault → Fault
@@ -26,17 +26,16 @@ of_source source InputTooBig = BigSource source
 of_source source InputLongLine = LongLine source
 of_source source InputMemory = Memory
 
--- The fault of a run whose workers ended so. A run that has no table is neither done nor stopped, and none of its workers stores an
--- image.
+-- The fault of a run whose workers ended so. A run that has no table is neither done nor stopped.
 abbrev pub of_cause : Cause → Fault
 of_cause causes.Done = Memory
 of_cause causes.Stopped = Memory
 of_cause (causes.Input a) = SourceInput a
-of_cause causes.Keeper = Memory
+of_cause causes.Keeper = Keeper
 of_cause causes.Link = Link
 of_cause (causes.LongLine a) = LongLine a
 of_cause (causes.BigSource a) = BigSource a
-of_cause causes.BigImage = Memory
+of_cause causes.BigImage = BigImage
 of_cause (causes.OverCredit channel received announced) = OverCredit channel received announced
 of_cause (causes.Peer fault) = Peer fault
 of_cause causes.Memory = Memory
@@ -59,6 +58,7 @@ status_of LongJob = 10
 status_of LongScript = 10
 status_of (LongLine source) = 10
 status_of (BigSource source) = 10
+status_of BigImage = 10
 status_of (TooFewSegments have need) = 10
 status_of (OverCredit channel received announced) = 11
 status_of (Peer fault) = 12

@@ -7,7 +7,7 @@ use Rattle.job_text.specs.declared.words.UsageKind.TheVariants.{NoCommand, Unkno
 use Rattle.job_text.specs.declared.fault.JobFault.{JobFault}
 use Rattle.job_text.specs.declared.fault.JobFault.TheVariants.{Missing, Extra, BadLine, TooMany, UnknownKind, NoFunction, BadNumber, BadExchange, BadWidth}
 use Rattle.job_cli.specs.declared.fault.Fault.{Fault}
-use Rattle.job_cli.specs.declared.fault.Fault.TheVariants.{Usage, JobLine, ScriptLine, JobInput, ScriptInput, SourceInput, Keeper, Output, HoldsImage, HoldsNoImage, NotImage, LongJob, LongScript, LongLine, BigSource, TooFewSegments, Link, OverCredit, Peer, Memory}
+use Rattle.job_cli.specs.declared.fault.Fault.TheVariants.{Usage, JobLine, ScriptLine, JobInput, ScriptInput, SourceInput, Keeper, Output, HoldsImage, HoldsNoImage, NotImage, LongJob, LongScript, LongLine, BigSource, BigImage, TooFewSegments, Link, OverCredit, Peer, Memory}
 use Rattle.job_cli.specs.declared.fault.Part.{Part}
 
 -- What is wrong with the words.
@@ -64,6 +64,7 @@ fault_text LongJob = codes "job over 65536"
 fault_text LongScript = codes "script over 16777216"
 fault_text (LongLine source) = codes "source " ++ decimal source ++ codes ": line over 1048576"
 fault_text (BigSource source) = codes "source " ++ decimal source ++ codes ": over 1099511627776"
+fault_text BigImage = codes "image over 4294967295"
 fault_text (TooFewSegments have need) = codes "pool has " ++ decimal have ++ codes ", needs " ++ decimal need
 fault_text Link = codes "link fault"
 fault_text (OverCredit channel received announced) =

@@ -9,5 +9,6 @@ pub mod LinesUnderWay
 pub mod Sources
 pub mod TextFaults
 pub mod Scripts
+pub mod SelfRuns
 pub mod ScriptParts
 pub mod Run

@@ -4,33 +4,31 @@ use Rattle.flow_defs.specs.declared.job.Job.{Job}
 use Rattle.flow_defs.specs.declared.task.ChannelId.{ChannelId}
 use Rattle.flow_defs.specs.Jobs.{segments_needed, tasks}
 use Rattle.flow_defs.specs.Lines.{lines}
-use Rattle.flow_defs.specs.Tables.{table_text}
+use Rattle.flow_defs.specs.Tables.{Values, table_text}
 use Rattle.plain_machine.specs.Worth.{tally}
 use Rattle.stage_fns.specs.Functions.{Functions}
 use Rattle.job_text.specs.declared.fault.JobFault.{JobFault}
 use Rattle.job_text.specs.declared.words.RunOptions.{RunOptions}
-use Rattle.job_text.specs.Words.{IsRun, IsScript, IsGen, IsInspect, usage_fault}
+use Rattle.job_text.specs.Words.{IsRun, IsScript, IsGen, IsSelfRun, IsInspect, usage_fault}
 use Rattle.job_text.specs.JobText.{IsJobText}
 use Rattle.job_text.specs.JobFaults.{first_fault}
 use Rattle.job_cli.specs.declared.run.TheConstants.{JOB_MAX}
 use Rattle.job_cli.specs.declared.fault.Fault.{Fault}
-use Rattle.job_cli.specs.declared.fault.Fault.TheVariants.{Usage, JobLine, ScriptLine, JobInput, ScriptInput, SourceInput, Keeper, Output, HoldsImage, HoldsNoImage, NotImage, LongJob, LongScript, LongLine, BigSource, TooFewSegments, Link, OverCredit, Peer, Memory}
+use Rattle.job_cli.specs.declared.fault.Fault.TheVariants.{Usage, JobLine, ScriptLine, JobInput, ScriptInput, SourceInput, Keeper, Output, HoldsImage, HoldsNoImage, NotImage, LongJob, LongScript, LongLine, BigSource, BigImage, TooFewSegments, Link, OverCredit, Peer, Memory}
 use Rattle.job_cli.specs.Causes.{status_of}
 use Rattle.job_cli.specs.FaultTexts.{fault_line}
 use Rattle.job_cli.specs.Front.{GotFront}
 use Rattle.outside.specs.Keepers.{KeptImage}
 use Rattle.job_plan.specs.Limits.{IsOverLimit}
 use Rattle.job_outcome.specs.Grounds.{IsOverByOne}
-use Rattle.job_cli.specs.Sources.{source_name, IsOfSource, IsRunFault}
+use Rattle.job_outcome.specs.Storing.{EndsIn, HasStored}
+use Rattle.job_cli.specs.Sources.{TellsSources, HasLargeImage, IsOfSource, IsSourceFault}
 use Rattle.job_cli.specs.Held.{HoldsLast, HoldsNone}
 use Rattle.job_cli.specs.Inspects.{Inspects, IsNoImageAt, HasNoneToShow}
 use Rattle.job_cli.specs.declared.script.TheConstants.{SCRIPT_MAX}
 use Rattle.job_cli.specs.Scripts.{NamesScript, IsScriptWith, HasTooFew, HasBadLine, ScriptRunsTo, HasScripted, HasScriptedInPart}
+use Rattle.job_cli.specs.SelfRuns.{NamesSelfRun, SelfRunsTo, StartsSelfRun, self_text}
 use Rattle.line_generator.specs.Generated.{generated}
-
--- The job's sources are told to have these bytes.
-abbrev pub TellsSources : Job → (List ℕ → Option (List ℕ)) → (ℕ → List ℕ) → Type 0
-TellsSources job contents bytes = (a : ℕ) → a < tasks job 0 → contents (source_name job a) ≡ Some (bytes a)
 
 -- The words are a command's.
 abbrev pub NamesCommand : List (List ℕ) → Type 0
@@ -38,6 +36,7 @@ NamesCommand words =
     ((job : List ℕ) × (options : RunOptions) × IsRun words job options)
     ⊎ ((file : List ℕ) × IsScript words file)
     ⊎ ((lines : ℕ) × (seed : ℕ) × IsGen words lines seed)
+    ⊎ ((lines : ℕ) × (seed : ℕ) × IsSelfRun words lines seed)
     ⊎ IsInspect words
 
 -- None of a job's sources passes a limit.
@@ -81,6 +80,10 @@ NamesReadyJob words functions contents P = NamesGoodJob words functions contents
 abbrev pub StartsJob : List (List ℕ) → Functions → (List ℕ → Option (List ℕ)) → Option (List KeptImage) → (Job → Type 0) → Type 0
 StartsJob words functions contents held P = HoldsNone held × NamesReadyJob words functions contents P
 
+-- The words name a job that has P under its options, and give it such a pool, and the keeper holds no image of an earlier one.
+abbrev pub StartsRun : List (List ℕ) → Functions → (List ℕ → Option (List ℕ)) → Option (List KeptImage) → (RunOptions → Job → Type 0) → Type 0
+StartsRun words functions contents held P = HoldsNone held × NamesGoodJob words functions contents (λ options job. HasPool options job × P options job)
+
 -- The words name a job that may start. Whatever its sources are told to have is within their limits, and P holds of the text of their
 -- tally.
 abbrev pub RunsTo : List (List ℕ) → Functions → (List ℕ → Option (List ℕ)) → Option (List KeptImage) → (List ℕ → Type 0) → Type 0
@@ -100,9 +103,9 @@ HasRunInPart words functions contents held before after = RunsTo words functions
 abbrev pub GensTo : List (List ℕ) → (List ℕ → Type 0) → Type 0
 GensTo words P = (lines : ℕ) × (seed : ℕ) × IsGen words lines seed × P (generated seed lines)
 
--- The words name a job or a script, ask for lines, or for what the keeper holds, and P holds of what is printed of it.
+-- The words name a job or a script, ask for lines, for a run over such, or for what the keeper holds, and P holds of what is printed of it.
 abbrev pub Prints : List (List ℕ) → Functions → (List ℕ → Option (List ℕ)) → Option (List KeptImage) → (List ℕ → Type 0) → Type 0
-Prints words functions contents held P = RunsTo words functions contents held P ⊎ ScriptRunsTo words contents P ⊎ GensTo words P ⊎ Inspects words held P
+Prints words functions contents held P = RunsTo words functions contents held P ⊎ ScriptRunsTo words contents P ⊎ GensTo words P ⊎ SelfRunsTo words functions P ⊎ Inspects words held P
 
 -- The output got all that the command is to print, or a front of it, and nothing else.
 abbrev pub HasDone : List (List ℕ) → Functions → (List ℕ → Option (List ℕ)) → Option (List KeptImage) → Option (List ℕ) → Option (List ℕ) → Type 0
@@ -110,6 +113,7 @@ HasDone words functions contents held before after =
     HasRun words functions contents held before after
     ⊎ HasScripted words contents before after
     ⊎ GensTo words (λ text. IfSome before (λ had. after ≡ Some (had ++ text)))
+    ⊎ SelfRunsTo words functions (λ text. IfSome before (λ had. after ≡ Some (had ++ text)))
     ⊎ Inspects words held (λ text. IfSome before (λ had. after ≡ Some (had ++ text)))
 
 abbrev pub HasDoneInPart : List (List ℕ) → Functions → (List ℕ → Option (List ℕ)) → Option (List KeptImage) → Option (List ℕ) → Option (List ℕ) → Type 0
@@ -117,22 +121,26 @@ HasDoneInPart words functions contents held before after =
     HasRunInPart words functions contents held before after
     ⊎ HasScriptedInPart words contents before after
     ⊎ GensTo words (λ text. IfSome before (λ had. GotFront had text after))
+    ⊎ SelfRunsTo words functions (λ text. IfSome before (λ had. GotFront had text after))
     ⊎ Inspects words held (λ text. IfSome before (λ had. GotFront had text after))
 
 -- The fault is the first of the words, or of the text of the job or the script that they name, or else one of that job's pool, its
--- sources or its exchange, or of that script's pool, or of what the keeper holds once the pool was compared, as far as these are told. It
--- is none of a link: those of a job are in memory.
+-- sources, its exchange or its images, or of that script's pool, or of what the keeper holds once the pool was compared, as far as these
+-- are told. It is none of a link: those of a job are in memory.
 abbrev pub IsFaultOf : List (List ℕ) → Functions → (List ℕ → Option (List ℕ)) → Option (List KeptImage) → Fault → Type 0
 IsFaultOf words functions contents held (Usage kind) = usage_fault words ≡ Some kind
 IsFaultOf words functions contents held JobInput = NamesJob words contents (λ text. ⊤)
 IsFaultOf words functions contents held LongJob = NamesJob words contents (λ text. JOB_MAX < length text)
-IsFaultOf words functions contents held (JobLine line kind) = NamesJob words contents (λ text. (length text ≤ JOB_MAX) × (first_fault functions text ≡ Some (line, kind)))
-IsFaultOf words functions contents held (SourceInput a) = StartsJob words functions contents held (λ job. IsRunFault job contents (SourceInput a))
-IsFaultOf words functions contents held (LongLine a) = StartsJob words functions contents held (λ job. IsRunFault job contents (LongLine a))
-IsFaultOf words functions contents held (BigSource a) = StartsJob words functions contents held (λ job. IsRunFault job contents (BigSource a))
+IsFaultOf words functions contents held (JobLine line kind) =
+    NamesJob words contents (λ text. (length text ≤ JOB_MAX) × (first_fault functions text ≡ Some (line, kind)))
+    ⊎ (NamesSelfRun words × (first_fault functions self_text ≡ Some (line, kind)))
+IsFaultOf words functions contents held (SourceInput a) = StartsJob words functions contents held (λ job. IsSourceFault job contents (SourceInput a))
+IsFaultOf words functions contents held (LongLine a) = StartsJob words functions contents held (λ job. IsSourceFault job contents (LongLine a))
+IsFaultOf words functions contents held (BigSource a) = StartsJob words functions contents held (λ job. IsSourceFault job contents (BigSource a))
+IsFaultOf words functions contents held BigImage = StartsRun words functions contents held (λ options job. HasLargeImage job options.every contents)
 IsFaultOf words functions contents held Link = ⊥
-IsFaultOf words functions contents held (OverCredit channel received announced) = StartsJob words functions contents held (λ job. ⊤) × IsOverByOne received announced
-IsFaultOf words functions contents held (Peer fault) = StartsJob words functions contents held (λ job. ⊤)
+IsFaultOf words functions contents held (OverCredit channel received announced) = (StartsJob words functions contents held (λ job. ⊤) ⊎ StartsSelfRun words functions) × IsOverByOne received announced
+IsFaultOf words functions contents held (Peer fault) = StartsJob words functions contents held (λ job. ⊤) ⊎ StartsSelfRun words functions
 IsFaultOf words functions contents held ScriptInput = NamesScript words contents (λ text. ⊤)
 IsFaultOf words functions contents held LongScript = NamesScript words contents (λ text. SCRIPT_MAX < length text)
 IsFaultOf words functions contents held (ScriptLine line) = NamesScript words contents (HasBadLine line)
@@ -171,14 +179,15 @@ IsHindered words functions contents held =
 abbrev pub IsNoJob : Functions → List ℕ → Type 0
 IsNoJob functions text = (length text ≤ JOB_MAX) × ((fault : ℕ × JobFault) × (first_fault functions text ≡ Some fault))
 
--- The text is over its limit, or that of a job that needs more segments than the pool has, or of one with a source over a limit.
+-- The text is over its limit, or that of a job that needs more segments than the pool has, or of one with a source over a limit or an
+-- image that is too large.
 abbrev pub IsOverLimits : Functions → (List ℕ → Option (List ℕ)) → RunOptions → List ℕ → Type 0
 IsOverLimits functions contents options text =
     (JOB_MAX < length text)
     ⊎ ((job : Job) × IsJobText functions text job
-    × ((options.pool < segments_needed job) ⊎ ((a : ℕ) × IsOfSource job contents a IsOverLimit)))
+    × ((options.pool < segments_needed job) ⊎ ((a : ℕ) × IsOfSource job contents a IsOverLimit) ⊎ HasLargeImage job options.every contents))
 
--- The words name a job, and a limit of its text, its pool or its sources is passed.
+-- The words name a job, and a limit of its text, its pool, its sources or its images is passed.
 abbrev pub PassesLimit : List (List ℕ) → Functions → (List ℕ → Option (List ℕ)) → Type 0
 PassesLimit words functions contents = NamesRun words contents (IsOverLimits functions contents)
 
@@ -194,3 +203,15 @@ pub record TellsRun (words : List (List ℕ)) (functions : Functions) (contents 
   pub tells : TellsJob words contents options text
   pub fits : length text ≤ JOB_MAX
   pub is_job : IsJobText functions text job
+
+-- The words are those of a run.
+abbrev pub NamesAnyRun : List (List ℕ) → Type 0
+NamesAnyRun words = (job : List ℕ) × (options : RunOptions) × IsRun words job options
+
+-- The images that a run of the job stored are a chain over the lines of these bytes.
+abbrev pub HasChain : RunOptions → Job → (ℕ → List ℕ) → Option (List KeptImage) → Option (List KeptImage) → Type 0
+HasChain options job bytes held after = HasStored job (λ a. lines (bytes a)) options.every held after
+
+-- Its last image is marked so, and P holds of the table of that image.
+abbrev pub EndsWith : RunOptions → Job → (ℕ → List ℕ) → Option (List KeptImage) → Option (List KeptImage) → (Values → Type 0) → Type 0
+EndsWith options job bytes held after P = (table : Values) × EndsIn job (λ a. lines (bytes a)) options.every held after table × P table

@@ -7,9 +7,10 @@ use Rattle.flow_defs.specs.Jobs.{tasks}
 use Rattle.flow_defs.specs.Lines.{lines}
 use Rattle.job_plan.specs.declared.limits.TheConstants.{SOURCE_MAX}
 use Rattle.job_cli.specs.declared.fault.Fault.{Fault}
-use Rattle.job_cli.specs.declared.fault.Fault.TheVariants.{SourceInput, LongLine, BigSource, Link, OverCredit, Peer, Memory}
+use Rattle.job_cli.specs.declared.fault.Fault.TheVariants.{SourceInput, Keeper, LongLine, BigSource, BigImage, Link, OverCredit, Peer, Memory}
 use Rattle.job_plan.specs.Limits.{HasLongLine}
 use Rattle.job_outcome.specs.Grounds.{IsOverByOne}
+use Rattle.job_outcome.specs.Storing.{IsTooLarge}
 
 -- The file that a source of a job names.
 abbrev pub source_name : Job → ℕ → List ℕ
@@ -19,6 +20,14 @@ source_name job a = option_map_or (λ (file : Items ℕ). file.items) (slice_get
 abbrev pub IsOfSource : Job → (List ℕ → Option (List ℕ)) → ℕ → (List ℕ → Type 0) → Type 0
 IsOfSource job contents a P = (a < tasks job 0) × IfSome (contents (source_name job a)) P
 
+-- The job's sources are told to have these bytes.
+abbrev pub TellsSources : Job → (List ℕ → Option (List ℕ)) → (ℕ → List ℕ) → Type 0
+TellsSources job contents bytes = (a : ℕ) → a < tasks job 0 → contents (source_name job a) ≡ Some (bytes a)
+
+-- Where its sources are told to have some bytes, an image of the job over their lines, with checkpoints behind so many, is too large.
+abbrev pub HasLargeImage : Job → Option ℕ → (List ℕ → Option (List ℕ)) → Type 0
+HasLargeImage job every contents = (bytes : ℕ → List ℕ) → TellsSources job contents bytes → IsTooLarge job (λ a. lines (bytes a)) every
+
 -- A source of the job has this fault. Sources are read at once, so others may have one too.
 abbrev pub IsSourceFault : Job → (List ℕ → Option (List ℕ)) → Fault → Type 0
 IsSourceFault job contents (SourceInput a) = IsOfSource job contents a (λ bytes. ⊤)
@@ -27,13 +36,15 @@ IsSourceFault job contents (BigSource a) = IsOfSource job contents a (λ bytes. 
 IsSourceFault job contents Memory = ⊤
 IsSourceFault job contents fault = ⊥
 
--- A run of the job over the exchange has this fault. Its links are in memory, and none of their calls is to fail. Nothing is said of when
--- the other end of a connection has a fault beyond its numbers.
-abbrev pub IsRunFault : Job → (List ℕ → Option (List ℕ)) → Fault → Type 0
-IsRunFault job contents Link = ⊥
-IsRunFault job contents (OverCredit channel received announced) = IsOverByOne received announced
-IsRunFault job contents (Peer fault) = ⊤
-IsRunFault job contents fault = IsSourceFault job contents fault
+-- A run of the job over the exchange has this fault, with checkpoints behind so many lines. Its links are in memory, and none of their calls
+-- is to fail. Nothing is said of when the keeper is at fault, or the other end of a connection beyond its numbers.
+abbrev pub IsRunFault : Job → Option ℕ → (List ℕ → Option (List ℕ)) → Fault → Type 0
+IsRunFault job every contents Keeper = ⊤
+IsRunFault job every contents Link = ⊥
+IsRunFault job every contents BigImage = HasLargeImage job every contents
+IsRunFault job every contents (OverCredit channel received announced) = IsOverByOne received announced
+IsRunFault job every contents (Peer fault) = ⊤
+IsRunFault job every contents fault = IsSourceFault job contents fault
 
 -- ---- the inputs of the sources
 

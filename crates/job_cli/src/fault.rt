@@ -69,6 +69,8 @@ pub enum Fault {
     BigSource {
         source: u32,
     },
+    /// An image is too large for its format.
+    BigImage,
     /// The pool has fewer segments than the job's channels need, or those of the connection that the script opens.
     TooFewSegments {
         have: u32,
@@ -105,7 +107,7 @@ impl Fault {
             Fault::Output => 7,
             Fault::HoldsImage { .. } | Fault::HoldsNoImage | Fault::NotImage { .. } => 8,
             Fault::LongJob | Fault::LongScript => 10,
-            Fault::LongLine { .. } | Fault::BigSource { .. } => 10,
+            Fault::LongLine { .. } | Fault::BigSource { .. } | Fault::BigImage => 10,
             Fault::TooFewSegments { .. } => 10,
             Fault::OverCredit { .. } => 11,
             Fault::Peer { .. } => 12,
@@ -145,6 +147,7 @@ impl Fault {
                 numbered("source ", source as u64),
                 plain(": over 1099511627776"),
             ),
+            Fault::BigImage => alone(plain("image over 4294967295")),
             Fault::TooFewSegments { have, need } => both(
                 numbered("pool has ", have as u64),
                 numbered(", needs ", need as u64),

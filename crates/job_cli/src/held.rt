@@ -1,7 +1,8 @@
 // Asks a keeper for what it holds.
-ghost use Rattle.std.specs.Prelude.{◌≡◌, ◌≤◌, IfOk, IfErr, IfSome, OnOk};
+ghost use Rattle.std.specs.Prelude.{◌≡◌, ◌≤◌, ℕ, IfOk, IfErr, IfSome, OnOk};
 ghost use Rattle.outside.specs.Faults.{HasRisen};
-ghost use Rattle.outside.specs.Keepers.{IsLastOf};
+ghost use Rattle.outside.specs.Keepers.{IsAbove, IsAboveLast, IsLastOf};
+ghost use Rattle.job_workers.specs.Collecting.{TakesImages};
 ghost use Rattle.job_cli.specs.Causes.{status_of};
 ghost use Rattle.job_cli.specs.Held.{HoldsNone, IsHeldFault, IsKeeperFault};
 
@@ -12,6 +13,7 @@ use std::alloc::Global;
 /// The last image that the keeper holds, if there is one. It costs its length.
 pub fn ask_last<K: Keeper>(alloc: Global, keeper: &mut K) -> Result<Option<Kept>, Fault>
     ensures told { IfOk result (λ last. IfSome (K.images keeper.old) (λ images. IsLastOf images last)) }
+    ensures above { IfOk result (λ last. (number : ℕ) → IsAbove last number → IsAboveLast (K.images keeper.new) number) }
     ensures fault { IfErr result IsKeeperFault }
     ensures keeper { IfErr result (λ fault. status_of fault ≡ 5 → HasRisen (K.faults keeper.old) (K.faults keeper.new)) }
     ensures same { K.images keeper.new ≡ K.images keeper.old }
@@ -24,9 +26,10 @@ pub fn ask_last<K: Keeper>(alloc: Global, keeper: &mut K) -> Result<Option<Kept>
     }
 }
 
-/// Sees that the keeper holds no image. A run begins without one.
+/// Sees that the keeper holds no image. A run begins without one, and the keeper takes its images from number 1 on.
 pub fn refuse_held<K: Keeper>(alloc: Global, keeper: &mut K) -> Result<(), Fault>
     ensures none { OnOk result (HoldsNone (K.images keeper.old)) }
+    ensures takes { OnOk result (TakesImages (K.images keeper.new)) }
     ensures fault { IfErr result (IsHeldFault (K.images keeper.old)) }
     ensures keeper { IfErr result (λ fault. status_of fault ≡ 5 → HasRisen (K.faults keeper.old) (K.faults keeper.new)) }
     ensures same { K.images keeper.new ≡ K.images keeper.old }

@@ -6,7 +6,7 @@ ghost use Rattle.flow_defs.specs.Jobs.{tasks};
 ghost use Rattle.flow_defs.specs.Stages.{IsToken};
 ghost use Rattle.outside.specs.Faults.{HasRisen};
 ghost use Rattle.job_cli.specs.Causes.{status_of};
-ghost use Rattle.job_cli.specs.Sources.{AreInputsOf, HasFaulty, IsRunFault};
+ghost use Rattle.job_cli.specs.Sources.{AreInputsOf, HasFaulty, IsSourceFault};
 
 use crate::fault::Fault;
 use flow_defs::{Job, ListOf};
@@ -29,7 +29,7 @@ where
     requires room { 8 ≤ inputs.old.room }
     ensures found { OnOk result (length inputs.new.items ≡ tasks job.now 0) }
     ensures told { AreInputsOf F.Input.left F.Input.faults job.now (F.contents files.old) inputs.new.items }
-    ensures fault { IfErr result (IsRunFault job.now (F.contents files.old)) }
+    ensures fault { IfErr result (IsSourceFault job.now (F.contents files.old)) }
     ensures input { IfErr result (λ fault. status_of fault ≡ 4 → HasRisen (F.faults files.old) (F.faults files.new)) }
     ensures no_output { IfErr result (λ fault. status_of fault ≡ 7 → ⊥) }
     ensures lent { F.lent files.new ≡ F.lent files.old + length inputs.new.items }

@@ -9,11 +9,11 @@ use std::test::Fail;
 const JOB: &str = "source in\naggregate count 1\n";
 
 // The last image of a run of this job over `a`, `b` and `a`, 121 bytes.
-const LAST: &[u8] =
+pub(crate) const LAST: &[u8] =
     b"FLWI\x01\0\0\0\0\0\0\0\x01\x01\0\0\0\x1csource in\naggregate count 1\n\0\0\0\0\0\0\0\x03\x01\0\0\0\0\0\0\0\x03\0\0\0\x02\0\0\0\x01a\0\0\0\0\0\0\0\x02\0\0\0\x01b\0\0\0\0\0\0\0\x01\0\0\0\x01\0\0\0\0\0\0\0\0\0\0\0\x03\0\0\0\0\0\0\0\0IWLF";
 
 // What is shown of it.
-const SHOWN: &str =
+pub(crate) const SHOWN: &str =
     "image 1\nlast yes\nsource 0 offset 3 ended yes\ntask 0 0 emitted 3\ntable 0 keys 2\ntake 1 0 runs 1 records 3\nchannel 0 0 0 in 0 out 0\n";
 
 // A keeper of the image of these bytes under this number, or of none where the number is 0. Its call of this number
@@ -97,7 +97,12 @@ fn what_the_keeper_holds_is_shown_or_refused(rt: HostRuntime) -> Result<(), Fail
         assert_eq!(rt; left, status, "`{words}`: {told}");
         assert_eq!(rt; out.bytes(), got.as_bytes(), "`{words}`: {told}");
         assert_eq!(rt; err.bytes(), told.as_bytes(), "`{words}`: {told}");
-        assert_eq!(rt; keeper.images().len(), held);
+        let more = if got.starts_with("a\t") { 1 } else { 0 };
+        assert_eq!(rt;
+            keeper.images().len(),
+            held.saturating_add(more),
+            "`{words}`: {told}"
+        );
     }
     Ok(())
 }

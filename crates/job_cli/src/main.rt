@@ -1,14 +1,17 @@
 //! Runs a job: counts what its stages make of the lines of its sources, as the job's text says, and
-//! prints the counts. Its tasks run at once, joined by the exchange over links in memory. Or does a
-//! script: drives both ends of a connection, event by event, and prints what is replied to each. Or
-//! shows the last image that a keeper holds of a job's checkpoints.
+//! prints the counts. Its tasks run at once, joined by the exchange over links in memory, and images of
+//! its checkpoints go to a keeper. Or does a script: drives both ends of a connection, event by event, and
+//! prints what is replied to each. Or runs a job over lines that are made of a seed, and prints what that comes
+//! to. Or shows the last image that a keeper holds.
 //!
 //! It stands on the crates of the machine, of the texts and of the exchange. `top` is the program over
 //! the world that it is handed; what it answers and writes is said by its contract, in the words of
-//! `specs/Run.antt`, `specs/Scripts.antt` and `specs/Inspects.antt`. `main` hands it the real files, a
+//! `specs/Run.antt`, `specs/Scripts.antt`, `specs/SelfRuns.antt` and `specs/Inspects.antt`. `main` hands it the real files, a
 //! keeper in memory that holds nothing, the standard output and the output for errors.
 #![tactic(auto)]
 
+#[cfg(test)]
+mod checkpoint_tests;
 mod exchange;
 mod fault;
 mod held;
@@ -24,6 +27,9 @@ mod output;
 mod program;
 mod run;
 mod script;
+mod selfrun;
+#[cfg(test)]
+mod slow_machine;
 #[cfg(test)]
 mod tests;
 mod top;

@@ -11,8 +11,8 @@ ghost use Rattle.job_plan.specs.Limits.{HasLongLine, IsOverLimit};
 ghost use Rattle.job_plan.specs.Plans.{CanRun};
 ghost use Rattle.job_cli.specs.Causes.{of_source, status_of};
 ghost use Rattle.job_cli.specs.Counting.{add_lines};
-ghost use Rattle.job_cli.specs.Run.{AreWithinLimits, TellsSources};
-ghost use Rattle.job_cli.specs.Sources.{IsSourceFault};
+ghost use Rattle.job_cli.specs.Run.{AreWithinLimits};
+ghost use Rattle.job_cli.specs.Sources.{TellsSources, IsSourceFault};
 
 mod lines;
 mod plan;

@@ -12,7 +12,7 @@ use std::sync::Wait;
 use std::thread::Threads;
 
 /// Calls `top` with the four functions of stages and the three of aggregates.
-pub fn run_program<R: Threads + Wait + Sync, F: Files, K: Keeper, O: Sink, E: Sink>(
+pub fn run_program<R: Threads + Wait + Sync, F: Files, K: Keeper + Send, O: Sink, E: Sink>(
     rt: &R,
     alloc: Global,
     command: &ListOf<Word>,
@@ -33,7 +33,7 @@ where
     }
 }
 
-fn with_functions<R: Threads + Wait + Sync, F: Files, K: Keeper, O: Sink, E: Sink>(
+fn with_functions<R: Threads + Wait + Sync, F: Files, K: Keeper + Send, O: Sink, E: Sink>(
     rt: &R,
     alloc: Global,
     command: &ListOf<Word>,

@@ -1,15 +1,21 @@
 // Does the command that the words are.
-ghost use Rattle.std.specs.Prelude.{◌≡◌, ◌≤◌, List, ℕ, IfOk, OnOk, length, Ok, None, IfErr, IfSome};
+ghost use Rattle.std.specs.Prelude.{◌≡◌, ◌≤◌, ◌++◌, List, ℕ, IfOk, OnOk, length, Ok, Some, None, IfErr, IfSome};
 ghost use Rattle.flow_defs.specs.Jobs.{IsJob};
+ghost use Rattle.flow_defs.specs.Tables.{table_text};
+ghost use Rattle.flow_defs.specs.declared.image.Image.{Image};
+ghost use Rattle.flow_defs.specs.declared.job.Job.{Job};
 ghost use Rattle.outside.specs.Faults.{HasRisen};
 ghost use Rattle.segment_pool.specs.Stocks.{IsSize, IsTotal};
 ghost use Rattle.stage_fns.specs.Kinds.{kinds};
 ghost use Rattle.job_plan.specs.Plans.{CanRun};
+ghost use Rattle.job_outcome.specs.Storing.{HasKept};
+ghost use Rattle.job_text.specs.declared.words.RunOptions.{RunOptions};
 ghost use Rattle.job_text.specs.Words.{HasRanges, IsRun, IsCommand, usage_fault};
 ghost use Rattle.job_text.specs.JobText.{IsJobText};
 ghost use Rattle.job_text.specs.JobFaults.{first_fault};
 ghost use Rattle.job_cli.specs.Causes.{status_of, of_job_file};
-ghost use Rattle.job_cli.specs.Run.{RunsTo, Prints, HasDone, HasDoneInPart, HasPool, IsFaultOf, NamesCommand};
+ghost use Rattle.job_cli.specs.Run.{RunsTo, Prints, HasChain, HasDone, HasDoneInPart, HasPool, EndsWith, IsFaultOf, NamesAnyRun, NamesCommand, TellsRun};
+ghost use Rattle.job_cli.specs.Sources.{TellsSources};
 ghost use Rattle.job_cli.specs.TextFaults.{IsWordFault, IsJobFileFault, IsSmallPoolFault, IsTextFault};
 
 use crate::exchange::table_by_exchange;
@@ -19,8 +25,9 @@ use crate::input::{InputFault, read_file};
 use crate::inspect::show_last;
 use crate::output::{OutputFault, table_text, write_all};
 use crate::script::replies_of_file;
+use crate::selfrun::selfrun_text;
 use flow_defs::{Bytes, Job, ListOf, Word, needed};
-use job_text::laws::job_texts_are_clear;
+use job_text::laws::{job_texts_are_clear, words_are_clear};
 use job_text::{Command, JobReadFault, RunOptions, WordFault, read_job, read_words};
 use line_generator::generate;
 use outside::{Files, Keeper, Sink};
@@ -54,7 +61,7 @@ fn job_file_fault(fault: InputFault) -> Fault
 }
 
 /// Does the command that the words are. All that it prints is made before the first byte is written.
-pub fn run<R: Threads + Wait + Sync, F: Files, K: Keeper, O: Sink>(
+pub fn run<R: Threads + Wait + Sync, F: Files, K: Keeper + Send, O: Sink>(
     rt: &R,
     alloc: Global,
     words: &ListOf<Word>,
@@ -72,7 +79,14 @@ where
     ensures output { IfErr result (λ fault. status_of fault ≡ 7 → HasRisen (O.faults out.old) (O.faults out.new)) }
     ensures silent { IfErr result (λ fault. (status_of fault ≡ 7 → ⊥) → O.got out.new ≡ O.got out.old) }
     ensures front { IfErr result (λ fault. status_of fault ≡ 7 → HasDoneInPart words.now.items (kinds functions.now) (F.contents files.old) (K.images keeper.old) (O.got out.old) (O.got out.new)) }
-    ensures kept { K.images keeper.new ≡ K.images keeper.old }
+    ensures chain { (options : RunOptions) (job : Job) (bytes : ℕ → List ℕ) →
+        TellsRun words.now.items (kinds functions.now) (F.contents files.old) options job → TellsSources job (F.contents files.old) bytes →
+        HasChain options job bytes (K.images keeper.old) (K.images keeper.new) }
+    ensures last { result ≡ Ok tt → (options : RunOptions) (job : Job) (bytes : ℕ → List ℕ) →
+        TellsRun words.now.items (kinds functions.now) (F.contents files.old) options job → TellsSources job (F.contents files.old) bytes →
+        EndsWith options job bytes (K.images keeper.old) (K.images keeper.new) (λ table. IfSome (O.got out.old) (λ had. O.got out.new ≡ Some (had ++ table_text table))) }
+    ensures kept { (images : List Image) × HasKept (K.images keeper.old) (K.images keeper.new) images }
+    ensures kept_else { (NamesAnyRun words.now.items → ⊥) → K.images keeper.new ≡ K.images keeper.old }
     ensures given_back { F.lent files.new ≡ F.lent files.old }
 {
     let text = text_to_print(rt, alloc, words, functions, files, keeper)?;
@@ -83,7 +97,7 @@ where
 }
 
 // What the command that the words are is to print.
-fn text_to_print<R: Threads + Wait + Sync, F: Files, K: Keeper>(
+fn text_to_print<R: Threads + Wait + Sync, F: Files, K: Keeper + Send>(
     rt: &R,
     alloc: Global,
     words: &ListOf<Word>,
@@ -98,22 +112,32 @@ where
     ensures input { IfErr result (λ fault. status_of fault ≡ 4 → HasRisen (F.faults files.old) (F.faults files.new)) }
     ensures keeper { IfErr result (λ fault. status_of fault ≡ 5 → HasRisen (K.faults keeper.old) (K.faults keeper.new)) }
     ensures no_output { IfErr result (λ fault. status_of fault ≡ 7 → ⊥) }
-    ensures kept { K.images keeper.new ≡ K.images keeper.old }
+    ensures chain { (options : RunOptions) (job : Job) (bytes : ℕ → List ℕ) →
+        TellsRun words.now.items (kinds functions.now) (F.contents files.old) options job → TellsSources job (F.contents files.old) bytes →
+        HasChain options job bytes (K.images keeper.old) (K.images keeper.new) }
+    ensures last { IfOk result (λ text. (options : RunOptions) (job : Job) (bytes : ℕ → List ℕ) →
+        TellsRun words.now.items (kinds functions.now) (F.contents files.old) options job → TellsSources job (F.contents files.old) bytes →
+        EndsWith options job bytes (K.images keeper.old) (K.images keeper.new) (λ table. text.items ≡ table_text table)) }
+    ensures kept { (images : List Image) × HasKept (K.images keeper.old) (K.images keeper.new) images }
+    ensures kept_else { (NamesAnyRun words.now.items → ⊥) → K.images keeper.new ≡ K.images keeper.old }
     ensures given_back { F.lent files.new ≡ F.lent files.old }
 {
     let command = command_of(alloc, words)?;
+    words_are_clear();
     match command {
         Command::Run { job, options } => {
             tally_text(rt, alloc, job.text(), options, functions, files, keeper)
         }
         Command::Script { file } => replies_of_file(rt, alloc, file.text(), files),
         Command::Gen { lines, seed } => Ok(generate(alloc, lines, seed)?),
+        Command::SelfRun { lines, seed } => selfrun_text(rt, alloc, lines, seed, functions),
         Command::Inspect => show_last(alloc, keeper),
     }
 }
 
-// The text of the tally of the job in the file of this name. The keeper is asked before a source is looked for.
-fn tally_text<R: Threads + Wait + Sync, F: Files, K: Keeper>(
+// The text of the tally of the job in the file of this name. The keeper is asked before a source is looked for, and gets
+// the images of the job's checkpoints.
+fn tally_text<R: Threads + Wait + Sync, F: Files, K: Keeper + Send>(
     rt: &R,
     alloc: Global,
     name: &str,
@@ -124,7 +148,8 @@ fn tally_text<R: Threads + Wait + Sync, F: Files, K: Keeper>(
 ) -> Result<Bytes, Fault>
 where
     F::Input: Drop,
-    requires { IsTotal options.pool × IsSize options.segment }
+    requires range { IsTotal options.pool × IsSize options.segment }
+    requires every { IfSome options.every (λ n. 1 ≤ n) }
     ensures done { IfOk result (λ text. (words : List (List ℕ)) → IsRun words name.now options →
         RunsTo words (kinds functions.now) (F.contents files.old) (K.images keeper.old) (λ tally. text.items ≡ tally)) }
     ensures fault { IfErr result (λ fault. (words : List (List ℕ)) → IsRun words name.now options →
@@ -132,14 +157,21 @@ where
     ensures input { IfErr result (λ fault. status_of fault ≡ 4 → HasRisen (F.faults files.old) (F.faults files.new)) }
     ensures keeper { IfErr result (λ fault. status_of fault ≡ 5 → HasRisen (K.faults keeper.old) (K.faults keeper.new)) }
     ensures no_output { IfErr result (λ fault. status_of fault ≡ 7 → ⊥) }
-    ensures kept { K.images keeper.new ≡ K.images keeper.old }
+    ensures chain { (text : List ℕ) (job : Job) (bytes : ℕ → List ℕ) → F.contents files.old name.now ≡ Some text →
+        IsJobText (kinds functions.now) text job → TellsSources job (F.contents files.old) bytes →
+        HasChain options job bytes (K.images keeper.old) (K.images keeper.new) }
+    ensures last { IfOk result (λ printed. (text : List ℕ) (job : Job) (bytes : ℕ → List ℕ) → F.contents files.old name.now ≡ Some text →
+        IsJobText (kinds functions.now) text job → TellsSources job (F.contents files.old) bytes →
+        EndsWith options job bytes (K.images keeper.old) (K.images keeper.new) (λ table. printed.items ≡ table_text table)) }
+    ensures kept { (images : List Image) × HasKept (K.images keeper.old) (K.images keeper.new) images }
     ensures given_back { F.lent files.new ≡ F.lent files.old }
 {
+    job_texts_are_clear();
     let text = read_job_text(alloc, files, name)?;
     let job = job_of_text(alloc, text.as_slice(), functions)?;
     check_pool(&job, options)?;
     refuse_held(alloc, keeper)?;
-    let table = table_by_exchange(rt, alloc, &job, options, functions, files)?;
+    let table = table_by_exchange(rt, alloc, &job, options, functions, files, keeper)?;
     Ok(table_text(alloc, &table)?)
 }
 

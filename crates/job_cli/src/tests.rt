@@ -505,6 +505,74 @@ fn refuses_a_job_text_over_its_limit(rt: HostRuntime) -> Result<(), Fail> {
 }
 
 #[test]
+fn a_selfrun_tells_what_its_run_comes_to(rt: HostRuntime) -> Result<(), Fail> {
+    let alloc = rt.alloc();
+    for (words, text) in [
+        ("selfrun 0 9", "lines 0\nrecords 0\nkeys 0\nimages 2\n"),
+        ("selfrun 1 0", "lines 1\nrecords 2\nkeys 2\nimages 2\n"),
+        (
+            "selfrun 2000 7",
+            "lines 2000\nrecords 4000\nkeys 876\nimages 2\n",
+        ),
+        (
+            "selfrun 2000 7",
+            "lines 2000\nrecords 4000\nkeys 876\nimages 2\n",
+        ),
+    ] {
+        let files = files(alloc, COUNT, b"", "", 9, 0)?;
+        let left = left_by(&rt, alloc, words, files, 100, 100)?;
+        assert_eq!(rt; left.status, 0, "`{words}`");
+        assert_eq!(rt; left.out.bytes(), text.as_bytes(), "`{words}`");
+        assert_eq!(rt; left.err.bytes(), b"".as_slice());
+    }
+    Ok(())
+}
+
+// Does `selfrun` with these functions.
+fn left_by_selfrun<R: Threads + Wait + Sync>(
+    rt: &R,
+    alloc: Global,
+    functions: &FnTable,
+) -> Result<Left, AllocError> {
+    let mut files = files(alloc, COUNT, b"", "", 9, 0)?;
+    let mut out = sink(alloc, 100)?;
+    let mut err = sink(alloc, 100)?;
+    let words = words_of(alloc, "selfrun 1 0")?;
+    let status = top(
+        rt,
+        alloc,
+        &words,
+        functions,
+        &mut files,
+        &mut no_images(alloc),
+        &mut out,
+        &mut err,
+    );
+    Ok(Left { status, out, err })
+}
+
+#[test]
+fn a_selfrun_needs_its_functions(rt: HostRuntime) -> Result<(), Fail> {
+    let alloc = rt.alloc();
+    let mut functions = FnTable::new(alloc);
+    let left = left_by_selfrun(&rt, alloc, &functions)?;
+    assert_eq!(rt; left.status, 3);
+    assert_eq!(rt; left.err.bytes(), b"job line 2: no function\n".as_slice());
+    let f: StageFn = Box::new(
+        alloc,
+        |alloc: Global, arg: &[u8], record: &[u8], list: &mut ListOf<Bytes>| {
+            words(alloc, arg, record, list)
+        },
+    )?;
+    functions.add_stage(StageKind::Words, f)?;
+    let left = left_by_selfrun(&rt, alloc, &functions)?;
+    assert_eq!(rt; left.status, 3);
+    assert_eq!(rt; left.out.bytes(), b"".as_slice());
+    assert_eq!(rt; left.err.bytes(), b"job line 3: no function\n".as_slice());
+    Ok(())
+}
+
+#[test]
 fn refuses_a_kind_that_has_no_function(rt: HostRuntime) -> Result<(), Fail> {
     let alloc = rt.alloc();
     let mut functions = FnTable::new(alloc);

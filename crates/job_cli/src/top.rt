@@ -1,18 +1,23 @@
 // The program, over the world that it is handed.
-ghost use Rattle.std.specs.Prelude.{◌≡◌, ◌≢◌, ◌<◌, ◌⊎◌, List, ℕ, [], ◌∷◌, length, Some, Contains};
+ghost use Rattle.std.specs.Prelude.{◌≡◌, ◌≢◌, ◌<◌, ◌⊎◌, List, ℕ, [], ◌∷◌, ◌++◌, length, Some, IfSome, Contains};
 ghost use Rattle.flow_defs.specs.Jobs.{segments_needed, tasks};
+ghost use Rattle.flow_defs.specs.Lines.{lines};
+ghost use Rattle.flow_defs.specs.Tables.{table_text};
 ghost use Rattle.flow_defs.specs.declared.job.Job.{Job};
 ghost use Rattle.flow_defs.specs.declared.image.Image.{Image};
 ghost use Rattle.outside.specs.Faults.{HasRisen};
 ghost use Rattle.outside.specs.Keepers.{KeptImage};
 ghost use Rattle.stage_fns.specs.Kinds.{kinds};
 ghost use Rattle.job_plan.specs.Limits.{IsOverLimit};
-ghost use Rattle.job_text.specs.Words.{IsGen, IsInspect};
+ghost use Rattle.job_outcome.specs.Storing.{HasKept, IsTooLarge};
+ghost use Rattle.job_text.specs.Words.{IsGen, IsSelfRun, IsInspect};
 ghost use Rattle.job_text.specs.declared.words.RunOptions.{RunOptions};
 ghost use Rattle.job_cli.specs.Held.{TellsLast};
 ghost use Rattle.job_cli.specs.Inspects.{HasNoneToShow, IsKept};
-ghost use Rattle.job_cli.specs.Run.{NamesCommand, NamesJob, HasDone, HasDoneInPart, HasPool, HasToldOverCredit, IsHindered, IsNoJob, IsTold, PassesLimit, TellsJob, TellsRun, TellsSources, AreWithinLimits};
+ghost use Rattle.job_cli.specs.Run.{NamesAnyRun, NamesCommand, NamesJob, HasChain, HasDone, HasDoneInPart, HasPool, HasToldOverCredit, EndsWith, IsHindered, IsNoJob, IsTold, PassesLimit, TellsJob, TellsRun, AreWithinLimits};
+ghost use Rattle.job_cli.specs.Sources.{TellsSources};
 ghost use Rattle.job_cli.specs.Scripts.{NamesScript, HasEnough, IsNoScript, IsScriptWith, PassesScriptLimit, TellsScript};
+ghost use Rattle.job_cli.specs.SelfRuns.{HasFunctions, LacksFunction};
 ghost use Rattle.job_cli.specs.declared.run.TheConstants.{JOB_MAX};
 
 use crate::output::tell;
@@ -35,9 +40,10 @@ use std::thread::Threads;
 /// A run does all tasks of its job at once, each in a thread of its own where threads can be made, and reads its
 /// sources at once, in pieces. The tasks are joined by links in memory. Its memory grows with the keys, the longest
 /// line and what the stages give for it, and with the pool of segments; the order in which tasks come to their turns
-/// changes nothing in what is printed. A script is held whole, with all replies to it, and so are the lines that are
+/// changes nothing in what is printed. Its checkpoints are taken in line, and their images go to the keeper, the last one with
+/// the whole table. A script is held whole, with all replies to it, and so are the lines that are
 /// made of a seed and the image that is shown.
-pub fn top<R: Threads + Wait + Sync, F: Files, K: Keeper, O: Sink, E: Sink>(
+pub fn top<R: Threads + Wait + Sync, F: Files, K: Keeper + Send, O: Sink, E: Sink>(
     rt: &R,
     alloc: Global,
     words: &ListOf<Word>,
@@ -50,15 +56,17 @@ pub fn top<R: Threads + Wait + Sync, F: Files, K: Keeper, O: Sink, E: Sink>(
 where
     F::Input: Drop,
     // Status 0 comes only where all work was done: the pool was large enough, the keeper held no image, no source was over a limit, and
-    // the output got the text of the tally, the replies to all events of the script, the lines of the seed or those of the keeper's last
-    // image, and nothing else.
+    // the output got the text of the tally, the replies to all events of the script, the lines of the seed, what a run over such comes to,
+    // or the lines of the keeper's last image, and nothing else.
     ensures done { result ≡ 0 → HasDone words.now.items (kinds functions.now) (F.contents files.old) (K.images keeper.old) (O.got out.old) (O.got out.new) }
 
-    // Which status comes where the words are no command, the text is no job's or no script's, or a limit is passed.
+    // Which status comes where the words are no command, the text is no job's or no script's, a function of the job of `selfrun` is lacking,
+    // or a limit is passed.
     ensures usage { result ≡ 2 → NamesCommand words.now.items → ⊥ }
     ensures accepted { result ≢ 2 → NamesCommand words.now.items }
     ensures text { result ≡ 3 → NamesJob words.now.items (F.contents files.old) (IsNoJob (kinds functions.now))
-        ⊎ NamesScript words.now.items (F.contents files.old) IsNoScript }
+        ⊎ NamesScript words.now.items (F.contents files.old) IsNoScript
+        ⊎ LacksFunction words.now.items (kinds functions.now) }
     ensures text_refused { (options : RunOptions) (text : List ℕ) → TellsJob words.now.items (F.contents files.old) options text →
         IsNoJob (kinds functions.now) text → Contains (3 ∷ 4 ∷ 70 ∷ []) result }
     ensures script_refused { (text : List ℕ) → TellsScript words.now.items (F.contents files.old) text → IsNoScript text →
@@ -80,9 +88,21 @@ where
     ensures input { result ≡ 4 → HasRisen (F.faults files.old) (F.faults files.new) }
     ensures output { result ≡ 7 → HasRisen (O.faults out.old) (O.faults out.new) }
 
-    // A keeper's fault comes only where its count rose. It is asked, and keeps what it holds.
+    // A keeper's fault comes only where its count rose. Behind what it holds it keeps the spellings of some images, those of a run, and
+    // nothing else of it changes.
     ensures keeper { result ≡ 5 → HasRisen (K.faults keeper.old) (K.faults keeper.new) }
-    ensures kept { K.images keeper.new ≡ K.images keeper.old }
+    ensures kept { (images : List Image) × HasKept (K.images keeper.old) (K.images keeper.new) images }
+    ensures kept_else { (NamesAnyRun words.now.items → ⊥) → K.images keeper.new ≡ K.images keeper.old }
+
+    // Whatever the status, and whatever the order in which tasks and loops came to their turns: the images that a run stored are a chain
+    // from the start on, each the plain machine's successor of the one before it by the takes recorded in it, and nothing is in flight at
+    // any of them. With status 0 the last of them is marked so, and the output got the text of its table.
+    ensures chain { (options : RunOptions) (job : Job) (bytes : ℕ → List ℕ) →
+        TellsRun words.now.items (kinds functions.now) (F.contents files.old) options job → TellsSources job (F.contents files.old) bytes →
+        HasChain options job bytes (K.images keeper.old) (K.images keeper.new) }
+    ensures last { result ≡ 0 → (options : RunOptions) (job : Job) (bytes : ℕ → List ℕ) →
+        TellsRun words.now.items (kinds functions.now) (F.contents files.old) options job → TellsSources job (F.contents files.old) bytes →
+        EndsWith options job bytes (K.images keeper.old) (K.images keeper.new) (λ table. IfSome (O.got out.old) (λ had. O.got out.new ≡ Some (had ++ table_text table))) }
 
     // What the keeper holds hinders a job only where there is an image, and `inspect` only where there is none, or its bytes spell none of
     // its number; and in all these cases, where it tells its images.
@@ -101,12 +121,14 @@ where
     // runs out. That no other end of a connection has a fault is not said here.
     ensures complete { (options : RunOptions) (job : Job) (bytes : ℕ → List ℕ) →
         TellsRun words.now.items (kinds functions.now) (F.contents files.old) options job → TellsSources job (F.contents files.old) bytes →
-        HasPool options job → AreWithinLimits job bytes → K.images keeper.old ≡ Some [] →
+        HasPool options job → AreWithinLimits job bytes → (IsTooLarge job (λ a. lines (bytes a)) options.every → ⊥) → K.images keeper.old ≡ Some [] →
         (HasRisen (F.faults files.old) (F.faults files.new) → ⊥) → (HasRisen (K.faults keeper.old) (K.faults keeper.new) → ⊥) →
         (HasRisen (O.faults out.old) (O.faults out.new) → ⊥) →
         Contains (0 ∷ 11 ∷ 12 ∷ 70 ∷ []) result }
     ensures complete_gen { (lines seed : ℕ) → IsGen words.now.items lines seed → (HasRisen (O.faults out.old) (O.faults out.new) → ⊥) →
         Contains (0 ∷ 70 ∷ []) result }
+    ensures complete_selfrun { (lines seed : ℕ) → IsSelfRun words.now.items lines seed → HasFunctions (kinds functions.now) →
+        (HasRisen (O.faults out.old) (O.faults out.new) → ⊥) → Contains (0 ∷ 11 ∷ 12 ∷ 70 ∷ []) result }
     ensures complete_script { (text : List ℕ) → TellsScript words.now.items (F.contents files.old) text → IsScriptWith HasEnough text →
         (HasRisen (F.faults files.old) (F.faults files.new) → ⊥) → (HasRisen (O.faults out.old) (O.faults out.new) → ⊥) →
         Contains (0 ∷ 70 ∷ []) result }

@@ -20,7 +20,7 @@ use Rattle.job_cells.specs.Edges.{AreGatesAt, IsEdgeOf}
 use Rattle.job_cells.proofs.Lists.{in_front, at_last}
 use Rattle.job_deploy.specs.declared.senders.Senders.{Senders}
 use Rattle.job_deploy.specs.declared.takers.Takers.{Takers}
-use Rattle.job_deploy.specs.Placing.{AreGateCells, AreSenders, AreTakers, IsLentOf}
+use Rattle.job_deploy.specs.Placing.{AreGateCells, AreSenders, AreTakers, IsOverCells}
 use Rattle.job_deploy.proofs.Edges.{edge_few, gate_within}
 use Rattle.job_deploy.proofs.Orders.{stands_at}
 
@@ -87,31 +87,31 @@ module _ (job : Job) (e : ℕ) (edge : Edge) (before after : Takers) (own : Item
 
 -- ---- a partition
 
-pub partition_is : (job : Job) (e a size : ℕ) (edge : Edge) (partition : Partition) → IsJob job → e ≤ last_edge job → a < tasks job e → IsEdgeOf job e size edge → IsLentOf job e a edge partition →
-    partition.size ≡ size → slice_get edge.partitions.items a ≡ Some partition.pool.now →
+pub partition_is : (job : Job) (e a size : ℕ) (edge : Edge) (partition : Partition) → IsJob job → e ≤ last_edge job → a < tasks job e → IsEdgeOf job e size edge → IsOverCells job e a size edge partition →
+    slice_get edge.partitions.items a ≡ Some partition.pool.now →
     AreOwnAt edge.subpartitions.items a (tasks job e) (ways_on job e) partition.passes.subpartitions.items × AreNew partition.passes.subpartitions.items →
     IsPassOf partition.pool.now partition.passes.pool → IsPartitionOf job e a partition
-partition_is job e a size edge partition is low here are lent size_is stands own pool = record {
+partition_is job e a size edge partition is low here are over stands own pool = record {
   is_job = is;
   edge = low;
   index = here;
   passes = record {
-    own = subst (λ (cells : List SendCell). AreOwnAt cells partition.first partition.stride (ways_on job e) partition.passes.subpartitions.items) (sym lent.cells)
-        (subst (λ (first : ℕ). AreOwnAt edge.subpartitions.items first partition.stride (ways_on job e) partition.passes.subpartitions.items) (sym lent.first)
-        (subst (λ (stride : ℕ). AreOwnAt edge.subpartitions.items a stride (ways_on job e) partition.passes.subpartitions.items) (sym lent.stride) own.0));
+    own = subst (λ (cells : List SendCell). AreOwnAt cells partition.first partition.stride (ways_on job e) partition.passes.subpartitions.items) (sym over.cells)
+        (subst (λ (first : ℕ). AreOwnAt edge.subpartitions.items first partition.stride (ways_on job e) partition.passes.subpartitions.items) (sym over.first)
+        (subst (λ (stride : ℕ). AreOwnAt edge.subpartitions.items a stride (ways_on job e) partition.passes.subpartitions.items) (sym over.stride) own.0));
     pool = pool;
   };
   new = own.1;
   sizes = λ c cell inside at.
-      let there : slice_get edge.subpartitions.items (place_of partition.first partition.stride c) ≡ Some cell = ap (λ l. slice_get l (place_of partition.first partition.stride c)) (sym lent.cells) ∙ at in
+      let there : slice_get edge.subpartitions.items (place_of partition.first partition.stride c) ≡ Some cell = ap (λ l. slice_get l (place_of partition.first partition.stride c)) (sym over.cells) ∙ at in
       let within = slice_get_within edge.subpartitions.items (place_of partition.first partition.stride c) cell there in
       let read = get_or_from_slice_get edge.subpartitions.items (place_of partition.first partition.stride c) cell cell there in
-      ap (λ (x : SendCell). (opened_with x).size) (sym read) ∙ are.sizes (place_of partition.first partition.stride c) cell within ∙ sym size_is;
+      ap (λ (x : SendCell). (opened_with x).size) (sym read) ∙ are.sizes (place_of partition.first partition.stride c) cell within ∙ sym over.size_is;
   pool_size =
       let within = slice_get_within edge.partitions.items a partition.pool.now stands in
       let read = get_or_from_slice_get edge.partitions.items a partition.pool.now partition.pool.now stands in
-      ap (λ (x : PoolCell). size_of (pool_of (opened_with x))) (sym read) ∙ are.partition_sizes a partition.pool.now within ∙ sym size_is;
-  few = (let long = ap length lent.cells in let same = are.subpartitions in let few = edge_few job e size edge is low are in omega (arith, long, same, few));
+      ap (λ (x : PoolCell). size_of (pool_of (opened_with x))) (sym read) ∙ are.partition_sizes a partition.pool.now within ∙ sym over.size_is;
+  few = (let long = ap length over.cells in let same = are.subpartitions in let few = edge_few job e size edge is low are in omega (arith, long, same, few));
 }
 
 -- ---- the cells of a gate

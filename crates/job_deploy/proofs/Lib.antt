@@ -1,6 +1,7 @@
 pub mod Orders
 pub mod Edges
 pub mod Dealing
+pub mod Taking
 pub mod Rows
 pub mod Workers
 pub mod Lent

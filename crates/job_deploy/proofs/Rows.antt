@@ -1,5 +1,5 @@
 -- Tasks at their places.
-use Rattle.std.proofs.Common.{◌≡◌, ℕ, suc, ◌+◌, ◌<◌, List, length, Some, None, refl, sym, ap, subst, ◌∙◌, arith}
+use Rattle.std.proofs.Common.{◌≡◌, ℕ, suc, ◌<◌, List, length, Option, Some, refl, sym, ap, subst, ◌∙◌}
 use Rattle.std.specs.Prelude.{slice_get, reverse}
 use Rattle.flow_defs.specs.declared.job.Job.{Job}
 use Rattle.flow_defs.specs.Jobs.{last_edge, tasks}
@@ -7,32 +7,19 @@ use Rattle.input_gate.specs.Channels.{cells_in}
 use Rattle.input_gate.specs.Turning.{InputCell}
 use Rattle.record_writer.specs.declared.partition.Partition.{Partition}
 use Rattle.record_writer.specs.Partitions.{IsPartitionOf}
-use Rattle.task_run.specs.Tasks.{HasPartition}
+use Rattle.snapshot_channel.specs.declared.opened.SnapshotChannel.{SnapshotChannel}
 use Rattle.job_cells.specs.declared.edge.Edge.{Edge}
-use Rattle.job_workers.specs.declared.task.Lent.{Lent}
 use Rattle.job_workers.specs.declared.task.SourceTask.{SourceTask}
 use Rattle.job_workers.specs.declared.task.StageTask.{StageTask}
 use Rattle.job_workers.specs.declared.task.AggregateTask.{AggregateTask}
-use Rattle.job_workers.specs.Tasks.{MayStop, IsGateBehind}
+use Rattle.job_workers.specs.Tasks.{MayCheckpoint, IsGateBehind}
 use Rattle.job_deploy.specs.declared.senders.Senders.{Senders}
 use Rattle.job_deploy.specs.declared.takers.Takers.{Takers}
-use Rattle.job_deploy.specs.declared.stops.Stops.{Stops}
-use Rattle.job_deploy.specs.Deployed.{TaskPlace, IsPartitionAt, IsGateAt, IsSourceAt, IsStageAt, IsAggregateAt, AreSources, AreStage, AreAggregates}
+use Rattle.job_deploy.specs.declared.tasks.SourceLent.{SourceLent}
+use Rattle.job_deploy.specs.Deployed.{TaskPlace, IsPartitionAt, IsLentOf, IsGateAt, IsSourceAt, IsStageAt, IsAggregateAt, AreSources, AreStage, AreAggregates}
 use Rattle.job_deploy.specs.Lending.{AreLent, AreSendersAt, AreTakersAt, AreTurned, IsLentAt, AreSourcesOver, IsStagePlace, IsAggregatePlace}
-use Rattle.job_deploy.specs.Placing.{AreFewer, AreGateCells, AreSenders, AreStops, AreTakers, IsLentOf}
+use Rattle.job_deploy.specs.Placing.{AreGateCells, AreSenders, AreTakers, IsOverCells}
 use Rattle.job_deploy.proofs.Orders.{stands_at, in_order, length_turned}
-
--- ---- passes of the stop cell
-
-pub fewer_none : (stops : Stops) → AreStops stops → AreFewer 0 stops stops
-fewer_none stops are = record { cell = refl; are = are; fewer = omega arith }
-
-pub fewer_more : (n m k : ℕ) (a b c : Stops) → n + m ≡ k → AreFewer n a b → AreFewer m b c → AreFewer k a c
-fewer_more n m k a b c sum one two = record {
-  cell = two.cell ∙ one.cell;
-  are = two.are;
-  fewer = (let f = one.fewer in let g = two.fewer in omega (arith, f, g, sum));
-}
 
 -- ---- the passes of an edge
 
@@ -56,88 +43,96 @@ module _ (job : Job) (edges : List Edge) (e k : ℕ) (edge : Edge) (same : k ≡
   pub takers_there : (takers : Takers) → AreTakers job k edge takers → AreTakersAt job edges e takers
   takers_there takers are = record { edge = edge; stands = stands_here; are = subst (λ (j : ℕ). AreTakers job j edge takers) same are }
 
-  pub partition_at : (a : ℕ) (partition : Partition) → IsLentOf job k a edge partition → IsPartitionAt job edges e a (Some partition)
-  partition_at a partition lent = record {
-    edge = edge;
-    stands = stands_here;
-    partition = partition;
-    is_there = refl;
-    cells = lent.cells;
-    first = lent.first;
-    stride = lent.stride ∙ ap (tasks job) same;
-  }
+  pub partition_of : (a : ℕ) (partition : Partition) → IsPartitionOf job k a partition → IsPartitionOf job e a partition
+  partition_of a partition is = subst (λ (j : ℕ). IsPartitionOf job j a partition) same is
 
-  pub has_partition : (a : ℕ) (partition : Partition) → IsPartitionOf job k a partition → HasPartition job e a (Some partition)
-  has_partition a partition is = record { partition = partition; is_there = refl; is_of = subst (λ (j : ℕ). IsPartitionOf job j a partition) same is }
+  module _ (size : ℕ) (every : Option ℕ) (snapshots : SnapshotChannel) where
+    pub partition_at : (a : ℕ) (partition : Partition) → IsOverCells job k a size edge partition → IsPartitionAt job size every snapshots edges e a partition
+    partition_at a partition over = record {
+      edge = edge;
+      stands = stands_here;
+      cells = over.cells;
+      first = over.first;
+      stride = over.stride ∙ ap (tasks job) same;
+      size_is = over.size_is;
+    }
 
-  pub gate_at : (b : ℕ) (cells : List InputCell) → AreGateCells job k b edge cells → IsGateAt job edges e b cells
-  gate_at b cells are =
-      let are' : AreGateCells job e b edge cells = subst (λ (j : ℕ). AreGateCells job j b edge cells) same are in
-      record { edge = edge; stands = stands_here; many = are'.many; each = are'.each }
+    pub gate_at : (b : ℕ) (cells : List InputCell) → AreGateCells job k b edge cells → IsGateAt job size every snapshots edges e b cells
+    gate_at b cells are =
+        let are' : AreGateCells job e b edge cells = subst (λ (j : ℕ). AreGateCells job j b edge cells) same are in
+        record { edge = edge; stands = stands_here; many = are'.many; each = are'.each }
 
 -- ---- a task
 
-pub stage_at : (job : Job) (edges : List Edge) (e b : ℕ) (task : StageTask) → task.edge ≡ e → task.index ≡ b → e < last_edge job → b < tasks job (suc e) →
-    IsGateAt job edges e b (cells_in task.gate.lanes) → IsGateBehind job e task.gate → IsPartitionAt job edges (suc e) b task.lent.partition → HasPartition job (suc e) b task.lent.partition → MayStop task.lent →
-    IsStageAt job edges e b task
-stage_at job edges e b task edge_is index_is low here gate behind partition has stop = record {
-  edge = edge_is;
-  index = index_is;
-  gate = gate;
-  partition = partition;
-  may = record {
-    stage = subst (λ (j : ℕ). (j < last_edge job) × (task.index < tasks job (suc j))) (sym edge_is) (low, subst (λ (i : ℕ). i < tasks job (suc e)) (sym index_is) here);
-    gate = subst (λ (j : ℕ). IsGateBehind job j task.gate) (sym edge_is) behind;
-    partition = subst (λ (j : ℕ). HasPartition job (suc j) task.index task.lent.partition) (sym edge_is) (subst (λ (i : ℕ). HasPartition job (suc e) i task.lent.partition) (sym index_is) has);
-    stop = stop;
-  };
-}
-
-pub aggregate_at : (job : Job) (edges : List Edge) (b : ℕ) (task : AggregateTask) → task.index ≡ b → b < tasks job (suc (last_edge job)) →
-    IsGateAt job edges (last_edge job) b (cells_in task.gate.lanes) → IsGateBehind job (last_edge job) task.gate → task.lent.partition ≡ None → MayStop task.lent →
-    IsAggregateAt job edges b task
-aggregate_at job edges b task index_is here gate behind none stop = record {
-  index = index_is;
-  gate = gate;
-  may = record {
-    index = subst (λ (i : ℕ). i < tasks job (suc (last_edge job))) (sym index_is) here;
-    gate = behind;
-    none = none;
-    stop = stop;
-  };
-}
-
-pub source_at : {S : Type 0} (job : Job) (edges : List Edge) (inputs : List S) (a : ℕ) (task : SourceTask S) → task.index ≡ a → slice_get inputs a ≡ Some task.input → IsLentAt job edges a task.lent → IsSourceAt job edges inputs a task
-source_at job edges inputs a task index_is input lent = record {
-  index = index_is;
-  input = input;
-  partition = lent.at;
-  may = record {
-    partition = subst (λ (i : ℕ). HasPartition job 0 i task.lent.partition) (sym index_is) lent.has;
-    stop = lent.stop;
-  };
-}
-
--- ---- the rows
-
-module _ {S : Type 0} (job : Job) (edges : List Edge) where
-  pub stage_row_is : (e : ℕ) (acc row : List (TaskPlace S)) → row ≡ reverse acc → length acc ≡ tasks job (suc e) → AreTurned (IsStagePlace job edges e) (tasks job (suc e)) acc → AreStage job edges e row
-  stage_row_is e acc row is many each = record {
-    many = length_turned acc row is ∙ many;
-    each = λ b place at. let found = in_order (IsStagePlace job edges e) (tasks job (suc e)) acc row is many each b place at in (found.task, found.is, found.at);
+module _ (job : Job) (size : ℕ) (every : Option ℕ) (snapshots : SnapshotChannel) (edges : List Edge) where
+  pub stage_at : (e b : ℕ) (task : StageTask) → task.edge ≡ e → task.index ≡ b → e < last_edge job → b < tasks job (suc e) →
+      IsGateAt job size every snapshots edges e b (cells_in task.gate.lanes) → IsGateBehind job e task.gate → IsPartitionAt job size every snapshots edges (suc e) b task.partition → IsPartitionOf job (suc e) b task.partition →
+      IsLentOf job size every snapshots edges task.lent → MayCheckpoint job (suc e) b task.lent → IsStageAt job size every snapshots edges e b task
+  stage_at e b task edge_is index_is low here gate behind partition of lent may = record {
+    edge = edge_is;
+    index = index_is;
+    gate = gate;
+    partition = partition;
+    lent = lent;
+    may = record {
+      stage = subst (λ (j : ℕ). (j < last_edge job) × (task.index < tasks job (suc j))) (sym edge_is) (low, subst (λ (i : ℕ). i < tasks job (suc e)) (sym index_is) here);
+      gate = subst (λ (j : ℕ). IsGateBehind job j task.gate) (sym edge_is) behind;
+      partition = subst (λ (j : ℕ). IsPartitionOf job (suc j) task.index task.partition) (sym edge_is) (subst (λ (i : ℕ). IsPartitionOf job (suc e) i task.partition) (sym index_is) of);
+      may = subst (λ (j : ℕ). MayCheckpoint job (suc j) task.index task.lent) (sym edge_is) (subst (λ (i : ℕ). MayCheckpoint job (suc e) i task.lent) (sym index_is) may);
+    };
   }
 
-  pub aggregate_row_is : (acc row : List (TaskPlace S)) → row ≡ reverse acc → length acc ≡ tasks job (suc (last_edge job)) → AreTurned (IsAggregatePlace job edges) (tasks job (suc (last_edge job))) acc → AreAggregates job edges row
-  aggregate_row_is acc row is many each = record {
-    many = length_turned acc row is ∙ many;
-    each = λ b place at. let found = in_order (IsAggregatePlace job edges) (tasks job (suc (last_edge job))) acc row is many each b place at in (found.task, found.is, found.at);
+  pub aggregate_at : (b : ℕ) (task : AggregateTask) → task.index ≡ b → b < tasks job (suc (last_edge job)) →
+      IsGateAt job size every snapshots edges (last_edge job) b (cells_in task.gate.lanes) → IsGateBehind job (last_edge job) task.gate →
+      IsLentOf job size every snapshots edges task.lent → MayCheckpoint job (suc (last_edge job)) b task.lent → IsAggregateAt job size every snapshots edges b task
+  aggregate_at b task index_is here gate behind lent may = record {
+    index = index_is;
+    gate = gate;
+    lent = lent;
+    may = record {
+      index = subst (λ (i : ℕ). i < tasks job (suc (last_edge job))) (sym index_is) here;
+      gate = behind;
+      may = subst (λ (i : ℕ). MayCheckpoint job (suc (last_edge job)) i task.lent) (sym index_is) may;
+    };
   }
 
-  -- Sources over inputs, with what they are lent, are the sources of the job.
-  pub sources_are : (lents : List Lent) (inputs : List S) (row : List (TaskPlace S)) → length inputs ≡ tasks job 0 → AreLent job edges lents → AreSourcesOver lents inputs row → AreSources job edges inputs row
-  sources_are lents inputs row many lent over = record {
-    many = over.many ∙ many;
-    each = λ a place at.
-        let found = over.each a place at in
-        (found.task, found.is, source_at job edges inputs a found.task found.index found.input (lent.each a found.task.lent found.lent));
-  }
+  pub source_at : {S : Type 0} (inputs : List S) (a : ℕ) (task : SourceTask S) (lent : SourceLent) → task.index ≡ a → slice_get inputs a ≡ Some task.input →
+      lent ≡ record { partition = task.partition; lent = task.lent } → IsLentAt job size every snapshots edges a lent → IsSourceAt job size every snapshots edges inputs a task
+  source_at inputs a task lent index_is input same is =
+      let is' : IsLentAt job size every snapshots edges a (record { partition = task.partition; lent = task.lent }) = subst (λ (l : SourceLent). IsLentAt job size every snapshots edges a l) same is in
+      record {
+        index = index_is;
+        input = input;
+        partition = is'.at;
+        lent = is'.lent;
+        may = record {
+          partition = subst (λ (i : ℕ). IsPartitionOf job 0 i task.partition) (sym index_is) is'.partition;
+          may = subst (λ (i : ℕ). MayCheckpoint job 0 i task.lent) (sym index_is) is'.may;
+        };
+      }
+
+  -- ---- the rows
+
+  module _ {S : Type 0} where
+    pub stage_row_is : (e : ℕ) (acc row : List (TaskPlace S)) → row ≡ reverse acc → length acc ≡ tasks job (suc e) → AreTurned (IsStagePlace job size every snapshots edges e) (tasks job (suc e)) acc → AreStage job size every snapshots edges e row
+    stage_row_is e acc row is many each = record {
+      many = length_turned acc row is ∙ many;
+      each = λ b place at. let found = in_order (IsStagePlace job size every snapshots edges e) (tasks job (suc e)) acc row is many each b place at in (found.task, found.is, found.at);
+    }
+
+    pub aggregate_row_is : (acc row : List (TaskPlace S)) → row ≡ reverse acc → length acc ≡ tasks job (suc (last_edge job)) → AreTurned (IsAggregatePlace job size every snapshots edges) (tasks job (suc (last_edge job))) acc →
+        AreAggregates job size every snapshots edges row
+    aggregate_row_is acc row is many each = record {
+      many = length_turned acc row is ∙ many;
+      each = λ b place at. let found = in_order (IsAggregatePlace job size every snapshots edges) (tasks job (suc (last_edge job))) acc row is many each b place at in (found.task, found.is, found.at);
+    }
+
+    -- Sources over inputs, with what they are lent, are the sources of the job.
+    pub sources_are : (lents : List SourceLent) (inputs : List S) (row : List (TaskPlace S)) → length inputs ≡ tasks job 0 → AreLent job size every snapshots edges lents → AreSourcesOver lents inputs row →
+        AreSources job size every snapshots edges inputs row
+    sources_are lents inputs row many lent over = record {
+      many = over.many ∙ many;
+      each = λ a place at.
+          let found = over.each a place at in let lent_here : SourceLent = record { partition = found.task.partition; lent = found.task.lent } in
+          (found.task, found.is, source_at inputs a found.task lent_here found.index found.input refl (lent.each a lent_here found.lent));
+    }

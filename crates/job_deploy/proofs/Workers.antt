@@ -1,5 +1,5 @@
 -- The workers of a job as they are made, and in their places.
-use Rattle.std.proofs.Common.{◌≡◌, ℕ, suc, ◌+◌, ◌<◌, List, [], ◌∷◌, ◌++◌, length, Some, refl, sym, ap, subst, ◌∙◌, arith}
+use Rattle.std.proofs.Common.{◌≡◌, ℕ, suc, ◌+◌, ◌<◌, List, [], ◌∷◌, ◌++◌, length, Option, Some, refl, sym, ap, subst, ◌∙◌, arith}
 use Rattle.std.specs.Prelude.{slice_get, reverse, All}
 use Rattle.std.proofs.lemmas.List.{length_push}
 use Rattle.std.proofs.lemmas.Option.{slice_get_within}
@@ -15,12 +15,13 @@ use Rattle.conn_grant.specs.Granting.{MayReadControl}
 use Rattle.conn_receive.specs.Receiving.{MayReadItems}
 use Rattle.conn_announce.specs.Announcing.{MaySendControl}
 use Rattle.record_writer.specs.Writers.{SendPass}
+use Rattle.snapshot_channel.specs.declared.opened.SnapshotChannel.{SnapshotChannel}
 use Rattle.job_cells.specs.declared.edge.Edge.{Edge}
 use Rattle.job_cells.specs.declared.edge.EdgePasses.{EdgePasses}
 use Rattle.job_cells.specs.Edges.{AreEdgesOf, ArePassesOf, IsEdgeOf}
-use Rattle.job_workers.specs.declared.task.Lent.{Lent}
 use Rattle.job_deploy.specs.declared.loops.Shares.{Shares}
 use Rattle.job_deploy.specs.declared.split.Ends.{Ends}
+use Rattle.job_deploy.specs.declared.tasks.SourceLent.{SourceLent}
 use Rattle.job_deploy.specs.Deployed.{TaskPlace, LoopPlace, AreSources, AreStage, AreAggregates, AreLoopsAt, AreDeployed}
 use Rattle.job_deploy.specs.Lending.{AreLent, AreSourcesOver, AreTurned}
 use Rattle.job_deploy.specs.Making.{AreSharesAt, IsRowAt}
@@ -78,30 +79,31 @@ ends_are job e size edge passes of are = record {
 
 -- ---- the rows of the stages behind the sources, and the shares of the edges
 
-module _ (job : Job) (edges : List Edge) where
+module _ (job : Job) (size : ℕ) (every : Option ℕ) (snapshots : SnapshotChannel) (edges : List Edge) where
   module _ {S : Type 0} where
-    pub first_row : (rows : List (Items (TaskPlace S))) (row : Items (TaskPlace S)) → rows ≡ row ∷ [] → AreAggregates job edges row.items →
-        AreTurned (λ (stage : ℕ) (r : Items (TaskPlace S)). IsRowAt job edges stage r) (suc (suc (last_edge job))) rows
+    pub first_row : (rows : List (Items (TaskPlace S))) (row : Items (TaskPlace S)) → rows ≡ row ∷ [] → AreAggregates job size every snapshots edges row.items →
+        AreTurned (λ (stage : ℕ) (r : Items (TaskPlace S)). IsRowAt job size every snapshots edges stage r) (suc (suc (last_edge job))) rows
     first_row rows row is are =
-        turned_push (λ (stage : ℕ) (r : Items (TaskPlace S)). IsRowAt job edges stage r) (suc (suc (last_edge job))) [] rows row is (turned_none (λ (stage : ℕ) (r : Items (TaskPlace S)). IsRowAt job edges stage r) (suc (suc (last_edge job))) [] refl) (λ k sum. record {
+        turned_push (λ (stage : ℕ) (r : Items (TaskPlace S)). IsRowAt job size every snapshots edges stage r) (suc (suc (last_edge job))) [] rows row is (turned_none (λ (stage : ℕ) (r : Items (TaskPlace S)). IsRowAt job size every snapshots edges stage r) (suc (suc (last_edge job))) [] refl) (λ k sum. record {
           stages = λ e here low. absurd (omega (arith, here, low, sum));
           aggregates = λ here. are;
         })
 
     pub row_more : (e : ℕ) (rows rows' : List (Items (TaskPlace S))) (row : Items (TaskPlace S)) → e < last_edge job → length rows + suc e ≡ suc (last_edge job) → rows' ≡ rows ++ row ∷ [] →
-        AreTurned (λ (stage : ℕ) (r : Items (TaskPlace S)). IsRowAt job edges stage r) (suc (suc (last_edge job))) rows → AreStage job edges e row.items → AreTurned (λ (stage : ℕ) (r : Items (TaskPlace S)). IsRowAt job edges stage r) (suc (suc (last_edge job))) rows'
+        AreTurned (λ (stage : ℕ) (r : Items (TaskPlace S)). IsRowAt job size every snapshots edges stage r) (suc (suc (last_edge job))) rows → AreStage job size every snapshots edges e row.items → AreTurned (λ (stage : ℕ) (r : Items (TaskPlace S)). IsRowAt job size every snapshots edges stage r) (suc (suc (last_edge job))) rows'
     row_more e rows rows' row low many is each are =
-        turned_push (λ (stage : ℕ) (r : Items (TaskPlace S)). IsRowAt job edges stage r) (suc (suc (last_edge job))) rows rows' row is each (λ k sum. record {
-          stages = λ e' here low'. subst (λ (j : ℕ). AreStage job edges j row.items) (let same : e ≡ e' = omega (arith, here, sum, many) in same) are;
+        turned_push (λ (stage : ℕ) (r : Items (TaskPlace S)). IsRowAt job size every snapshots edges stage r) (suc (suc (last_edge job))) rows rows' row is each (λ k sum. record {
+          stages = λ e' here low'. subst (λ (j : ℕ). AreStage job size every snapshots edges j row.items) (let same : e ≡ e' = omega (arith, here, sum, many) in same) are;
           aggregates = λ here. absurd (omega (arith, here, sum, many, low));
         })
 
-  module _ {O I : Type 0} where
-    pub share_more : (e : ℕ) (shares shares' : List (Shares O I)) (share : Shares O I) → length shares + suc e ≡ suc (last_edge job) → shares' ≡ shares ++ share ∷ [] →
-        AreTurned (λ (k : ℕ) (s : Shares O I). AreSharesAt job edges k s) (suc (last_edge job)) shares → AreSharesAt job edges e share → AreTurned (λ (k : ℕ) (s : Shares O I). AreSharesAt job edges k s) (suc (last_edge job)) shares'
-    share_more e shares shares' share many is each are =
-        turned_push (λ (k : ℕ) (s : Shares O I). AreSharesAt job edges k s) (suc (last_edge job)) shares shares' share is each
-        (λ k sum. subst (λ (j : ℕ). AreSharesAt job edges j share) (let same : e ≡ k = omega (arith, sum, many) in same) are)
+-- What the loops of an edge are lent, behind the edges of a job with so many.
+module _ {O I : Type 0} (edges : List Edge) (many : ℕ) where
+  pub share_more : (e : ℕ) (shares shares' : List (Shares O I)) (share : Shares O I) → length shares + suc e ≡ many → shares' ≡ shares ++ share ∷ [] →
+      AreTurned (λ (k : ℕ) (s : Shares O I). AreSharesAt edges k s) many shares → AreSharesAt edges e share → AreTurned (λ (k : ℕ) (s : Shares O I). AreSharesAt edges k s) many shares'
+  share_more e shares shares' share left is each are =
+      turned_push (λ (k : ℕ) (s : Shares O I). AreSharesAt edges k s) many shares shares' share is each
+      (λ k sum. subst (λ (j : ℕ). AreSharesAt edges j share) (let same : e ≡ k = omega (arith, sum, left) in same) are)
 
 -- ---- in their places
 
@@ -126,18 +128,18 @@ loops_at job e size edge wire share row of are over =
     }
 
 -- A row of any stage.
-record IsAnyRow {S : Type 0} (job : Job) (edges : List Edge) (inputs : List S) (stage : ℕ) (row : Items (TaskPlace S)) : Type 0 where
-  sources : stage ≡ 0 → AreSources job edges inputs row.items
-  others : 0 < stage → IsRowAt job edges stage row
+record IsAnyRow {S : Type 0} (job : Job) (size : ℕ) (every : Option ℕ) (snapshots : SnapshotChannel) (edges : List Edge) (inputs : List S) (stage : ℕ) (row : Items (TaskPlace S)) : Type 0 where
+  sources : stage ≡ 0 → AreSources job size every snapshots edges inputs row.items
+  others : 0 < stage → IsRowAt job size every snapshots edges stage row
 
-module _ {S O I : Type 0} (job : Job) (edges : List Edge) (size : ℕ) (inputs : List S) (wires : List (Wire O I)) (lents : List Lent) (acc rows : List (Items (TaskPlace S))) (first : Items (TaskPlace S))
+module _ {S O I : Type 0} (job : Job) (size : ℕ) (every : Option ℕ) (snapshots : SnapshotChannel) (edges : List Edge) (inputs : List S) (wires : List (Wire O I)) (lents : List SourceLent) (acc rows : List (Items (TaskPlace S))) (first : Items (TaskPlace S))
     (shares : List (Shares O I)) (loops : List (Items (LoopPlace O I))) where
-  any_row : length acc ≡ suc (last_edge job) → AreTurned (λ (stage : ℕ) (r : Items (TaskPlace S)). IsRowAt job edges stage r) (suc (suc (last_edge job))) acc → AreSources job edges inputs first.items → rows ≡ reverse (acc ++ first ∷ []) →
-      (k : ℕ) (row : Items (TaskPlace S)) → slice_get rows k ≡ Some row → IsAnyRow job edges inputs k row
+  any_row : length acc ≡ suc (last_edge job) → AreTurned (λ (stage : ℕ) (r : Items (TaskPlace S)). IsRowAt job size every snapshots edges stage r) (suc (suc (last_edge job))) acc → AreSources job size every snapshots edges inputs first.items → rows ≡ reverse (acc ++ first ∷ []) →
+      (k : ℕ) (row : Items (TaskPlace S)) → slice_get rows k ≡ Some row → IsAnyRow job size every snapshots edges inputs k row
   any_row many each sources is =
       let n = suc (suc (last_edge job)) in
-      let whole : AreTurned (IsAnyRow job edges inputs) n (acc ++ first ∷ []) =
-      turned_push (IsAnyRow job edges inputs) n acc (acc ++ first ∷ []) first refl
+      let whole : AreTurned (IsAnyRow job size every snapshots edges inputs) n (acc ++ first ∷ []) =
+      turned_push (IsAnyRow job size every snapshots edges inputs) n acc (acc ++ first ∷ []) first refl
       (λ j k x sum at. record {
         sources = λ z. absurd (let low = slice_get_within acc j x at in omega (arith, low, z, sum, many));
         others = λ some. each j k x sum at;
@@ -147,13 +149,13 @@ module _ {S O I : Type 0} (job : Job) (edges : List Edge) (size : ℕ) (inputs :
         others = λ some. absurd (omega (arith, some, sum, many));
       })
       in
-      in_order (IsAnyRow job edges inputs) n (acc ++ first ∷ []) rows is (let l = length_push acc first in omega (arith, l, many)) whole
+      in_order (IsAnyRow job size every snapshots edges inputs) n (acc ++ first ∷ []) rows is (let l = length_push acc first in omega (arith, l, many)) whole
 
-  pub deployed_is : AreEdgesOf job size edges → length inputs ≡ tasks job 0 → length wires ≡ suc (last_edge job) → AreLent job edges lents → AreSourcesOver lents inputs first.items →
-      length acc ≡ suc (last_edge job) → AreTurned (λ (stage : ℕ) (r : Items (TaskPlace S)). IsRowAt job edges stage r) (suc (suc (last_edge job))) acc → rows ≡ reverse (acc ++ first ∷ []) →
-      ((e : ℕ) (share : Shares O I) → slice_get shares e ≡ Some share → AreSharesAt job edges e share) → AreRowsOver shares wires loops → AreDeployed job edges inputs wires rows loops
+  pub deployed_is : AreEdgesOf job size edges → length inputs ≡ tasks job 0 → length wires ≡ suc (last_edge job) → AreLent job size every snapshots edges lents → AreSourcesOver lents inputs first.items →
+      length acc ≡ suc (last_edge job) → AreTurned (λ (stage : ℕ) (r : Items (TaskPlace S)). IsRowAt job size every snapshots edges stage r) (suc (suc (last_edge job))) acc → rows ≡ reverse (acc ++ first ∷ []) →
+      ((e : ℕ) (share : Shares O I) → slice_get shares e ≡ Some share → AreSharesAt edges e share) → AreRowsOver shares wires loops → AreDeployed job size every snapshots edges inputs wires rows loops
   deployed_is are many_inputs many_wires lent over many each is shared looped =
-      let at_any = any_row many each (sources_are job edges lents inputs first.items many_inputs lent over) is in
+      let at_any = any_row many each (sources_are job size every snapshots edges lents inputs first.items many_inputs lent over) is in
       record {
         rows_many = (let l = length_turned (acc ++ first ∷ []) rows is in let m = length_push acc first in omega (arith, l, m, many));
         sources = λ row at. (at_any 0 row at).sources refl;

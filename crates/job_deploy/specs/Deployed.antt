@@ -13,6 +13,7 @@ use Rattle.conn_receive.specs.Receiving.{MayReadItems}
 use Rattle.conn_announce.specs.Announcing.{MaySendControl}
 use Rattle.record_writer.specs.declared.partition.Partition.{Partition}
 use Rattle.record_writer.specs.Writers.{SendPass, ways_into}
+use Rattle.snapshot_channel.specs.declared.opened.SnapshotChannel.{SnapshotChannel}
 use Rattle.input_gate.specs.Channels.{cells_in}
 use Rattle.input_gate.specs.Turning.{InputCell}
 use Rattle.job_cells.specs.declared.edge.Edge.{Edge}
@@ -26,6 +27,7 @@ use Rattle.job_workers.specs.declared.place.Place.TheVariants.{Todo}
 use Rattle.job_workers.specs.declared.task.SourceTask.{SourceTask}
 use Rattle.job_workers.specs.declared.task.StageTask.{StageTask}
 use Rattle.job_workers.specs.declared.task.AggregateTask.{AggregateTask}
+use Rattle.job_workers.specs.declared.task.Lent.{Lent}
 use Rattle.job_workers.specs.declared.task.Task.{Task}
 use Rattle.job_workers.specs.declared.task.Task.TheVariants.{Source, Stage, Aggregate}
 use Rattle.job_workers.specs.declared.task.TaskLeft.{TaskLeft}
@@ -37,18 +39,24 @@ TaskPlace S = Place (Task S) (TaskLeft S)
 abbrev pub LoopPlace : Type 0 → Type 0 → Type 0
 LoopPlace O I = Place (ConnLoop O I) (LoopLeft O I)
 
-module _ (job : Job) (edges : List Edge) where
-  -- ---- what a task is lent of the edges
+-- The job and its edges, with segments of this size, and what all its tasks are lent for checkpoints: how many lines a source reads
+-- between two of them, and the channel of snapshots.
+module _ (job : Job) (size : ℕ) (every : Option ℕ) (snapshots : SnapshotChannel) (edges : List Edge) where
+  -- ---- what a task is lent
 
   -- The partition of task a before edge e, over the cells of that edge.
-  pub record IsPartitionAt (e a : ℕ) (lent : Option Partition) : Type 0 where
+  pub record IsPartitionAt (e a : ℕ) (partition : Partition) : Type 0 where
     pub edge : Edge
     pub stands : slice_get edges e ≡ Some edge
-    pub partition : Partition
-    pub is_there : lent ≡ Some partition
     pub cells : partition.subpartitions.now ≡ edge.subpartitions.items
     pub first : partition.first ≡ a
     pub stride : partition.stride ≡ tasks job e
+    pub size_is : partition.size ≡ size
+
+  -- It is lent that channel, and told that interval.
+  pub record IsLentOf (lent : Lent) : Type 0 where
+    pub every_is : lent.every ≡ every
+    pub channel : lent.snapshots.now ≡ snapshots
 
   -- The cells of the gate of task b behind edge e, among those of that edge.
   pub record IsGateAt (e b : ℕ) (cells : List InputCell) : Type 0 where
@@ -63,7 +71,8 @@ module _ (job : Job) (edges : List Edge) where
   pub record IsSourceAt {S : Type 0} (inputs : List S) (a : ℕ) (task : SourceTask S) : Type 0 where
     pub index : task.index ≡ a
     pub input : slice_get inputs a ≡ Some task.input
-    pub partition : IsPartitionAt 0 a task.lent.partition
+    pub partition : IsPartitionAt 0 a task.partition
+    pub lent : IsLentOf task.lent
     pub may : MayRunSource job task
 
   -- Task b behind edge e.
@@ -71,13 +80,15 @@ module _ (job : Job) (edges : List Edge) where
     pub edge : task.edge ≡ e
     pub index : task.index ≡ b
     pub gate : IsGateAt e b (cells_in task.gate.lanes)
-    pub partition : IsPartitionAt (suc e) b task.lent.partition
+    pub partition : IsPartitionAt (suc e) b task.partition
+    pub lent : IsLentOf task.lent
     pub may : MayRunStage job task
 
   -- Task b of the aggregate.
   pub record IsAggregateAt (b : ℕ) (task : AggregateTask) : Type 0 where
     pub index : task.index ≡ b
     pub gate : IsGateAt (last_edge job) b (cells_in task.gate.lanes)
+    pub lent : IsLentOf task.lent
     pub may : MayRunAggregate job task
 
   module _ {S : Type 0} where
@@ -115,11 +126,11 @@ pub record AreLoopsAt {O I : Type 0} (job : Job) (e : ℕ) (edge : Edge) (wire :
 -- ---- all of them
 
 -- There is a row for each stage, and one for each edge.
-pub record AreDeployed {S O I : Type 0} (job : Job) (edges : List Edge) (inputs : List S) (wires : List (Wire O I)) (rows : List (Items (TaskPlace S))) (loop_rows : List (Items (LoopPlace O I))) : Type 0 where
+pub record AreDeployed {S O I : Type 0} (job : Job) (size : ℕ) (every : Option ℕ) (snapshots : SnapshotChannel) (edges : List Edge) (inputs : List S) (wires : List (Wire O I)) (rows : List (Items (TaskPlace S))) (loop_rows : List (Items (LoopPlace O I))) : Type 0 where
   pub rows_many : length rows ≡ suc (suc (last_edge job))
-  pub sources : (row : Items (TaskPlace S)) → slice_get rows 0 ≡ Some row → AreSources job edges inputs row.items
-  pub stages : (e : ℕ) (row : Items (TaskPlace S)) → e < last_edge job → slice_get rows (suc e) ≡ Some row → AreStage job edges e row.items
-  pub aggregates : (row : Items (TaskPlace S)) → slice_get rows (suc (last_edge job)) ≡ Some row → AreAggregates job edges row.items
+  pub sources : (row : Items (TaskPlace S)) → slice_get rows 0 ≡ Some row → AreSources job size every snapshots edges inputs row.items
+  pub stages : (e : ℕ) (row : Items (TaskPlace S)) → e < last_edge job → slice_get rows (suc e) ≡ Some row → AreStage job size every snapshots edges e row.items
+  pub aggregates : (row : Items (TaskPlace S)) → slice_get rows (suc (last_edge job)) ≡ Some row → AreAggregates job size every snapshots edges row.items
   pub loops_many : length loop_rows ≡ suc (last_edge job)
   pub loops : (e : ℕ) (edge : Edge) (wire : Wire O I) (row : Items (LoopPlace O I)) →
       slice_get edges e ≡ Some edge → slice_get wires e ≡ Some wire → slice_get loop_rows e ≡ Some row → AreLoopsAt job e edge wire row.items

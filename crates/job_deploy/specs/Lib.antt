@@ -4,3 +4,4 @@ pub mod Making
 pub mod Placing
 pub mod Sharing
 pub mod Stops
+pub mod Shared

@@ -9,11 +9,11 @@ ghost use Rattle.conn_receive.specs.Receiving.{MayReadItems};
 ghost use Rattle.conn_announce.specs.Announcing.{MaySendControl};
 ghost use Rattle.record_writer.specs.Writers.{SendPass};
 ghost use Rattle.job_deploy.specs.declared.loops.Shares.{Shares};
-ghost use Rattle.job_deploy.specs.Placing.{AreFewer, AreStops, IsStop};
+ghost use Rattle.job_deploy.specs.Placing.{AreFewer, AreStops, HasTheirs, IsStop};
 ghost use Rattle.job_deploy.specs.Sharing.{AreLoopPasses, AreLoopsOver, AreRowsOver, AreSharesOf, HasRoom, IsOver, IsWired};
 
 use crate::order::{put, take_last, turned};
-use crate::stops::Stops;
+use crate::shared::Shared;
 use conn_parts::{ConnShare, SharePasses};
 use flow_defs::ListOf;
 use input_channel::InputChannel;
@@ -103,21 +103,22 @@ fn share_to_send<'a, 'p>(
     writer: Pass<ReaderState>,
     takers: ListOf<Pass<Subpartition>>,
     pools: ListOf<Pass<HeldPool<'p>>>,
-    stops: &mut Stops<'a>,
+    shared: &mut Shared<'a>,
 ) -> ConnShare<'a, 'p>
     requires edge { IsWired size edge.now }
     requires writer { IsReaderPass edge.now.readers 0 writer × (mine writer ≡ []) }
     requires takers { AreOwn 1 edge.now.subpartitions.items takers.items }
     requires unseen { All (λ (pass : SendPass). seen pass ≡ []) takers.items }
     requires pools { AreOf edge.now.partitions.items pools.items }
-    requires stops { AreStops stops.old × (0 < length stops.old.passes.items) }
-    ensures stops { AreFewer 1 stops.old stops.new }
+    requires stops { AreStops shared.old × (0 < length shared.old.stops.items) }
+    ensures stops { AreFewer 1 shared.old shared.new }
+    ensures theirs { HasTheirs shared.old shared.new }
     ensures channels { result.channels.now ≡ edge.now.channels.items }
     ensures cells { result.subpartitions.now ≡ edge.now.subpartitions.items }
     ensures unseen { All (λ (pass : SendPass). seen pass ≡ []) result.passes.subpartitions.items }
     ensures may { MaySendItems result }
 {
-    let stop = stops.next();
+    let stop = shared.next_stop();
     let passes = SharePasses {
         readers: Some(writer),
         subpartitions: takers,
@@ -125,7 +126,7 @@ fn share_to_send<'a, 'p>(
         pools,
         stop,
     };
-    sending_share(size, edge, stops.cell, passes)
+    sending_share(size, edge, shared.stop, passes)
 }
 
 // What the loop that reads control frames is lent.
@@ -135,16 +136,17 @@ fn share_to_grant<'a, 'p>(
     edge: &'a Edge<'p>,
     granter: Pass<ReaderState>,
     sizers: ListOf<Pass<Subpartition>>,
-    stops: &mut Stops<'a>,
+    shared: &mut Shared<'a>,
 ) -> ConnShare<'a, 'p>
     requires edge { IsWired size edge.now }
     requires granter { IsReaderPass edge.now.readers 1 granter × (mine granter ≡ []) }
     requires sizers { AreOwn 2 edge.now.subpartitions.items sizers.items }
-    requires stops { AreStops stops.old × (0 < length stops.old.passes.items) }
-    ensures stops { AreFewer 1 stops.old stops.new }
+    requires stops { AreStops shared.old × (0 < length shared.old.stops.items) }
+    ensures stops { AreFewer 1 shared.old shared.new }
+    ensures theirs { HasTheirs shared.old shared.new }
     ensures may { MayReadControl result }
 {
-    let stop = stops.next();
+    let stop = shared.next_stop();
     let passes = SharePasses {
         readers: Some(granter),
         subpartitions: sizers,
@@ -152,7 +154,7 @@ fn share_to_grant<'a, 'p>(
         pools: ListOf::new(alloc),
         stop,
     };
-    sending_share(size, edge, stops.cell, passes)
+    sending_share(size, edge, shared.stop, passes)
 }
 
 // What the loop that reads items is lent.
@@ -162,20 +164,21 @@ fn share_to_receive<'a, 'p>(
     edge: &'a Edge<'p>,
     pushers: ListOf<Pass<InputChannel>>,
     pools: ListOf<Pass<HeldPool<'p>>>,
-    stops: &mut Stops<'a>,
+    shared: &mut Shared<'a>,
 ) -> ConnShare<'a, 'p>
     requires edge { IsWired size edge.now }
     requires pushers { AreOwn 1 edge.now.inputs.items pushers.items }
     requires new { AreNew pushers.items }
     requires pools { AreOf edge.now.gates.items pools.items }
-    requires stops { AreStops stops.old × (0 < length stops.old.passes.items) }
-    ensures stops { AreFewer 1 stops.old stops.new }
+    requires stops { AreStops shared.old × (0 < length shared.old.stops.items) }
+    ensures stops { AreFewer 1 shared.old shared.new }
+    ensures theirs { HasTheirs shared.old shared.new }
     ensures channels { result.channels.now ≡ edge.now.channels.items }
     ensures cells { result.inputs.now ≡ edge.now.inputs.items }
     ensures new { AreNew result.passes.inputs.items }
     ensures may { MayReadItems result }
 {
-    let stop = stops.next();
+    let stop = shared.next_stop();
     let passes = SharePasses {
         readers: None,
         subpartitions: ListOf::new(alloc),
@@ -183,7 +186,7 @@ fn share_to_receive<'a, 'p>(
         pools,
         stop,
     };
-    receiving_share(size, edge, stops.cell, passes)
+    receiving_share(size, edge, shared.stop, passes)
 }
 
 // What the loop that writes control frames is lent.
@@ -192,15 +195,16 @@ fn share_to_announce<'a, 'p>(
     size: u32,
     edge: &'a Edge<'p>,
     tellers: ListOf<Pass<InputChannel>>,
-    stops: &mut Stops<'a>,
+    shared: &mut Shared<'a>,
 ) -> ConnShare<'a, 'p>
     requires edge { IsWired size edge.now }
     requires tellers { AreOwn 2 edge.now.inputs.items tellers.items }
-    requires stops { AreStops stops.old × (0 < length stops.old.passes.items) }
-    ensures stops { AreFewer 1 stops.old stops.new }
+    requires stops { AreStops shared.old × (0 < length shared.old.stops.items) }
+    ensures stops { AreFewer 1 shared.old shared.new }
+    ensures theirs { HasTheirs shared.old shared.new }
     ensures may { MaySendControl result }
 {
-    let stop = stops.next();
+    let stop = shared.next_stop();
     let passes = SharePasses {
         readers: None,
         subpartitions: ListOf::new(alloc),
@@ -208,7 +212,7 @@ fn share_to_announce<'a, 'p>(
         pools: ListOf::new(alloc),
         stop,
     };
-    receiving_share(size, edge, stops.cell, passes)
+    receiving_share(size, edge, shared.stop, passes)
 }
 
 /// What the loops of an edge are lent.
@@ -217,12 +221,13 @@ pub fn shares_of<'a, 'p, O: Drop, I: Drop>(
     size: u32,
     edge: &'a Edge<'p>,
     passes: LoopPasses<'p>,
-    stops: &mut Stops<'a>,
+    shared: &mut Shared<'a>,
 ) -> Result<Shares<'a, 'p, O, I>, AllocError>
     requires edge { IsWired size edge.now }
     requires passes { AreLoopPasses edge.now passes }
-    requires stops { AreStops stops.old × (4 ≤ length stops.old.passes.items) }
-    ensures stops { OnOk result (AreFewer 4 stops.old stops.new) }
+    requires stops { AreStops shared.old × (4 ≤ length shared.old.stops.items) }
+    ensures stops { OnOk result (AreFewer 4 shared.old shared.new) }
+    ensures theirs { OnOk result (HasTheirs shared.old shared.new) }
     ensures shares { IfOk result (AreSharesOf edge.now) }
 {
     let LoopPasses {
@@ -237,10 +242,10 @@ pub fn shares_of<'a, 'p, O: Drop, I: Drop>(
     } = passes;
     let mut row = ListOf::new(alloc);
     row.reserve(4)?;
-    let send = share_to_send(alloc, size, edge, writer, takers, partitions, stops);
-    let control = share_to_grant(alloc, size, edge, granter, sizers, stops);
-    let items = share_to_receive(alloc, size, edge, pushers, gates, stops);
-    let announce = share_to_announce(alloc, size, edge, tellers, stops);
+    let send = share_to_send(alloc, size, edge, writer, takers, partitions, shared);
+    let control = share_to_grant(alloc, size, edge, granter, sizers, shared);
+    let items = share_to_receive(alloc, size, edge, pushers, gates, shared);
+    let announce = share_to_announce(alloc, size, edge, tellers, shared);
     Ok(Shares {
         send,
         control,

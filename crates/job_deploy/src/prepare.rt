@@ -4,19 +4,20 @@ ghost use Rattle.flow_defs.specs.Jobs.{IsJob, last_edge, tasks};
 ghost use Rattle.job_cells.specs.declared.edge.Edge.{Edge};
 ghost use Rattle.job_cells.specs.Edges.{AreAllPassesOf, AreEdgesOf, ArePassesOf, IsEdgeOf};
 ghost use Rattle.job_deploy.specs.Making.{AreMade, ArePrepared};
-ghost use Rattle.job_deploy.specs.Placing.{AreFewer, AreStops};
+ghost use Rattle.job_deploy.specs.Placing.{AreFewer, AreStops, HasStages, HasStayed};
+ghost use Rattle.job_deploy.specs.Shared.{AreShared};
 ghost use Rattle.job_deploy.specs.Stops.{stops_needed};
 
 use crate::loops::{Shares, shares_of};
 use crate::order::{item_at, take_last, turned};
 use crate::senders::Senders;
+use crate::shared::Shared;
 use crate::span::{edges_of, tasks_of};
 use crate::split::{Ends, ends_of};
-use crate::stops::Stops;
-use crate::tasks::{aggregate_row, sources_lent, stage_row};
+use crate::tasks::{SourceLent, aggregate_row, sources_lent, stage_row};
 use flow_defs::{Job, ListOf};
 use job_cells::{Edge, EdgePasses};
-use job_workers::{Lent, LoopRow, TaskRow};
+use job_workers::{LoopRow, TaskRow};
 use std::alloc::{AllocError, Global};
 use std::mem;
 
@@ -32,7 +33,7 @@ pub struct Made<'a, 'p, S, O, I> {
 /// the loops are lent, and room for the rest.
 #[derive(Drop)]
 pub struct Prepared<'a, 'p, S, O, I> {
-    pub lents: ListOf<Lent<'a, 'p>>,
+    pub lents: ListOf<SourceLent<'a, 'p>>,
     pub sources: TaskRow<'a, 'p, S>,
     pub rows: ListOf<TaskRow<'a, 'p, S>>,
     pub shares: ListOf<Shares<'a, 'p, O, I>>,
@@ -46,14 +47,16 @@ fn last_made<'a, 'p, S: Drop, O: Drop, I: Drop>(
     size: u32,
     edges: &'a [Edge<'p>],
     passes: EdgePasses<'p>,
-    stops: &mut Stops<'a>,
+    shared: &mut Shared<'a>,
 ) -> Result<Made<'a, 'p, S, O, I>, AllocError>
     requires is_job { IsJob job.now }
     requires edges { AreEdgesOf job.now size edges.now }
     requires passes { (edge : Edge) → slice_get edges.now (last_edge job.now) ≡ Some edge → ArePassesOf job.now (last_edge job.now) edge passes }
-    requires stops { AreStops stops.old × (2 * tasks job.now (suc (last_edge job.now)) + 4 ≤ length stops.old.passes.items) }
-    ensures made { IfOk result (AreMade job.now edges.now (last_edge job.now)) }
-    ensures stops { OnOk result (AreFewer (2 * tasks job.now (suc (last_edge job.now)) + 4) stops.old stops.new) }
+    requires stops { AreStops shared.old × (2 * tasks job.now (suc (last_edge job.now)) + 4 ≤ length shared.old.stops.items) }
+    requires theirs { HasStages job.now (suc (suc (last_edge job.now))) shared.old }
+    ensures made { IfOk result (AreMade job.now size shared.old.every shared.old.snapshots.now edges.now (last_edge job.now)) }
+    ensures stops { OnOk result (AreFewer (2 * tasks job.now (suc (last_edge job.now)) + 4) shared.old shared.new) }
+    ensures theirs { OnOk result (HasStages job.now (suc (last_edge job.now)) shared.new) }
 {
     let last = job.stages.as_slice().len();
     let ends = ends_of(passes);
@@ -64,10 +67,10 @@ fn last_made<'a, 'p, S: Drop, O: Drop, I: Drop>(
     } = ends;
     let edge = item_at(edges, last);
     let mut rows = ListOf::new(alloc);
-    let row = aggregate_row(alloc, job, size, edges, takers, stops)?;
+    let row = aggregate_row(alloc, job, size, edges, takers, shared)?;
     rows.push(row)?;
     let mut shares = ListOf::new(alloc);
-    let share = shares_of(alloc, size, edge, loops, stops)?;
+    let share = shares_of(alloc, size, edge, loops, shared)?;
     shares.push(share)?;
     Ok(Made {
         rows,
@@ -86,15 +89,17 @@ impl<'a, 'p, S: Drop, O: Drop, I: Drop> Made<'a, 'p, S, O, I> {
         size: u32,
         edges: &'a [Edge<'p>],
         passes: EdgePasses<'p>,
-        stops: &mut Stops<'a>,
+        shared: &mut Shared<'a>,
     ) -> Result<(), AllocError>
         requires is_job { IsJob job.now × (e < last_edge job.now) }
         requires edges { AreEdgesOf job.now size edges.now }
-        requires made { AreMade job.now edges.now (suc e) self.old }
+        requires made { AreMade job.now size shared.old.every shared.old.snapshots.now edges.now (suc e) self.old }
         requires passes { (edge : Edge) → slice_get edges.now e ≡ Some edge → ArePassesOf job.now e edge passes }
-        requires stops { AreStops stops.old × (2 * tasks job.now (suc e) + 4 ≤ length stops.old.passes.items) }
-        ensures made { OnOk result (AreMade job.now edges.now e self.new) }
-        ensures stops { OnOk result (AreFewer (2 * tasks job.now (suc e) + 4) stops.old stops.new) }
+        requires stops { AreStops shared.old × (2 * tasks job.now (suc e) + 4 ≤ length shared.old.stops.items) }
+        requires theirs { HasStages job.now (suc (suc e)) shared.old }
+        ensures made { OnOk result (AreMade job.now size shared.old.every shared.old.snapshots.now edges.now e self.new) }
+        ensures stops { OnOk result (AreFewer (2 * tasks job.now (suc e) + 4) shared.old shared.new) }
+        ensures theirs { OnOk result (HasStages job.now (suc e) shared.new) }
     {
         let ends = ends_of(passes);
         let Ends {
@@ -104,9 +109,9 @@ impl<'a, 'p, S: Drop, O: Drop, I: Drop> Made<'a, 'p, S, O, I> {
         } = ends;
         let next = mem::replace(&mut self.senders, senders);
         let edge = item_at(edges, e);
-        let row = stage_row(alloc, job, e, size, edges, takers, next, stops)?;
+        let row = stage_row(alloc, job, e, size, edges, takers, next, shared)?;
         self.rows.push(row)?;
-        let share = shares_of(alloc, size, edge, loops, stops)?;
+        let share = shares_of(alloc, size, edge, loops, shared)?;
         self.shares.push(share)?;
         Ok(())
     }
@@ -119,21 +124,24 @@ fn all_made<'a, 'p, S: Drop, O: Drop, I: Drop>(
     size: u32,
     edges: &'a [Edge<'p>],
     passes: ListOf<EdgePasses<'p>>,
-    stops: &mut Stops<'a>,
+    shared: &mut Shared<'a>,
 ) -> Result<Made<'a, 'p, S, O, I>, AllocError>
     requires is_job { IsJob job.now }
     requires edges { AreEdgesOf job.now size edges.now }
     requires passes { AreAllPassesOf job.now edges.now passes.items }
-    requires stops { AreStops stops.old × (stops_needed job.now ≤ length stops.old.passes.items) }
-    ensures made { IfOk result (AreMade job.now edges.now 0) }
-    ensures stops { OnOk result (AreStops stops.new × (tasks job.now 0 ≤ length stops.new.passes.items)) }
+    requires stops { AreStops shared.old × (stops_needed job.now ≤ length shared.old.stops.items) }
+    requires theirs { HasStages job.now (suc (suc (last_edge job.now))) shared.old }
+    ensures made { IfOk result (AreMade job.now size shared.old.every shared.old.snapshots.now edges.now 0) }
+    ensures stayed { OnOk result (HasStayed shared.old shared.new) }
+    ensures stops { OnOk result (AreStops shared.new × (tasks job.now 0 ≤ length shared.new.stops.items)) }
+    ensures theirs { OnOk result (HasStages job.now 1 shared.new) }
 {
     let mut passes = passes;
     let last = take_last(&mut passes);
-    let mut made = last_made(alloc, job, size, edges, last, stops)?;
+    let mut made = last_made(alloc, job, size, edges, last, shared)?;
     'edges: while let Some(next) = passes.pop() {
         let e = passes.as_slice().len();
-        made.add(alloc, job, e, size, edges, next, stops)?;
+        made.add(alloc, job, e, size, edges, next, shared)?;
     }
     Ok(made)
 }
@@ -145,15 +153,15 @@ pub fn prepare<'a, 'p, S: Drop, O: Drop, I: Drop>(
     size: u32,
     edges: &'a [Edge<'p>],
     passes: ListOf<EdgePasses<'p>>,
-    stops: &mut Stops<'a>,
+    shared: &mut Shared<'a>,
 ) -> Result<Prepared<'a, 'p, S, O, I>, AllocError>
     requires is_job { IsJob job.now }
     requires edges { AreEdgesOf job.now size edges.now }
     requires passes { AreAllPassesOf job.now edges.now passes.items }
-    requires stops { AreStops stops.old × (stops_needed job.now ≤ length stops.old.passes.items) }
-    ensures { IfOk result (ArePrepared job.now edges.now) }
+    requires shared { AreShared job.now shared.old }
+    ensures { IfOk result (ArePrepared job.now size shared.old.every shared.old.snapshots.now edges.now) }
 {
-    let made = all_made(alloc, job, size, edges, passes, stops)?;
+    let made = all_made(alloc, job, size, edges, passes, shared)?;
     let Made {
         rows,
         shares,
@@ -161,7 +169,7 @@ pub fn prepare<'a, 'p, S: Drop, O: Drop, I: Drop>(
     } = made;
     let mut rows = rows;
     rows.reserve(1)?;
-    let lents = sources_lent(alloc, job, size, edges, senders, stops)?;
+    let lents = sources_lent(alloc, job, size, edges, senders, shared)?;
     let mut sources = ListOf::new(alloc);
     sources.reserve(tasks_of(job, 0) as usize)?;
     let mut loops = ListOf::new(alloc);

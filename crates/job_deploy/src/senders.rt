@@ -3,7 +3,7 @@ ghost use Rattle.std.specs.Prelude.{◌≡◌, ◌<◌, ◌≤◌, suc, length};
 ghost use Rattle.flow_defs.specs.Jobs.{IsJob, last_edge, tasks};
 ghost use Rattle.record_writer.specs.Partitions.{IsPartitionOf};
 ghost use Rattle.job_cells.specs.Edges.{IsEdgeOf};
-ghost use Rattle.job_deploy.specs.Placing.{AreSenders, IsLentOf};
+ghost use Rattle.job_deploy.specs.Placing.{AreSenders, IsOverCells};
 
 use crate::order::{item_at, take_last};
 use crate::span::tasks_of;
@@ -38,7 +38,7 @@ impl<'p> Senders<'p> {
         ensures senders { AreSenders job.now e edge.now self.new }
         ensures fewer { length self.old.own.items ≡ suc (length self.new.own.items) }
         ensures partition { IsPartitionOf job.now e (length self.new.own.items) result }
-        ensures lent { IsLentOf job.now e (length self.new.own.items) edge.now result }
+        ensures cells { IsOverCells job.now e (length self.new.own.items) size edge.now result }
     {
         let own = take_last(&mut self.own);
         let pool = take_last(&mut self.pools);

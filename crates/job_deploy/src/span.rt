@@ -1,6 +1,7 @@
 // The numbers of a job.
-ghost use Rattle.std.specs.Prelude.{◌≡◌, suc, ◌≤◌};
+ghost use Rattle.std.specs.Prelude.{◌≡◌, suc, ◌≤◌, length};
 ghost use Rattle.flow_defs.specs.Jobs.{IsJob, last_edge, tasks};
+ghost use Rattle.snapshot_channel.specs.Snapshots.{all_tasks};
 
 use flow_defs::Job;
 
@@ -25,4 +26,18 @@ pub fn tasks_of(job: &Job, stage: usize) -> u32
         Some(found) => found.tasks,
         None => job.agg_tasks,
     }
+}
+
+/// How many tasks a job has, each of which needs a pass of the channel of snapshots and one of the cell with
+/// the last image. At most 64.
+pub fn tasks_needed(job: &Job) -> u32
+    requires { IsJob job.now }
+    ensures is { result ≡ length (all_tasks job.now) }
+    ensures few { result ≤ 64 }
+{
+    let mut needed = 0;
+    for stage in 0..edges_of(job) + 1 {
+        needed += tasks_of(job, stage);
+    }
+    needed
 }

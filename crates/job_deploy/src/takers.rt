@@ -13,10 +13,10 @@ ghost use Rattle.input_gate.specs.States.{account_in};
 ghost use Rattle.input_gate.specs.Turning.{InputCell, InputPass};
 ghost use Rattle.job_workers.specs.Tasks.{IsGateBehind};
 ghost use Rattle.job_cells.specs.Edges.{IsEdgeOf};
-ghost use Rattle.job_deploy.specs.Placing.{AreFewer, AreGateCells, AreStops, AreTakers, IsStop};
+ghost use Rattle.job_deploy.specs.Placing.{AreFewer, AreGateCells, AreStops, AreTakers, HasTheirs, IsStop};
 
 use crate::order::{item_at, part_of, take_last};
-use crate::stops::Stops;
+use crate::shared::Shared;
 use flow_defs::{Bytes, Job, ListOf};
 use input_gate::{CellGate, InputCell, InputPass};
 use job_cells::Edge;
@@ -82,16 +82,17 @@ impl<'p> Takers<'p> {
         e: usize,
         size: u32,
         edge: &'a Edge<'p>,
-        stops: &mut Stops<'a>,
+        shared: &mut Shared<'a>,
     ) -> Result<CellGate<'a, 'p>, AllocError>
         requires is_job { IsJob job.now × (e ≤ last_edge job.now) }
         requires edge { IsEdgeOf job.now e size edge.now }
         requires takers { AreTakers job.now e edge.now self.old }
         requires some { 0 < length self.old.own.items }
-        requires stops { AreStops stops.old × (0 < length stops.old.passes.items) }
+        requires stops { AreStops shared.old × (0 < length shared.old.stops.items) }
         ensures takers { AreTakers job.now e edge.now self.new }
         ensures fewer { length self.old.own.items ≡ suc (length self.new.own.items) }
-        ensures stops { AreFewer 1 stops.old stops.new }
+        ensures stops { AreFewer 1 shared.old shared.new }
+        ensures theirs { HasTheirs shared.old shared.new }
         ensures gate { IfOk result (IsGateBehind job.now e) }
         ensures cells { IfOk result (λ gate. AreGateCells job.now e (length self.new.own.items) edge.now (cells_in gate.lanes)) }
     {
@@ -103,7 +104,7 @@ impl<'p> Takers<'p> {
         let first = index * ways;
         let cells = part_of(edge.inputs.as_slice(), first, ways);
         let pool = item_at(edge.gates.as_slice(), index);
-        let stop_pass = stops.next();
-        gate_of(alloc, cells, own, pool, pool_pass, stops.cell, stop_pass)
+        let stop_pass = shared.next_stop();
+        gate_of(alloc, cells, own, pool, pool_pass, shared.stop, stop_pass)
     }
 }

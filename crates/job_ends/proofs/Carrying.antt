@@ -11,9 +11,9 @@ use Rattle.plain_machine.proofs.Channels.{ends_of}
 use Rattle.conn_parts.specs.Shares.{mine_at, seen_at}
 use Rattle.conn_parts.proofs.Passes.{number_at}
 use Rattle.record_writer.specs.Writers.{place_of, ways_into}
+use Rattle.job_chain.specs.Channels.{GivenFollowsPut}
 use Rattle.job_cells.specs.Edges.{place_into, channels_on}
 use Rattle.job_cells.specs.Places.{ChannelsHavePlaces}
-use Rattle.job_laws.specs.Channels.{LinesAreRecords}
 use Rattle.job_ends.specs.Edges.{EdgesCarry}
 use Rattle.job_ends.proofs.Loops.{place_low}
 
@@ -32,7 +32,7 @@ module _ {S E F : Type 0} where
       let mine_is : mine_at k passes ≡ mine pass = ap (λ (o : Option (Pass S E F)). option_map_or (λ (p : Pass S E F). mine p) o []) at in
       ap (by n) seen_is ∙ ap (λ (m : ℕ). by m (seen pass)) (sym numbered) ∙ is.0.5 ∙ sym mine_is
 
-pub edges_carry : LinesAreRecords → ChannelsHavePlaces → EdgesCarry
+pub edges_carry : GivenFollowsPut → ChannelsHavePlaces → EdgesCarry
 edges_carry law places job e senders inputs own gate takers pushers is s a b is_one =
     let ends = ends_of job e a b is_one in
     let p = places job e a b is is_one in
@@ -56,8 +56,7 @@ edges_carry law places job e senders inputs own gate takers pushers is s a b is_
       lane = p.i;
       lane_below = p.way_in;
       comes = p.sender;
-      carries = λ records lines puts short gives short_lines ended.
-          law (mine_at p.c (own a)) (seen_at k takers) (mine_at k pushers) (seen_at p.i (gate b)) records lines
+      begins = law (mine_at p.c (own a)) (seen_at k takers) (mine_at k pushers) (seen_at p.i (gate b))
           (record {
             queue = sent.state;
             history = sent.history;
@@ -74,5 +73,5 @@ edges_carry law places job e senders inputs own gate takers pushers is s a b is_
             later = came.later_task;
             gate = came.of_task ∙ sym gate_sees;
           })
-          puts short (s.arrived k _ p.stands) gives short_lines ended;
+          (s.arrived k _ p.stands);
     }

@@ -12,13 +12,13 @@ use Rattle.outside.specs.Links.{HasMet, faults_of}
 use Rattle.conn_parts.specs.Shares.{AreOwn}
 use Rattle.record_writer.specs.Writers.{SendPass}
 use Rattle.input_gate.specs.Turning.{InputPass}
-use Rattle.task_run.specs.Tasks.{passes_in}
 use Rattle.job_cells.specs.declared.edge.Edge.{Edge}
-use Rattle.job_laws.specs.Ends.{CarriesAt, EdgeCarries}
+use Rattle.job_chain.specs.Ran.{BeginsAt}
 use Rattle.job_workers.specs.declared.task.TaskLeft.{TaskLeft}
-use Rattle.job_workers.specs.Tasks.{gate_in}
+use Rattle.job_workers.specs.Tasks.{gate_in, passes_in}
+use Rattle.job_ends.specs.Edges.{EdgeCarries}
 use Rattle.job_ends.specs.declared.left.EdgeLeft.{EdgeLeft}
-use Rattle.job_ends.specs.Ended.{TaskPlace, LoopPlace, left_at, own_at, gate_at, AreEnded, AreLoopsEnded, AreSettled, LinksTell, faults_in}
+use Rattle.job_ends.specs.Ended.{TaskPlace, LoopPlace, left_at, own_at, gate_at, AreEnded, AreLoopsEnded, AreSettled, LinksTell, SnapshotsStay, faults_in}
 use Rattle.job_ends.specs.Leaving.{HasArrived, HasEdge, LoopEnds, RowsGoOn, places_of}
 use Rattle.job_ends.proofs.Loops.{place_low}
 use Rattle.job_ends.proofs.Rows.{some_is, stands, rows_again, rows_fewer}
@@ -102,6 +102,9 @@ module _ {S : Type 0} (rows now : List (Items (TaskPlace S))) where
     each = λ s i left at. let m = go.each s i left at in (m.0, m.1, m.2.rest);
   }
 
+  pub snapshots_stay : (P G : ℕ → Type 0) → RowsGoOn P G rows now → SnapshotsStay rows now
+  snapshots_stay P G go s i left at = let m = go.each s i left at in (m.0, m.1, m.2.snapshots_stay)
+
 own_of : {S : Type 0} (rows : List (Items (TaskPlace S))) (e a : ℕ) (left : TaskLeft S) → left_at rows e a ≡ Some left → own_at rows e a ≡ passes_in left.partition
 own_of {S} rows e a left at = ap (λ (o : Option (TaskLeft S)). option_map_or (λ (left : TaskLeft S). passes_in left.partition) o []) at
 
@@ -150,4 +153,4 @@ module _ {S O I : Type 0} {belong : O → I → Type 0} {sent : O → Option (Li
         let n = go.each (suc e) b t.0 t.1 in
         let own : own_at now e a ≡ own_at rows e a = own_of now e a m.0 m.1 ∙ ap passes_in (m.2.partition_stays (omega arith)) ∙ sym (own_of rows e a s.0 s.1) in
         let gate : gate_at now e b ≡ gate_at rows e b = gate_of now e b n.0 n.1 ∙ ap gate_in (n.2.gate_stays (omega arith)) ∙ sym (gate_of rows e b t.0 t.1) in
-        subst (λ (x : List SendPass). CarriesAt job e a b x (gate_at rows e b)) own (subst (λ (y : List InputPass). CarriesAt job e a b (own_at now e a) y) gate (carries a b is_one))
+        subst (λ (x : List SendPass). BeginsAt job e a b x (gate_at rows e b)) own (subst (λ (y : List InputPass). BeginsAt job e a b (own_at now e a) y) gate (carries a b is_one))

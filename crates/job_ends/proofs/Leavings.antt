@@ -18,11 +18,10 @@ use Rattle.record_writer.specs.declared.partition.PartitionPasses.{PartitionPass
 use Rattle.record_writer.specs.Writers.{SendCell, SendPass, place_of, ways, ways_into, sender_at}
 use Rattle.input_gate.specs.declared.passes.GatePasses.{GatePasses}
 use Rattle.input_gate.specs.Turning.{InputCell, InputPass}
-use Rattle.task_run.specs.Tasks.{passes_in}
 use Rattle.job_cells.specs.declared.edge.Edge.{Edge}
 use Rattle.job_cells.specs.Edges.{channels_on, channels_into}
 use Rattle.job_workers.specs.declared.task.TaskLeft.{TaskLeft}
-use Rattle.job_workers.specs.Tasks.{gate_in}
+use Rattle.job_workers.specs.Tasks.{gate_in, passes_in}
 use Rattle.job_ends.specs.Settling.{AllSettled, AreTaskAt, GoOn}
 use Rattle.job_ends.specs.Edges.{IsSettled}
 use Rattle.job_ends.specs.Ended.{TaskPlace, left_in, place_at, own_at, gate_at}
@@ -86,7 +85,7 @@ first_low cells number (pass ∷ own) at =
 
 -- ---- how many channels there are
 
-sum_same : (n k : ℕ) → sum_below n (λ i. k) ≡ n * k
+pub sum_same : (n k : ℕ) → sum_below n (λ i. k) ≡ n * k
 sum_same zero k = omega arith
 sum_same (suc n) k = let deep = sum_same n k in omega (arith, deep)
 

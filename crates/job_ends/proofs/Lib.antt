@@ -6,3 +6,4 @@ pub mod Leavings
 pub mod Endings
 pub mod Returns
 pub mod FourEnds
+pub mod Acknowledging

@@ -129,14 +129,15 @@ module _ {S : Type 0} where
   rows_nothing P G rows = record {
     many = refl;
     row_many = λ s. refl;
-    each = λ s i left at. (left, at, record { rest = record { input = refl; table = refl; cause = refl }; partition_stays = λ p. refl; gate_stays = λ g. refl });
+    each = λ s i left at. (left, at, record { rest = record { input = refl; cause = refl }; partition_stays = λ p. refl; gate_stays = λ g. refl; snapshots_stay = refl });
   }
 
   goes_again : (P G : Type 0) (a b c : TaskLeft S) → LeftGoesOn P G a b → LeftGoesOn P G b c → LeftGoesOn P G a c
   goes_again P G a b c s t = record {
-    rest = record { input = t.rest.input ∙ s.rest.input; table = t.rest.table ∙ s.rest.table; cause = t.rest.cause ∙ s.rest.cause };
+    rest = record { input = t.rest.input ∙ s.rest.input; cause = t.rest.cause ∙ s.rest.cause };
     partition_stays = λ p. t.partition_stays p ∙ s.partition_stays p;
     gate_stays = λ g. t.gate_stays g ∙ s.gate_stays g;
+    snapshots_stay = t.snapshots_stay ∙ s.snapshots_stay;
   }
 
   pub rows_again : (P G : ℕ → Type 0) (a b c : List (Items (TaskPlace S))) → RowsGoOn P G a b → RowsGoOn P G b c → RowsGoOn P G a c
@@ -150,7 +151,7 @@ module _ {S : Type 0} where
   rows_fewer P G P' G' a b p g t = record {
     many = t.many;
     row_many = t.row_many;
-    each = λ s i left at. let m = t.each s i left at in (m.0, m.1, record { rest = m.2.rest; partition_stays = λ q. m.2.partition_stays (p s q); gate_stays = λ q. m.2.gate_stays (g s q) });
+    each = λ s i left at. let m = t.each s i left at in (m.0, m.1, record { rest = m.2.rest; partition_stays = λ q. m.2.partition_stays (p s q); gate_stays = λ q. m.2.gate_stays (g s q); snapshots_stay = m.2.snapshots_stay });
   }
 
   -- A row whose places have changed, each so that what was left there goes on.
@@ -178,7 +179,7 @@ module _ {S : Type 0} where
       | inr else ↦ (
         left,
         ap (λ (p : TaskPlace S). left_in p) (place_is (set rows e after) s i st.row st.place (else ∙ st.has_row) st.has_place) ∙ st.is_left,
-        record { rest = record { input = refl; table = refl; cause = refl }; partition_stays = λ p. refl; gate_stays = λ g. refl },
+        record { rest = record { input = refl; cause = refl }; partition_stays = λ p. refl; gate_stays = λ g. refl; snapshots_stay = refl },
       )
     ];
   }
@@ -190,9 +191,10 @@ module _ {S : Type 0} where
         record w.left { partition = None },
         w.now,
         record {
-          rest = record { input = ap (λ (l : TaskLeft S). l.input) same; table = ap (λ (l : TaskLeft S). l.table) same; cause = ap (λ (l : TaskLeft S). l.cause) same };
+          rest = record { input = ap (λ (l : TaskLeft S). l.input) same; cause = ap (λ (l : TaskLeft S). l.cause) same };
           partition_stays = λ p. absurd (not p);
           gate_stays = λ g. ap (λ (l : TaskLeft S). l.gate) same;
+          snapshots_stay = ap (λ (l : TaskLeft S). l.snapshots) same;
         },
       )
 
@@ -203,9 +205,10 @@ module _ {S : Type 0} where
         record w.left { gate = None },
         w.now,
         record {
-          rest = record { input = ap (λ (l : TaskLeft S). l.input) same; table = ap (λ (l : TaskLeft S). l.table) same; cause = ap (λ (l : TaskLeft S). l.cause) same };
+          rest = record { input = ap (λ (l : TaskLeft S). l.input) same; cause = ap (λ (l : TaskLeft S). l.cause) same };
           partition_stays = λ p. ap (λ (l : TaskLeft S). l.partition) same;
           gate_stays = λ g. absurd (not g);
+          snapshots_stay = ap (λ (l : TaskLeft S). l.snapshots) same;
         },
       )
 

@@ -1,9 +1,9 @@
 -- An edge whose channels were settled at both ends. This is this project's own choice.
-use Rattle.std.specs.Prelude.{◌≡◌, ℕ, suc, ◌*◌, ◌<◌, List, length, slice_get, Some}
+use Rattle.std.specs.Prelude.{◌≡◌, ℕ, suc, ◌*◌, ◌<◌, true, List, length, slice_get, Some}
 use Rattle.turn_cell.specs.History.{StartsWith, entries_of}
 use Rattle.flow_defs.specs.declared.job.Job.{Job}
 use Rattle.flow_defs.specs.declared.task.ChannelId.{ChannelId}
-use Rattle.flow_defs.specs.Jobs.{tasks, IsJob}
+use Rattle.flow_defs.specs.Jobs.{tasks, is_channel, IsJob}
 use Rattle.subpartition.specs.Sending.{taken}
 use Rattle.subpartition.specs.Standing as sending
 use Rattle.input_channel.specs.States as receiving
@@ -12,7 +12,7 @@ use Rattle.conn_parts.specs.Shares.{AreOwn, mine_at, seen_at}
 use Rattle.record_writer.specs.Writers.{SendCell, SendPass, ways_on, ways_into}
 use Rattle.job_cells.specs.Edges.{channels_on}
 use Rattle.input_gate.specs.Turning.{InputCell, InputPass}
-use Rattle.job_laws.specs.Ends.{EdgeCarries}
+use Rattle.job_chain.specs.Ran.{BeginsAt}
 use Rattle.job_ends.specs.Settling.{AreTaskAt, AllSettled}
 
 -- The channels of each sending task are settled with the loop that takes from all, those of each gate with the loop that pushes to all, and
@@ -27,7 +27,12 @@ pub record IsSettled (job : Job) (e : ℕ) (senders : List SendCell) (inputs : L
   pub came : (b : ℕ) → b < tasks job (suc e) → AllSettled receiving.StandsFor (b * ways_into job e) 1 (gate b) pushers
   pub arrived : (k : ℕ) (c : ChannelId) → slice_get (channels_on job e) k ≡ Some c → StartsWith (taken (entries_of (seen_at k takers))) (pushed (mine_at k pushers))
 
--- Then each channel carries.
+-- On each channel of the edge what the gate gave begins what the task put, barriers among the data, between the passes of the tasks that
+-- send and those of the gates.
+abbrev pub EdgeCarries : Job → ℕ → (ℕ → List SendPass) → (ℕ → List InputPass) → Type 0
+EdgeCarries job e own gate = (a b : ℕ) → is_channel job e a b ≡ true → BeginsAt job e a b (own a) (gate b)
+
+-- An edge that is settled carries.
 abbrev pub EdgesCarry : Type 0
 EdgesCarry =
     (job : Job) (e : ℕ) (senders : List SendCell) (inputs : List InputCell) (own : ℕ → List SendPass) (gate : ℕ → List InputPass) (takers : List SendPass) (pushers : List InputPass) →

@@ -3,6 +3,7 @@ use Rattle.std.specs.Prelude.{◌≡◌, ℕ, suc, ◌*◌, ◌<◌, List, [], �
 use Rattle.std.specs.Option.{option_map_or}
 use Rattle.turn_cell.specs.History.{StartsWith, entries_of}
 use Rattle.flow_defs.specs.Items.{Items}
+use Rattle.flow_defs.specs.declared.image.Snapshot.{Snapshot}
 use Rattle.flow_defs.specs.declared.job.Job.{Job}
 use Rattle.flow_defs.specs.declared.task.ChannelId.{ChannelId}
 use Rattle.flow_defs.specs.Jobs.{last_edge, tasks}
@@ -14,7 +15,11 @@ use Rattle.record_writer.specs.declared.partition.PartitionPasses.{PartitionPass
 use Rattle.record_writer.specs.Writers.{SendPass, AreOwnAt, ways_on, ways_into}
 use Rattle.input_gate.specs.declared.passes.GatePasses.{GatePasses}
 use Rattle.input_gate.specs.Turning.{InputPass}
-use Rattle.task_run.specs.Tasks.{passes_in}
+use Rattle.checkpoint_laws.specs.Chapters.{task_at}
+use Rattle.snapshot_channel.specs.declared.opened.SnapshotChannel.{SnapshotChannel}
+use Rattle.snapshot_channel.specs.declared.opened.TaskPass.{TaskPass}
+use Rattle.snapshot_channel.specs.Passes as channels
+use Rattle.snapshot_channel.specs.Snapshots.{IsBeginning, snapshots_of}
 use Rattle.job_cells.specs.declared.edge.Edge.{Edge}
 use Rattle.job_cells.specs.Edges.{AreEdgesOf, channels_on}
 use Rattle.job_workers.specs.declared.connection.ConnLoop.{ConnLoop}
@@ -24,7 +29,7 @@ use Rattle.job_workers.specs.declared.place.Place.{Place}
 use Rattle.job_workers.specs.declared.place.Place.TheVariants.{Todo, Ended, Vacant}
 use Rattle.job_workers.specs.declared.task.Task.{Task}
 use Rattle.job_workers.specs.declared.task.TaskLeft.{TaskLeft}
-use Rattle.job_workers.specs.Tasks.{gate_in}
+use Rattle.job_workers.specs.Tasks.{gate_in, passes_in, snapshots_in}
 use Rattle.job_ends.specs.Settling.{AreTaskAt}
 
 abbrev pub TaskPlace : Type 0 → Type 0
@@ -56,6 +61,10 @@ module _ {S : Type 0} where
   abbrev pub gate_at : List (Items (TaskPlace S)) → ℕ → ℕ → List InputPass
   gate_at rows e b = option_map_or (λ (left : TaskLeft S). gate_in left.gate) (left_at rows (suc e) b) []
 
+  -- The snapshots that task i of stage s sent.
+  abbrev pub snapshots_at : List (Items (TaskPlace S)) → ℕ → ℕ → List Snapshot
+  snapshots_at rows s i = option_map_or (λ (left : TaskLeft S). snapshots_in left.snapshots) (left_at rows s i) []
+
   -- It has the passes of task a of edge e.
   pub record HasSent (job : Job) (e a : ℕ) (edge : Edge) (left : TaskLeft S) : Type 0 where
     pub passes : PartitionPasses
@@ -69,10 +78,16 @@ module _ {S : Type 0} where
     pub many : length passes.cells.items ≡ ways_into job e
     pub own : AreTaskAt edge.inputs.items (b * ways_into job e) 1 passes.cells.items
 
+  -- It has the pass of the channel of snapshots of task a of stage i.
+  pub record HasAcknowledged (channel : SnapshotChannel) (i a : ℕ) (left : TaskLeft S) : Type 0 where
+    pub pass : TaskPass
+    pub is_there : left.snapshots ≡ Some pass
+    pub of_channel : channels.IsPassOf channel pass
+    pub task : channels.task_of pass ≡ task_at i a
+
   -- What a place has but for passes is the same.
   pub record SameRest (old new : TaskLeft S) : Type 0 where
     pub input : new.input ≡ old.input
-    pub table : new.table ≡ old.table
     pub cause : new.cause ≡ old.cause
 
 -- All links of a kind tell their bytes.
@@ -109,11 +124,30 @@ module _ {O I : Type 0} (belong : O → I → Type 0) (sent : O → Option (List
       pub loops_many : length loops ≡ suc (last_edge job)
       pub loops_are : (e : ℕ) (edge : Edge) (row : Items (LoopPlace O I)) → slice_get edges e ≡ Some edge → slice_get loops e ≡ Some row → AreLoopsEnded job e edge row.items
 
+-- Each task of the job has left its pass of the channel of snapshots.
+pub record HaveAcknowledged {S : Type 0} (job : Job) (channel : SnapshotChannel) (rows : List (Items (TaskPlace S))) : Type 0 where
+  pub rows_many : length rows ≡ suc (suc (last_edge job))
+  pub row_many : (s : ℕ) (row : Items (TaskPlace S)) → slice_get rows s ≡ Some row → length row.items ≡ tasks job s
+  pub each : (s i : ℕ) → s < suc (suc (last_edge job)) → i < tasks job s → (left : TaskLeft S) × (left_at rows s i ≡ Some left) × HasAcknowledged channel s i left
+
+-- Of each task the snapshots that were received are the first ones of those that it sent.
+abbrev pub AreReceived : {S : Type 0} → Job → List Snapshot → List (Items (TaskPlace S)) → Type 0
+AreReceived job received rows = (s i : ℕ) → s < suc (suc (last_edge job)) → i < tasks job s → IsBeginning (snapshots_of (task_at s i) received) (snapshots_at rows s i)
+
 -- Rows of the same lengths, in which each place has what it had but for passes.
 pub record AreSettled {S : Type 0} (old new : List (Items (TaskPlace S))) : Type 0 where
   pub many : length new ≡ length old
   pub row_many : (s : ℕ) (before after : Items (TaskPlace S)) → slice_get old s ≡ Some before → slice_get new s ≡ Some after → length after.items ≡ length before.items
   pub each : (s i : ℕ) (left : TaskLeft S) → left_at old s i ≡ Some left → (rest : TaskLeft S) × (left_at new s i ≡ Some rest) × SameRest left rest
+
+-- What each place has of the channel of snapshots stays, or what it has of its partition and its gate.
+abbrev pub SnapshotsStay : {S : Type 0} → List (Items (TaskPlace S)) → List (Items (TaskPlace S)) → Type 0
+SnapshotsStay {S} old new = (s i : ℕ) (left : TaskLeft S) → left_at old s i ≡ Some left →
+    (rest : TaskLeft S) × (left_at new s i ≡ Some rest) × (rest.snapshots ≡ left.snapshots)
+
+abbrev pub ChannelsStay : {S : Type 0} → List (Items (TaskPlace S)) → List (Items (TaskPlace S)) → Type 0
+ChannelsStay {S} old new = (s i : ℕ) (left : TaskLeft S) → left_at old s i ≡ Some left →
+    (rest : TaskLeft S) × (left_at new s i ≡ Some rest) × (rest.partition ≡ left.partition) × (rest.gate ≡ left.gate)
 
 -- How many faults the half of a loop counted, and all four of a row.
 module _ {O I : Type 0} (of_out : O → ℕ) (of_in : I → ℕ) where

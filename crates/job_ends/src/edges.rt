@@ -3,8 +3,8 @@ ghost use Rattle.std.specs.Prelude.{◌≡◌, ◌≢◌, ◌+◌, ◌<◌, ◌�
 ghost use Rattle.flow_defs.specs.Jobs.{IsJob, last_edge};
 ghost use Rattle.outside.specs.Faults.{HasRisen};
 ghost use Rattle.conn_parts.specs.Shares.{AreOwn};
-ghost use Rattle.job_laws.specs.Ends.{EdgeCarries};
-ghost use Rattle.job_ends.specs.Ended.{AreEnded, AreLoopsEnded, AreSettled, HasLinkFault, LinksTell, faults_in, gate_at, own_at};
+ghost use Rattle.job_ends.specs.Edges.{EdgeCarries};
+ghost use Rattle.job_ends.specs.Ended.{AreEnded, AreLoopsEnded, AreSettled, HasLinkFault, LinksTell, SnapshotsStay, faults_in, gate_at, own_at};
 ghost use Rattle.job_ends.specs.Leaving.{HasArrived, HasEdge, RowsGoOn};
 ghost use Rattle.job_ends.specs.Returning.{RowCameBack, RowsCameBack};
 
@@ -93,9 +93,10 @@ pub fn settle_edges<'a, 'p, S, N: Links, R: Wait>(
     requires ended { (size : ℕ) × AreEnded (λ out input. N.belong (N.Out.line out) (N.In.line input)) N.Out.sent N.In.got job.now size edges.now rows.old loops.old }
     requires lent { suc (last_edge job.now) ≤ N.lent net.old }
 
-    // Where links tell their bytes, what the tasks put on each channel is what the gates gave.
+    // Where links tell their bytes, what the gates gave of each channel begins what the tasks put there.
     ensures carry { LinksTell N.Out.sent N.In.got → (e : ℕ) → e ≤ last_edge job.now → EdgeCarries job.now e (own_at rows.old e) (gate_at rows.old e) }
     ensures rest { AreSettled rows.old rows.new }
+    ensures snapshots { SnapshotsStay rows.old rows.new }
     ensures lent { N.lent net.new + suc (last_edge job.now) ≡ N.lent net.old }
     ensures never_falls { N.faults net.old ≤ N.faults net.new }
     ensures wires { RowsCameBack N.In.got N.In.ended (N.wires net.old) (N.wires net.new) loops.old (suc (last_edge job.now)) }

@@ -2,12 +2,12 @@
 ghost use Rattle.job_ends.specs.Edges.{EdgesCarry};
 
 use job_cells::laws::places_agree;
-use job_laws::laws::channels_carry_records;
+use job_chain::laws::channels_carry_barriers;
 
 /// Each channel of an edge that was settled at both ends carries what was put there.
 pub fn edges_carry()
     ensures { EdgesCarry }
 {
-    channels_carry_records();
+    channels_carry_barriers();
     places_agree();
 }

@@ -3,7 +3,7 @@ ghost use Rattle.std.specs.Prelude.{◌≡◌, ◌++◌, ◌∷◌, [], List, So
 ghost use Rattle.job_workers.specs.declared.connection.LoopLeft.TheVariants.{SentItems, ReadControl, ReadItems, SentControl};
 ghost use Rattle.job_workers.specs.declared.place.Place.TheVariants.{Ended, Vacant};
 ghost use Rattle.job_ends.specs.Ended.{left_in};
-ghost use Rattle.job_ends.specs.Leaving.{HasPartition, HasGate, LoopEnds, TookPartition, TookGate, left_by, places_of};
+ghost use Rattle.job_ends.specs.Leaving.{HasGate, HasPartition, HasSnapshots, LoopEnds, TookGate, TookPartition, TookSnapshots, left_by, places_of};
 
 use conn_parts::{LoopEnd, SharePasses};
 use flow_defs::ListOf;
@@ -12,6 +12,7 @@ use input_gate::GatePasses;
 use job_workers::{LoopLeft, LoopRow, Place, TaskLeft, TaskPlace};
 use outside::Wire;
 use record_writer::PartitionPasses;
+use snapshot_channel::TaskPass;
 use std::mem;
 use subpartition::Subpartition;
 use turn_cell::Pass;
@@ -196,7 +197,7 @@ pub fn take_partition<'a, 'p, S>(place: &mut TaskPlace<'a, 'p, S>) -> PartitionP
         input,
         gate,
         partition,
-        table,
+        snapshots,
         cause,
     } = left;
     let Some(passes) = partition else {
@@ -206,7 +207,7 @@ pub fn take_partition<'a, 'p, S>(place: &mut TaskPlace<'a, 'p, S>) -> PartitionP
         input,
         gate,
         partition: None,
-        table,
+        snapshots,
         cause,
     };
     put_left(place, rest);
@@ -223,7 +224,7 @@ pub fn take_gate<'a, 'p, S>(place: &mut TaskPlace<'a, 'p, S>) -> GatePasses<'p>
         input,
         gate,
         partition,
-        table,
+        snapshots,
         cause,
     } = left;
     let Some(passes) = gate else { unreachable!() };
@@ -231,9 +232,36 @@ pub fn take_gate<'a, 'p, S>(place: &mut TaskPlace<'a, 'p, S>) -> GatePasses<'p>
         input,
         gate: None,
         partition,
-        table,
+        snapshots,
         cause,
     };
     put_left(place, rest);
     passes
+}
+
+/// Takes its pass of the channel of snapshots out of what a task left.
+pub fn take_snapshots<'a, 'p, S>(place: &mut TaskPlace<'a, 'p, S>) -> TaskPass
+    requires { HasSnapshots place.old }
+    ensures { TookSnapshots place.old place.new result }
+{
+    let left = take_left(place);
+    let TaskLeft {
+        input,
+        gate,
+        partition,
+        snapshots,
+        cause,
+    } = left;
+    let Some(pass) = snapshots else {
+        unreachable!()
+    };
+    let rest = TaskLeft {
+        input,
+        gate,
+        partition,
+        snapshots: None,
+        cause,
+    };
+    put_left(place, rest);
+    pass
 }

@@ -1,6 +1,7 @@
 //! What the workers of a job left behind, put together.
 #![tactic(auto)]
 
+mod acknowledged;
 mod channels;
 mod edges;
 pub mod laws;
@@ -11,6 +12,7 @@ mod stages;
 mod tests;
 mod wires;
 
+pub use acknowledged::settle_snapshots;
 pub use channels::settle_channels;
 pub use edges::settle_edges;
 pub use settling::settle;

@@ -1,7 +1,9 @@
 mod Places
 mod Running
-mod Ending
+mod Jobs
+mod Chaining
 mod Tallying
+mod Ending
 mod OverCredits
 mod PeerGrounds
 mod Grounds

@@ -1,5 +1,5 @@
 -- Data that a channel refused as over its credit.
-use Rattle.std.proofs.Common.{◌≡◌, ℕ, suc, ◌+◌, ◌≤◌, ◌%◌, ◌^◌, Bool, true, false, not, cond, eqb, eqb-true, ltb, List, [], ◌∷◌, length, Option, Some, None, refl, ◌∙◌, arith}
+use Rattle.std.proofs.Common.{◌≡◌, ℕ, suc, ◌+◌, ◌≤◌, ◌%◌, ◌^◌, true, false, not, cond, eqb, eqb-true, ltb, List, [], ◌∷◌, length, Option, Some, None, refl, ◌∙◌, arith}
 use Rattle.turn_cell.specs.History.{entries_of}
 use Rattle.input_channel.specs.declared.arrival.Arrival.{Arrival}
 use Rattle.input_channel.specs.declared.arrival.ArrivalKind.{ArrivalKind}

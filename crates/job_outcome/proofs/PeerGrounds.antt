@@ -1,7 +1,6 @@
 -- What the bytes of a link begin with where a loop met a fault of its other end.
-use Rattle.std.proofs.Common.{◌≡◌, ℕ, true, Bool, List, [], ◌++◌, Option, Some, None, slice_get, refl, ap, subst, ◌∙◌}
+use Rattle.std.proofs.Common.{◌≡◌, ℕ, true, Bool, List, [], ◌++◌, Option, Some, None, refl, subst}
 use Rattle.std.specs.Prelude.{IfSome}
-use Rattle.turn_cell.specs.History.{entries_of}
 use Rattle.flow_defs.specs.declared.task.ChannelId.{ChannelId}
 use Rattle.flow_defs.specs.declared.cause.PeerFault.{PeerFault}
 use Rattle.flow_defs.specs.declared.cause.PeerFault.TheVariants as peers
@@ -13,7 +12,7 @@ use Rattle.conn_parts.specs.declared.share.ConnShare.{ConnShare}
 use Rattle.conn_parts.specs.declared.share.SharePasses.{SharePasses}
 use Rattle.conn_parts.specs.Messages.{Message, is_from_receiver}
 use Rattle.conn_parts.specs.Reading.{BeginsWith}
-use Rattle.conn_receive.specs.Receiving.{WasRefused, NamesWrong, MetPeer as MetAtItems}
+use Rattle.conn_receive.specs.Receiving.{WasRefused, MetPeer as MetAtItems}
 use Rattle.conn_grant.specs.Granting.{IsWrong, IsTooLarge, seen_readers, MetPeer as MetAtControl}
 use Rattle.reader_state.specs.declared.entry.ReaderEntry.{ReaderEntry}
 use Rattle.job_outcome.specs.Grounds.{BeginsWithItem, ItemsBegin, ControlBegins}

@@ -6,15 +6,19 @@ use Rattle.std.proofs.lemmas.Bool.{cases_lt}
 use Rattle.flow_defs.specs.Items.{Items}
 use Rattle.flow_defs.specs.declared.job.Job.{Job}
 use Rattle.flow_defs.specs.Jobs.{last_edge, tasks}
+use Rattle.outside.specs.Keepers.{KeptImage}
 use Rattle.outside.specs.declared.wires.Wire.{Wire}
 use Rattle.conn_parts.specs.declared.share.LoopEnd.{LoopEnd}
-use Rattle.task_run.specs.Tasks.{passes_in}
+use Rattle.snapshot_channel.specs.declared.opened.SnapshotChannel.{SnapshotChannel}
+use Rattle.collecting_worker.specs.declared.world.CollectEnd.{CollectEnd}
 use Rattle.job_cells.specs.declared.edge.Edge.{Edge}
+use Rattle.job_workers.specs.declared.collecting.CollectTask.{CollectTask}
 use Rattle.job_workers.specs.declared.connection.ConnLoop.{ConnLoop}
 use Rattle.job_workers.specs.declared.connection.ConnLoop.TheVariants as todo
 use Rattle.job_workers.specs.declared.connection.LoopLeft.{LoopLeft}
 use Rattle.job_workers.specs.declared.connection.LoopLeft.TheVariants as did
 use Rattle.job_workers.specs.declared.connection.LoopWork.{LoopWork}
+use Rattle.job_workers.specs.declared.place.Place.{Place}
 use Rattle.job_workers.specs.declared.place.Place.TheVariants.{Todo, Ended, Vacant}
 use Rattle.job_workers.specs.declared.task.SourceTask.{SourceTask}
 use Rattle.job_workers.specs.declared.task.StageTask.{StageTask}
@@ -23,9 +27,9 @@ use Rattle.job_workers.specs.declared.task.Task.TheVariants.{Source, Stage, Aggr
 use Rattle.job_workers.specs.declared.task.TaskLeft.{TaskLeft}
 use Rattle.job_workers.specs.Loops.{LeftByLoop, SentItems, SentControl, ReadControl, ReadItems}
 use Rattle.job_workers.specs.Places.{RowLeaves}
-use Rattle.job_workers.specs.Tasks.{LeftByTask, LeftBySource, LeftByStage, LeftByAggregate, gate_in}
+use Rattle.job_workers.specs.Tasks.{LeftByTask, LeftBySource, LeftByStage, LeftByAggregate, gate_in, passes_in, snapshots_in}
 use Rattle.job_deploy.specs.Deployed.{AreLoopsAt, IsSourceAt, IsStageAt, IsAggregateAt}
-use Rattle.job_ends.specs.Ended.{TaskPlace, LoopPlace, left_in, left_at, own_at, gate_at}
+use Rattle.job_ends.specs.Ended.{TaskPlace, LoopPlace, left_in, left_at, own_at, gate_at, snapshots_at}
 use Rattle.job_outcome.specs.Theorems.{HaveRun}
 use Rattle.job_outcome.proofs.Places.{same_some, placed, at_place, place_low, four, end_at}
 
@@ -45,6 +49,9 @@ module _ {S : Type 0} (rows : List (Items (TaskPlace S))) (s i : ℕ) (end : End
 
   pub is_own : own_at rows s i ≡ passes_in end.left.partition
   is_own = ap (λ (o : Option (TaskLeft S)). option_map_or (λ (left : TaskLeft S). passes_in left.partition) o []) is_left
+
+  pub is_sent : snapshots_at rows s i ≡ snapshots_in end.left.snapshots
+  is_sent = ap (λ (o : Option (TaskLeft S)). option_map_or (λ (left : TaskLeft S). snapshots_in left.snapshots) o []) is_left
 
 pub is_gate : {S : Type 0} (rows : List (Items (TaskPlace S))) (e b : ℕ) (end : EndAt rows (suc e) b) → gate_at rows e b ≡ gate_in end.left.gate
 is_gate {S} rows e b end = ap (λ (o : Option (TaskLeft S)). option_map_or (λ (left : TaskLeft S). gate_in left.gate) o []) (is_left rows (suc e) b end)
@@ -124,11 +131,13 @@ module _ {O I L N : Type 0} (line : O → L) (sent : O → Option (List ℕ)) (o
         by_announce = n.2;
       }
 
-module _ {S O I L N : Type 0} (left : S → Option (List ℕ)) (faults : S → ℕ)
-    (line : O → L) (sent : O → Option (List ℕ)) (finished : O → Option Bool) (of_out : O → ℕ)
-    (end_line : I → N) (got : I → Option (List ℕ)) (ended : I → Option Bool) (of_in : I → ℕ) (belong : L → N → Type 0)
-    (job : Job) (size : ℕ) (edges : List Edge) (inputs : List S) (wires : List (Wire O I)) (rows : List (Items (TaskPlace S))) (loops : List (Items (LoopPlace O I)))
-    (run : HaveRun left faults line sent finished of_out end_line got ended of_in belong job size edges inputs wires rows loops) where
+-- What ran, of which all else follows.
+module _ {S O I L N : Type 0} {left : S → Option (List ℕ)} {faults : S → ℕ}
+    {line : O → L} {sent : O → Option (List ℕ)} {finished : O → Option Bool} {of_out : O → ℕ}
+    {end_line : I → N} {got : I → Option (List ℕ)} {ended : I → Option Bool} {of_in : I → ℕ} {belong : L → N → Type 0}
+    {job : Job} {size : ℕ} {every : Option ℕ} {snapshots : SnapshotChannel} {edges : List Edge} {inputs : List S} {wires : List (Wire O I)}
+    {told told_after : Option (List KeptImage)} {fell rose : ℕ} {rows : List (Items (TaskPlace S))} {loops : List (Items (LoopPlace O I))} {collected : Place CollectTask CollectEnd}
+    (run : HaveRun left faults line sent finished of_out end_line got ended of_in belong job size every snapshots edges inputs wires told told_after fell rose rows loops collected) where
   abbrev last : ℕ
   last = last_edge job
 
@@ -174,19 +183,19 @@ module _ {S O I L N : Type 0} (left : S → Option (List ℕ)) (faults : S → �
   pub record BySource (a : ℕ) : Type 0 where
     pub end : EndAt rows 0 a
     pub task : SourceTask S
-    pub was : IsSourceAt job edges inputs a task
+    pub was : IsSourceAt job size every snapshots edges inputs a task
     pub by : LeftBySource left faults job task end.left
 
   pub record ByStage (e b : ℕ) : Type 0 where
     pub end : EndAt rows (suc e) b
     pub task : StageTask
-    pub was : IsStageAt job edges e b task
+    pub was : IsStageAt job size every snapshots edges e b task
     pub by : LeftByStage job task end.left
 
   pub record ByAggregate (b : ℕ) : Type 0 where
     pub end : EndAt rows (suc last) b
     pub task : AggregateTask
-    pub was : IsAggregateAt job edges b task
+    pub was : IsAggregateAt job size every snapshots edges b task
     pub by : LeftByAggregate job task end.left
 
   pub source_at : (a : ℕ) → a < tasks job 0 → BySource a

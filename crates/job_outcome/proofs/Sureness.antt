@@ -1,7 +1,6 @@
 -- Loops over wires of which no end is to fail.
-use Rattle.std.proofs.Common.{◌≡◌, ℕ, ◌<◌, List, Option, Some, slice_get, ap, subst, ◌∙◌, arith}
+use Rattle.std.proofs.Common.{◌≡◌, ℕ, List, Option, Some, slice_get, ap, subst, ◌∙◌, arith}
 use Rattle.std.specs.Prelude.{Bool}
-use Rattle.flow_defs.specs.Items.{Items}
 use Rattle.flow_defs.specs.declared.job.Job.{Job}
 use Rattle.outside.specs.declared.wires.Wire.{Wire}
 use Rattle.outside.specs.Links.{NeverFails}
@@ -32,14 +31,14 @@ module _ {S O I L N : Type 0} (left : S → Option (List ℕ)) (faults : S → �
       (subst (λ (xs : List (LoopPlace O I)). slice_get xs i ≡ Some place) ends.row_is at)
 
   pub sure_wires_have_no_fault : SureWiresHaveNoFault left faults line sent finished of_out end_line got ended of_in belong sure_out sure_in
-  sure_wires_have_no_fault job size edges inputs wires rows loops run sure fault =
+  sure_wires_have_no_fault job size every snapshots edges inputs wires told told_after fell rose rows loops collected run sure fault =
       let e = fault.0 in
       let i = fault.1 in
       let row = fault.2.0 in
       let place = fault.2.1.0 in
       let low = place_low loops e row fault.2.1.1 in
       let edge = at_place edges e (omega (arith, low, run.loops_many, run.deployed.loops_many, run.edges_are.many)) in
-      let l = loops_at left faults line sent finished of_out end_line got ended of_in belong job size edges inputs wires rows loops run e edge.0 row edge.1 fault.2.1.1 in
+      let l = loops_at run e edge.0 row edge.1 fault.2.1.1 in
       let none : faults_in of_out of_in place ≡ 0 =
       none_at job e edge.0 l.wire row.items i place l.ends (all_at (NeverFails sure_out sure_in) wires e l.wire sure l.wire_is) fault.2.1.2 in
       let more = fault.2.1.3 in

@@ -1,31 +1,41 @@
--- Where all workers are done, the tables are the tally.
-use Rattle.std.proofs.Common.{◌≡◌, ℕ, suc, ◌<◌, ◌≤◌, List, [], ◌∷◌, length, Option, Some, slice_get, sym, ap, subst, ◌∙◌, arith, inl, inr}
-use Rattle.std.specs.Prelude.{Bool, IfSome}
-use Rattle.std.specs.List.{AllByRecursion}
-use Rattle.std.proofs.lemmas.List.{length-map}
+-- Where the workers are done, the last image has the tally in its tables.
+use Rattle.std.proofs.Common.{◌≡◌, ℕ, ◌<◌, ◌≤◌, true, List, [], ◌∷◌, ◌++◌, length, Option, Some, None, refl, sym, ap, subst, ◌∙◌, arith, inl, inr}
+use Rattle.std.specs.Prelude.{Bool, IsSome, IsSomeAnd}
+use Rattle.std.specs.List.{AllByRecursion, last_or}
+use Rattle.std.proofs.lemmas.List.{append-nil}
 use Rattle.flow_defs.specs.Items.{Items}
-use Rattle.flow_defs.specs.declared.cause.Cause.TheVariants.{Done}
-use Rattle.flow_defs.specs.declared.job.Job.{Job}
-use Rattle.flow_defs.specs.Jobs.{last_edge, tasks}
 use Rattle.flow_defs.specs.Lines.{lines}
 use Rattle.flow_defs.specs.Records.{IsShort}
-use Rattle.flow_defs.specs.Tables.{Values, join}
+use Rattle.flow_defs.specs.Tables.{join}
+use Rattle.flow_defs.specs.declared.cause.Cause.TheVariants.{Done}
+use Rattle.flow_defs.specs.declared.image.Image.{Image}
+use Rattle.flow_defs.specs.declared.job.Job.{Job}
+use Rattle.flow_defs.specs.Jobs.{tasks}
+use Rattle.plain_machine.specs.Chains.{last_of}
+use Rattle.plain_machine.specs.Theorems.{StartExists}
 use Rattle.plain_machine.specs.Worth.{tally}
+use Rattle.outside.specs.Keepers.{KeptImage}
 use Rattle.outside.specs.declared.wires.Wire.{Wire}
-use Rattle.record_writer.specs.Writers.{SendPass}
-use Rattle.input_gate.specs.Turning.{InputPass}
-use Rattle.task_run.specs.Tasks.{passes_in}
+use Rattle.snapshot_channel.specs.declared.opened.SnapshotChannel.{SnapshotChannel}
+use Rattle.task_output.specs.Outputs.{all_of}
+use Rattle.collecting_worker.specs.declared.world.CollectEnd.{CollectEnd}
+use Rattle.collecting_worker.specs.Laws.{StoredAreCollected}
 use Rattle.job_plan.specs.Limits.{HasLongLine}
 use Rattle.job_plan.specs.declared.limits.TheConstants.{SOURCE_MAX}
 use Rattle.job_cells.specs.declared.edge.Edge.{Edge}
-use Rattle.job_laws.specs.Ends.{SentWhole, StageDone, AggregateDone, EdgeCarries, JobDone, DoneGivesTally}
+use Rattle.job_chain.specs.Ran.{RanEndsInTally}
+use Rattle.job_workers.specs.declared.collecting.CollectTask.{CollectTask}
+use Rattle.job_workers.specs.declared.place.Place.{Place}
 use Rattle.job_workers.specs.declared.place.Place.TheVariants.{Ended}
-use Rattle.job_workers.specs.Tasks.{gate_in}
-use Rattle.job_ends.specs.Ended.{TaskPlace, LoopPlace, own_at, gate_at}
-use Rattle.job_outcome.specs.Outcomes.{AllDone, AreTold, AreWithin}
-use Rattle.job_outcome.specs.Theorems.{HaveRun, DoneWorkersTally, table_in, tables_in}
-use Rattle.job_outcome.proofs.Places.{same_some, some_same, place_low, map_at}
-use Rattle.job_outcome.proofs.Running.{EndAt, is_own, is_gate, row_many, source_at, stage_at, aggregate_at}
+use Rattle.job_ends.specs.Ended.{TaskPlace, LoopPlace, own_at, gate_at, snapshots_at}
+use Rattle.job_outcome.specs.Outcomes.{AllDone, AreTold, AreWithin, StandsAt, cause_of_collector}
+use Rattle.job_outcome.specs.Theorems.{HaveRun, AreSettledWith, DoneWorkersTally, DoneCollectorHasLast}
+use Rattle.job_outcome.proofs.Places.{some_same}
+use Rattle.job_outcome.proofs.Running.{source_at}
+use Rattle.job_outcome.proofs.Jobs.{source_account}
+use Rattle.job_outcome.proofs.Chaining.{account_of, interval_of, job_ran}
+
+-- ---- lines and images
 
 -- No line is too long where all are short.
 none_long : (ls : List (List ℕ)) → AllByRecursion IsShort ls → HasLongLine ls → ⊥
@@ -33,78 +43,85 @@ none_long [] short long = long
 none_long (l ∷ ls) short (inl first) = let low = short.0 in omega (arith, low, first)
 none_long (l ∷ ls) short (inr later) = none_long ls short.1 later
 
+-- The last one of some images, whatever is before the first.
+last_from : (base image : Image) (images : List Image) → last_or (Some base) images ≡ Some image → last_of base images ≡ image
+last_from base image [] is = some_same base image is
+last_from base image (x ∷ images) is = last_from x image images is
+
+last_is : (base image : Image) (images : List Image) → last_or None images ≡ Some image → last_of base images ≡ image
+last_is base image [] is = absurd (cc)
+last_is base image (x ∷ images) is = last_from x image images is
+
+some_with : {X : Type 0} (P : X → Type 0) (o : Option X) → IsSomeAnd o P → IsSome o
+some_with P None h = absurd h
+some_with P (Some x) h = refl
+
+-- ---- a run in which the worker that collects is done
+
+module _ {S O I L N : Type 0} {left : S → Option (List ℕ)} {faults : S → ℕ}
+    {line : O → L} {sent : O → Option (List ℕ)} {finished : O → Option Bool} {of_out : O → ℕ}
+    {end_line : I → N} {got : I → Option (List ℕ)} {ended : I → Option Bool} {of_in : I → ℕ} {belong : L → N → Type 0}
+    {job : Job} {size : ℕ} {every : Option ℕ} {snapshots : SnapshotChannel} {edges : List Edge} {inputs : List S} {wires : List (Wire O I)}
+    {before after : Option (List KeptImage)} {fell rose : ℕ}
+    {rows : List (Items (TaskPlace S))} {loops : List (Items (LoopPlace O I))} {collected : Place CollectTask CollectEnd}
+    (run : HaveRun left faults line sent finished of_out end_line got ended of_in belong
+    job size every snapshots edges inputs wires before after fell rose rows loops collected) where
+  -- Where all are done, no source is over a limit.
+  source_within : (bytes : ℕ → List ℕ) → AreTold left inputs bytes → AllDone rows loops collected → (a : ℕ) → a < tasks job 0 →
+      (length (bytes a) ≤ SOURCE_MAX) × AllByRecursion IsShort (lines (bytes a))
+  source_within bytes told done a low =
+      let s = source_at run a low in
+      let account = source_account run bytes told a low in
+      let stands : StandsAt rows 0 a (Ended s.end.left) = record { row = s.end.row; row_is = s.end.row_is; place_is = s.end.left_is } in
+      let is_done = some_same s.end.left.cause Done (done.by_tasks 0 a (Ended s.end.left) stands) in
+      let at_end = account.at_end (account.done is_done).0 in
+      let all : all_of account.groups ++ (account.rest ++ account.begun) ≡ lines (bytes a) =
+      ap (λ (l : List (List ℕ)). all_of account.groups ++ l) at_end.1 ∙ append-nil (all_of account.groups) ∙ sym at_end.0 in
+      (account.within is_done, subst (λ (l : List (List ℕ)). AllByRecursion IsShort l) all account.short)
+
+  pub within : (bytes : ℕ → List ℕ) → AreTold left inputs bytes → AllDone rows loops collected → AreWithin job bytes
+  within bytes told done a low (inl big) = let few = (source_within bytes told done a low).0 in omega (arith, few, big)
+  within bytes told done a low (inr long) = none_long (lines (bytes a)) (source_within bytes told done a low).1 long
+
+  -- The worker that collects is done where all are.
+  pub collector_done : (end : CollectEnd) → collected ≡ Ended end → AllDone rows loops collected → end.cause ≡ Done
+  collector_done end is done =
+      some_same end.cause Done (ap (λ (place : Place CollectTask CollectEnd). cause_of_collector place) (sym is) ∙ done.by_collector)
+
+  module _ (end : CollectEnd) (is : collected ≡ Ended end) (is_done : end.cause ≡ Done) where
+    pub has_last : IsSome end.last
+    has_last = some_with (λ (image : Image). image.final_one ≡ true) end.last ((account_of run end is).done is_done)
+
+    module _ (image : Image) (last : end.last ≡ Some image) where
+      final : image.final_one ≡ true
+      final = subst (λ (o : Option Image). IsSomeAnd o (λ (x : Image). x.final_one ≡ true)) last ((account_of run end is).done is_done)
+
+      last_stored : (base : Image) → last_of base (account_of run end is).images ≡ image
+      last_stored base = last_is base image (account_of run end is).images (sym (account_of run end is).last_is ∙ last)
+
+      pub tally_is : (bytes : ℕ → List ℕ) → AreTold left inputs bytes →
+          AreSettledWith left faults line sent finished of_out end_line got ended of_in belong job rows end →
+          StartExists → StoredAreCollected → RanEndsInTally → join job.agg image.tables.items ≡ tally job (λ a. lines (bytes a))
+      tally_is bytes told settled starts collects tallies =
+          let first = starts job in
+          let same = last_stored first.0 in
+          subst (λ (x : Image). join job.agg x.tables.items ≡ tally job (λ a. lines (bytes a))) same
+          (tallies job size every bytes first.0 (own_at rows) (gate_at rows) (snapshots_at rows) (account_of run end is).images run.is_job
+          (interval_of every run.interval) first.1 (job_ran run end is bytes told settled collects first.0 first.1)
+          (subst (λ (x : Image). x.final_one ≡ true) (sym same) final))
+
+-- ---- the laws
+
 module _ {S O I L N : Type 0} (left : S → Option (List ℕ)) (faults : S → ℕ)
     (line : O → L) (sent : O → Option (List ℕ)) (finished : O → Option Bool) (of_out : O → ℕ)
-    (end_line : I → N) (got : I → Option (List ℕ)) (ended : I → Option Bool) (of_in : I → ℕ) (belong : L → N → Type 0)
-    (job : Job) (size : ℕ) (edges : List Edge) (inputs : List S) (wires : List (Wire O I)) (rows : List (Items (TaskPlace S))) (loops : List (Items (LoopPlace O I)))
-    (bytes : ℕ → List ℕ) (row : Items (TaskPlace S))
-    (run : HaveRun left faults line sent finished of_out end_line got ended of_in belong job size edges inputs wires rows loops)
-    (done : AllDone rows loops) (told : AreTold left inputs bytes)
-    (carry : (e : ℕ) → e ≤ last_edge job → EdgeCarries job e (own_at rows e) (gate_at rows e))
-    (at_row : slice_get rows (suc (last_edge job)) ≡ Some row) where
-  is_done : (s i : ℕ) (end : EndAt rows s i) → end.left.cause ≡ Done
-  is_done s i end = some_same end.left.cause Done (done.by_tasks s i (Ended end.left) (record { row = end.row; row_is = end.row_is; place_is = end.left_is }))
+    (end_line : I → N) (got : I → Option (List ℕ)) (ended : I → Option Bool) (of_in : I → ℕ) (belong : L → N → Type 0) where
+  pub done_workers_tally : StartExists → StoredAreCollected → RanEndsInTally →
+      DoneWorkersTally left faults line sent finished of_out end_line got ended of_in belong
+  done_workers_tally starts collects tallies job size every snapshots edges inputs wires before after fell rose rows loops collected
+      end bytes image run is last done told settled =
+      let is_done = collector_done run end is done in
+      (tally_is run end is is_done image last bytes told settled starts collects tallies, within run bytes told done)
 
-  -- What a source sent.
-  source_sent : (a : ℕ) → a < tasks job 0 → SentWhole job 0 a (own_at rows 0 a) (lines (bytes a)) × (length (bytes a) ≤ SOURCE_MAX)
-  source_sent a low =
-      let s = source_at left faults line sent finished of_out end_line got ended of_in belong job size edges inputs wires rows loops run a low in
-      let all : SentWhole job 0 s.task.index (passes_in s.end.left.partition) (lines (bytes a)) × (length (bytes a) ≤ SOURCE_MAX) =
-      subst (λ (o : Option (List ℕ)). IfSome o (λ b. SentWhole job 0 s.task.index (passes_in s.end.left.partition) (lines b) × (length b ≤ SOURCE_MAX)))
-      (told a s.task.input s.was.input) (s.by.did (is_done 0 a s.end)) in (
-        subst (λ (own : List SendPass). SentWhole job 0 a own (lines (bytes a))) (sym (is_own rows 0 a s.end))
-            (subst (λ (k : ℕ). SentWhole job 0 k (passes_in s.end.left.partition) (lines (bytes a))) s.was.index all.0),
-        all.1,
-      )
-
-  stage_done : (e b : ℕ) → e < last_edge job → b < tasks job (suc e) → StageDone job e b (gate_at rows e b) (own_at rows (suc e) b)
-  stage_done e b before low =
-      let s = stage_at left faults line sent finished of_out end_line got ended of_in belong job size edges inputs wires rows loops run e b before low in
-      subst (λ (own : List SendPass). StageDone job e b (gate_at rows e b) own) (sym (is_own rows (suc e) b s.end))
-      (subst (λ (gate : List InputPass). StageDone job e b gate (passes_in s.end.left.partition)) (sym (is_gate rows e b s.end))
-      (subst (λ (k : ℕ). StageDone job e k (gate_in s.end.left.gate) (passes_in s.end.left.partition)) s.was.index
-      (subst (λ (k : ℕ). StageDone job k s.task.index (gate_in s.end.left.gate) (passes_in s.end.left.partition)) s.was.edge
-      (s.by.did (is_done (suc e) b s.end)))))
-
-  aggregate_done : (b : ℕ) (table : Values) → slice_get (tables_in row.items) b ≡ Some table → AggregateDone job b (gate_at rows (last_edge job) b) table
-  aggregate_done b table at =
-      let place = map_at table_in row.items b table at in
-      let low = place_low row.items b place.0 place.1 in
-      let many = row_many left faults line sent finished of_out end_line got ended of_in belong job size edges inputs wires rows loops run (suc (last_edge job)) row at_row in
-      let s = aggregate_at left faults line sent finished of_out end_line got ended of_in belong job size edges inputs wires rows loops run b (omega (arith, low, many)) in
-      let same_row : s.end.row ≡ row = same_some (slice_get rows (suc (last_edge job))) s.end.row row s.end.row_is at_row in
-      let here : slice_get row.items b ≡ Some (Ended s.end.left) = subst (λ (r : Items (TaskPlace S)). slice_get r.items b ≡ Some (Ended s.end.left)) same_row s.end.left_is in
-      let same : Ended s.end.left ≡ place.0 = same_some (slice_get row.items b) (Ended s.end.left) place.0 here place.1 in
-      let is_table : s.end.left.table ≡ table = ap (λ (p : TaskPlace S). table_in p) same ∙ place.2 in
-      subst (λ (t : Values). AggregateDone job b (gate_at rows (last_edge job) b) t) is_table
-      (subst (λ (gate : List InputPass). AggregateDone job b gate s.end.left.table) (sym (is_gate rows (last_edge job) b s.end))
-      (subst (λ (k : ℕ). AggregateDone job k (gate_in s.end.left.gate) s.end.left.table) s.was.index
-      (s.by.did (is_done (suc (last_edge job)) b s.end))))
-
-  tables_many : length (tables_in row.items) ≡ tasks job (suc (last_edge job))
-  tables_many =
-      length-map row.items (λ (place : TaskPlace S). table_in place)
-      ∙ row_many left faults line sent finished of_out end_line got ended of_in belong job size edges inputs wires rows loops run (suc (last_edge job)) row at_row
-
-  job_done : JobDone job (λ a. lines (bytes a)) (own_at rows) (gate_at rows) (tables_in row.items)
-  job_done = record {
-    sources = λ a low. (source_sent a low).0;
-    stages = stage_done;
-    many = tables_many;
-    aggregates = aggregate_done;
-    edges = carry;
-  }
-
-  within : AreWithin job bytes
-  within a low (inl big) = let few = (source_sent a low).1 in omega (arith, few, big)
-  within a low (inr long) = none_long (lines (bytes a)) (source_sent a low).0.short long
-
-  pub tally_of : DoneGivesTally → (join job.agg (tables_in row.items) ≡ tally job (λ a. lines (bytes a))) × AreWithin job bytes
-  tally_of law = (law job (λ a. lines (bytes a)) (own_at rows) (gate_at rows) (tables_in row.items) run.is_job job_done, within)
-
-pub done_workers_tally : {S O I L N : Type 0} (left : S → Option (List ℕ)) (faults : S → ℕ)
-    (line : O → L) (sent : O → Option (List ℕ)) (finished : O → Option Bool) (of_out : O → ℕ)
-    (end_line : I → N) (got : I → Option (List ℕ)) (ended : I → Option Bool) (of_in : I → ℕ) (belong : L → N → Type 0) →
-    DoneGivesTally → DoneWorkersTally left faults line sent finished of_out end_line got ended of_in belong
-done_workers_tally left faults line sent finished of_out end_line got ended of_in belong law job size edges inputs wires rows loops bytes row run done told carry at_row =
-    tally_of left faults line sent finished of_out end_line got ended of_in belong job size edges inputs wires rows loops bytes row run done told carry at_row law
+  pub done_collector_has_last : DoneCollectorHasLast left faults line sent finished of_out end_line got ended of_in belong
+  done_collector_has_last job size every snapshots edges inputs wires before after fell rose rows loops collected end run is done =
+      has_last run end is done

@@ -1,6 +1,6 @@
 -- What stands behind a fault of the other end of a connection. Credit and frames are those of Flink's network stack; which fault is told
 -- when is this project's own choice.
-use Rattle.std.specs.Prelude.{◌≡◌, ◌≢◌, ◌⊎◌, ⊤, ℕ, ◌+◌, ◌≤◌, ◌%◌, ◌^◌, Bool, true, List, [], ◌++◌, slice_get, Option, Some}
+use Rattle.std.specs.Prelude.{◌≡◌, ◌⊎◌, ⊤, ℕ, ◌+◌, ◌≤◌, ◌%◌, ◌^◌, Bool, true, List, [], ◌++◌, slice_get, Option, Some}
 use Rattle.flow_defs.specs.Items.{Items}
 use Rattle.flow_defs.specs.declared.task.ChannelId.{ChannelId}
 use Rattle.flow_defs.specs.declared.cause.PeerFault.{PeerFault}
@@ -68,7 +68,7 @@ pub record HasMetFault {O I : Type 0} (sent : O → Option (List ℕ)) (got : I 
   pub met : begins fault left
   pub cut : ((one : I) → (b : Bool) × (ended one ≡ Some b)) → fault ≡ peers.Cut → ended half ≡ Some true
 
--- Faults that a task finds in the bytes of its channels.
+-- Faults that a task finds in the bytes of its channels, or the worker that collects in an image.
 abbrev pub IsTaskFault : PeerFault → Type 0
 IsTaskFault peers.Left = ⊤
 IsTaskFault peers.Barrier = ⊤

@@ -2,3 +2,4 @@ pub mod Grounds
 pub mod Outcomes
 pub mod Rows
 pub mod Theorems
+pub mod Storing

@@ -9,9 +9,12 @@ use Rattle.flow_defs.specs.declared.job.Job.{Job}
 use Rattle.flow_defs.specs.Jobs.{tasks}
 use Rattle.flow_defs.specs.Lines.{lines}
 use Rattle.outside.specs.Faults.{HasRisen}
+use Rattle.collecting_worker.specs.declared.world.CollectEnd.{CollectEnd}
 use Rattle.job_plan.specs.Limits.{HasLongLine, IsOverLimit}
 use Rattle.job_plan.specs.declared.limits.TheConstants.{SOURCE_MAX}
 use Rattle.job_workers.specs.declared.connection.LoopLeft.TheVariants.{SentItems, ReadControl, ReadItems, SentControl}
+use Rattle.job_workers.specs.declared.collecting.CollectTask.{CollectTask}
+use Rattle.job_workers.specs.declared.place.Place.{Place}
 use Rattle.job_workers.specs.declared.place.Place.TheVariants.{Todo, Ended, Vacant}
 use Rattle.job_ends.specs.Ended.{TaskPlace, LoopPlace}
 use Rattle.job_outcome.specs.Grounds.{IsOverByOne}
@@ -30,23 +33,30 @@ cause_of_loop (Ended (ReadItems end)) = Some end.cause
 cause_of_loop (Ended (SentControl end)) = Some end.cause
 cause_of_loop Vacant = None
 
+abbrev pub cause_of_collector : Place CollectTask CollectEnd → Option Cause
+cause_of_collector (Todo task) = None
+cause_of_collector (Ended end) = Some end.cause
+cause_of_collector Vacant = None
+
 -- Something stands at place i of row s.
 pub record StandsAt {A : Type 0} (rows : List (Items A)) (s i : ℕ) (place : A) : Type 0 where
   pub row : Items A
   pub row_is : slice_get rows s ≡ Some row
   pub place_is : slice_get row.items i ≡ Some place
 
-module _ {S O I : Type 0} (rows : List (Items (TaskPlace S))) (loops : List (Items (LoopPlace O I))) where
+module _ {S O I : Type 0} (rows : List (Items (TaskPlace S))) (loops : List (Items (LoopPlace O I))) (collected : Place CollectTask CollectEnd) where
   -- All workers are done.
   pub record AllDone : Type 0 where
     pub by_tasks : (s i : ℕ) (place : TaskPlace S) → StandsAt rows s i place → cause_of_task place ≡ Some causes.Done
     pub by_loops : (e i : ℕ) (place : LoopPlace O I) → StandsAt loops e i place → cause_of_loop place ≡ Some causes.Done
+    pub by_collector : cause_of_collector collected ≡ Some causes.Done
 
   -- One of them ended with this cause.
   abbrev pub HasEnded : Cause → Type 0
   HasEnded cause =
       ((s i : ℕ) × ((place : TaskPlace S) × StandsAt rows s i place × (cause_of_task place ≡ Some cause)))
       ⊎ ((e i : ℕ) × ((place : LoopPlace O I) × StandsAt loops e i place × (cause_of_loop place ≡ Some cause)))
+      ⊎ (cause_of_collector collected ≡ Some cause)
 
 -- ---- inputs
 
@@ -74,17 +84,17 @@ module _ {S : Type 0} (left : S → Option (List ℕ)) (faults : S → ℕ) (bef
     pub is : slice_get after a ≡ Some new
     pub holds : P (left old) (faults old) (faults new)
 
-  -- A cause has its grounds: a fault of the source or of a link, a source over a limit, data over the credit by one, or a fault of a
-  -- connection's other end.
-  abbrev pub IsRunCause : Type 0 → (PeerFault → Type 0) → Cause → Type 0
-  IsRunCause link peer causes.Done = ⊥
-  IsRunCause link peer causes.Stopped = ⊥
-  IsRunCause link peer (causes.Input a) = IsOfInput a (λ told fell rose. HasRisen fell rose)
-  IsRunCause link peer causes.Keeper = ⊥
-  IsRunCause link peer causes.Link = link
-  IsRunCause link peer (causes.LongLine a) = IsOfInput a (λ told fell rose. IfSome told (λ bytes. HasLongLine (lines bytes)))
-  IsRunCause link peer (causes.BigSource a) = IsOfInput a (λ told fell rose. IfSome told (λ bytes. SOURCE_MAX < length bytes))
-  IsRunCause link peer causes.BigImage = ⊥
-  IsRunCause link peer (causes.OverCredit channel received announced) = IsOverByOne received announced
-  IsRunCause link peer (causes.Peer fault) = peer fault
-  IsRunCause link peer causes.Memory = ⊤
+  -- A cause has its grounds: a fault of the source, of a link or of the keeper, a source over a limit, data over the credit by one, an image
+  -- that is too large, or a fault of a connection's other end.
+  abbrev pub IsRunCause : Type 0 → (PeerFault → Type 0) → Type 0 → Type 0 → Cause → Type 0
+  IsRunCause link peer keeper big causes.Done = ⊥
+  IsRunCause link peer keeper big causes.Stopped = ⊥
+  IsRunCause link peer keeper big (causes.Input a) = IsOfInput a (λ told fell rose. HasRisen fell rose)
+  IsRunCause link peer keeper big causes.Keeper = keeper
+  IsRunCause link peer keeper big causes.Link = link
+  IsRunCause link peer keeper big (causes.LongLine a) = IsOfInput a (λ told fell rose. IfSome told (λ bytes. HasLongLine (lines bytes)))
+  IsRunCause link peer keeper big (causes.BigSource a) = IsOfInput a (λ told fell rose. IfSome told (λ bytes. SOURCE_MAX < length bytes))
+  IsRunCause link peer keeper big causes.BigImage = big
+  IsRunCause link peer keeper big (causes.OverCredit channel received announced) = IsOverByOne received announced
+  IsRunCause link peer keeper big (causes.Peer fault) = peer fault
+  IsRunCause link peer keeper big causes.Memory = ⊤

@@ -1,35 +1,38 @@
 -- What follows once all workers of a job have ended, whatever the order of their turns. This is this project's own choice.
-use Rattle.std.specs.Prelude.{◌≡◌, ◌≢◌, ℕ, suc, ◌≤◌, Bool, List, All, length, map, slice_get, Option, Some}
-use Rattle.std.specs.Option.{option_map_or}
-use Rattle.std.specs.FinMap.{empty}
+use Rattle.std.specs.Prelude.{◌≡◌, ◌≢◌, ℕ, suc, ◌≤◌, Bool, List, All, length, slice_get, Option, Some, None, IfSome, IsSome}
+use Rattle.std.specs.List.{last_or}
 use Rattle.flow_defs.specs.Items.{Items}
 use Rattle.flow_defs.specs.declared.cause.Cause.{Cause}
 use Rattle.flow_defs.specs.declared.cause.Cause.TheVariants.{Done, Stopped}
 use Rattle.flow_defs.specs.declared.job.Job.{Job}
 use Rattle.flow_defs.specs.Jobs.{IsJob, last_edge, tasks}
 use Rattle.flow_defs.specs.Lines.{lines}
-use Rattle.flow_defs.specs.Tables.{Values, join}
+use Rattle.flow_defs.specs.Tables.{join}
+use Rattle.flow_defs.specs.declared.image.Image.{Image}
 use Rattle.plain_machine.specs.Worth.{tally}
 use Rattle.outside.specs.declared.wires.Wire.{Wire}
 use Rattle.outside.specs.Links.{IsNewOut, IsNewIn, NeverFails}
+use Rattle.outside.specs.Keepers.{KeptImage}
+use Rattle.outside.specs.Faults.{HasRisen}
+use Rattle.snapshot_channel.specs.declared.opened.SnapshotChannel.{SnapshotChannel}
+use Rattle.snapshot_channel.specs.Passes.{received_by}
+use Rattle.collecting_worker.specs.declared.world.CollectEnd.{CollectEnd}
 use Rattle.job_cells.specs.declared.edge.Edge.{Edge}
 use Rattle.job_cells.specs.Edges.{AreEdgesOf}
-use Rattle.job_laws.specs.Ends.{EdgeCarries}
+use Rattle.job_workers.specs.declared.collecting.CollectTask.{CollectTask}
+use Rattle.job_workers.specs.declared.place.Place.{Place}
+use Rattle.job_workers.specs.declared.place.Place.TheVariants.{Ended}
 use Rattle.job_workers.specs.declared.task.TaskLeft.{TaskLeft}
+use Rattle.job_workers.specs.Collecting.{LeftByCollector}
 use Rattle.job_workers.specs.Loops.{LeftByLoop}
 use Rattle.job_workers.specs.Places.{Pairs, RowLeaves}
 use Rattle.job_workers.specs.Tasks.{LeftByTask}
 use Rattle.job_deploy.specs.Deployed.{AreDeployed}
-use Rattle.job_ends.specs.Ended.{TaskPlace, LoopPlace, left_in, left_at, own_at, gate_at, AreEnded, HasLinkFault}
+use Rattle.job_ends.specs.Edges.{EdgeCarries}
+use Rattle.job_ends.specs.Ended.{TaskPlace, LoopPlace, left_at, own_at, gate_at, AreEnded, AreReceived, HasLinkFault, HaveAcknowledged}
 use Rattle.job_outcome.specs.Grounds.{HasPeerFault}
 use Rattle.job_outcome.specs.Outcomes.{AllDone, HasEnded, AreTold, AreWithin, IsRunCause}
-
--- The table that a place has, and those of the aggregate's tasks.
-abbrev pub table_in : {S : Type 0} → TaskPlace S → Values
-table_in {S} place = option_map_or (λ (end : TaskLeft S). end.table) (left_in place) empty
-
-abbrev pub tables_in : {S : Type 0} → List (TaskPlace S) → List Values
-tables_in {S} row = map (λ (place : TaskPlace S). table_in place) row
+use Rattle.job_outcome.specs.Storing.{HasKept, HasStored, IsTooLarge}
 
 -- Each input was left by its task, with no fewer faults.
 abbrev pub AreInputsLeft : {S : Type 0} → (S → ℕ) → List S → List (Items (TaskPlace S)) → Type 0
@@ -57,9 +60,10 @@ module _ {S O I L N : Type 0} (left : S → Option (List ℕ)) (faults : S → �
     pub control_out : IsNewOut (sent wire.control_out) (finished wire.control_out) (of_out wire.control_out)
     pub control_in : IsNewIn (got wire.control_in) (ended wire.control_in) (of_in wire.control_in)
 
-  -- The workers of a job were deployed over new wires, and what each left stands in its place.
-  pub record HaveRun (job : Job) (size : ℕ) (edges : List Edge) (inputs : List S) (wires : List (Wire O I))
-      (rows : List (Items (TaskPlace S))) (loops : List (Items (LoopPlace O I))) : Type 0 where
+  -- The workers of a job were deployed over new wires, with checkpoints behind so many lines and this channel of snapshots, and what each
+  -- left stands in its place. The keeper told these images before and those after, and had counted so many faults.
+  pub record HaveRun (job : Job) (size : ℕ) (every : Option ℕ) (snapshots : SnapshotChannel) (edges : List Edge) (inputs : List S) (wires : List (Wire O I))
+      (before after : Option (List KeptImage)) (fell rose : ℕ) (rows : List (Items (TaskPlace S))) (loops : List (Items (LoopPlace O I))) (collected : Place CollectTask CollectEnd) : Type 0 where
     pub is_job : IsJob job
     pub edges_are : AreEdgesOf job size edges
     pub inputs_many : length inputs ≡ tasks job 0
@@ -67,47 +71,90 @@ module _ {S O I L N : Type 0} (left : S → Option (List ℕ)) (faults : S → �
     pub new_wires : All IsNewWire wires
     pub rows_before : List (Items (TaskPlace S))
     pub loops_before : List (Items (LoopPlace O I))
-    pub deployed : AreDeployed job edges inputs wires rows_before loops_before
+    pub deployed : AreDeployed job size every snapshots edges inputs wires rows_before loops_before
     pub rows_many : length rows ≡ length rows_before
     pub rows_left : Pairs (λ (old new : Items (TaskPlace S)). RowLeaves (LeftByTask left faults job) old.items new.items) rows_before rows
     pub loops_many : length loops ≡ length loops_before
     pub loops_left : Pairs (λ (old new : Items (LoopPlace O I)). RowLeaves (LeftByLoop line sent of_out end_line got ended of_in) old.items new.items) loops_before loops
+    pub task : CollectTask
+    pub task_is : (task.world.job.now ≡ job) × (task.every ≡ every) × (task.world.snapshots.now ≡ snapshots)
+    pub interval : IfSome every (λ n. 1 ≤ n)
+    pub end : CollectEnd
+    pub end_is : collected ≡ Ended end
+    pub collector : LeftByCollector before after fell rose task end
 
   -- ---- the theorems
 
   -- Workers that ran have ended, each with the passes of its place.
   abbrev pub WorkersEnd : Type 0
   WorkersEnd =
-      (job : Job) (size : ℕ) (edges : List Edge) (inputs : List S) (wires : List (Wire O I)) (rows : List (Items (TaskPlace S))) (loops : List (Items (LoopPlace O I))) →
-      HaveRun job size edges inputs wires rows loops →
-      AreEnded (λ out input. belong (line out) (end_line input)) sent got job size edges rows loops
+      (job : Job) (size : ℕ) (every : Option ℕ) (snapshots : SnapshotChannel) (edges : List Edge) (inputs : List S) (wires : List (Wire O I))
+      (before after : Option (List KeptImage)) (fell rose : ℕ) (rows : List (Items (TaskPlace S))) (loops : List (Items (LoopPlace O I))) (collected : Place CollectTask CollectEnd) →
+      HaveRun job size every snapshots edges inputs wires before after fell rose rows loops collected →
+      AreEnded (λ out input. belong (line out) (end_line input)) sent got job size edges rows loops × HaveAcknowledged job snapshots rows
 
-  -- Where all are done and each edge carries, the tables of the last row are the tally of what the inputs told, which is within its limits.
+  -- What is settled once they have ended: each edge carries, and of each task's snapshots the first ones were received.
+  pub record AreSettledWith (job : Job) (rows : List (Items (TaskPlace S))) (end : CollectEnd) : Type 0 where
+    pub edges : (e : ℕ) → e ≤ last_edge job → EdgeCarries job e (own_at rows e) (gate_at rows e)
+    pub received : AreReceived job (received_by end.collecting) rows
+
+  -- Whatever the causes with which they ended, the images that were stored are a chain, and the one that was handed back is the last of them.
+  abbrev pub StoredImagesAreChain : Type 0
+  StoredImagesAreChain =
+      (job : Job) (size : ℕ) (every : Option ℕ) (snapshots : SnapshotChannel) (edges : List Edge) (inputs : List S) (wires : List (Wire O I))
+      (before after : Option (List KeptImage)) (fell rose : ℕ) (rows : List (Items (TaskPlace S))) (loops : List (Items (LoopPlace O I))) (collected : Place CollectTask CollectEnd)
+      (end : CollectEnd) (bytes : ℕ → List ℕ) →
+      HaveRun job size every snapshots edges inputs wires before after fell rose rows loops collected → collected ≡ Ended end →
+      AreTold left inputs bytes → AreSettledWith job rows end →
+      (stored : HasStored job (λ a. lines (bytes a)) every before after) × (end.last ≡ last_or None stored.images)
+
+  -- Without what is told: the keeper got some images and nothing else of it changed.
+  abbrev pub KeeperGotImages : Type 0
+  KeeperGotImages =
+      (job : Job) (size : ℕ) (every : Option ℕ) (snapshots : SnapshotChannel) (edges : List Edge) (inputs : List S) (wires : List (Wire O I))
+      (before after : Option (List KeptImage)) (fell rose : ℕ) (rows : List (Items (TaskPlace S))) (loops : List (Items (LoopPlace O I))) (collected : Place CollectTask CollectEnd) →
+      HaveRun job size every snapshots edges inputs wires before after fell rose rows loops collected →
+      ((images : List Image) × HasKept before after images) × (fell ≤ rose)
+
+  -- Where all are done, the last image is marked so, its tables joined are the tally of what the inputs told, and that is within its limits.
   abbrev pub DoneWorkersTally : Type 0
   DoneWorkersTally =
-      (job : Job) (size : ℕ) (edges : List Edge) (inputs : List S) (wires : List (Wire O I)) (rows : List (Items (TaskPlace S))) (loops : List (Items (LoopPlace O I)))
-      (bytes : ℕ → List ℕ) (row : Items (TaskPlace S)) →
-      HaveRun job size edges inputs wires rows loops → AllDone rows loops → AreTold left inputs bytes →
-      ((e : ℕ) → e ≤ last_edge job → EdgeCarries job e (own_at rows e) (gate_at rows e)) →
-      slice_get rows (suc (last_edge job)) ≡ Some row →
-      (join job.agg (tables_in row.items) ≡ tally job (λ a. lines (bytes a))) × AreWithin job bytes
+      (job : Job) (size : ℕ) (every : Option ℕ) (snapshots : SnapshotChannel) (edges : List Edge) (inputs : List S) (wires : List (Wire O I))
+      (before after : Option (List KeptImage)) (fell rose : ℕ) (rows : List (Items (TaskPlace S))) (loops : List (Items (LoopPlace O I))) (collected : Place CollectTask CollectEnd)
+      (end : CollectEnd) (bytes : ℕ → List ℕ) (image : Image) →
+      HaveRun job size every snapshots edges inputs wires before after fell rose rows loops collected → collected ≡ Ended end → end.last ≡ Some image →
+      AllDone rows loops collected → AreTold left inputs bytes → AreSettledWith job rows end →
+      (join job.agg image.tables.items ≡ tally job (λ a. lines (bytes a))) × AreWithin job bytes
+
+  -- Where the collecting worker is done, it has a last image.
+  abbrev pub DoneCollectorHasLast : Type 0
+  DoneCollectorHasLast =
+      (job : Job) (size : ℕ) (every : Option ℕ) (snapshots : SnapshotChannel) (edges : List Edge) (inputs : List S) (wires : List (Wire O I))
+      (before after : Option (List KeptImage)) (fell rose : ℕ) (rows : List (Items (TaskPlace S))) (loops : List (Items (LoopPlace O I))) (collected : Place CollectTask CollectEnd)
+      (end : CollectEnd) →
+      HaveRun job size every snapshots edges inputs wires before after fell rose rows loops collected → collected ≡ Ended end →
+      end.cause ≡ Done → IsSome end.last
 
   -- The tasks of the sources leave the inputs that they were given.
   abbrev pub InputsComeBack : Type 0
   InputsComeBack =
-      (job : Job) (size : ℕ) (edges : List Edge) (inputs : List S) (wires : List (Wire O I)) (rows : List (Items (TaskPlace S))) (loops : List (Items (LoopPlace O I))) →
-      HaveRun job size edges inputs wires rows loops → AreInputsLeft faults inputs rows
+      (job : Job) (size : ℕ) (every : Option ℕ) (snapshots : SnapshotChannel) (edges : List Edge) (inputs : List S) (wires : List (Wire O I))
+      (before after : Option (List KeptImage)) (fell rose : ℕ) (rows : List (Items (TaskPlace S))) (loops : List (Items (LoopPlace O I))) (collected : Place CollectTask CollectEnd) →
+      HaveRun job size every snapshots edges inputs wires before after fell rose rows loops collected → AreInputsLeft faults inputs rows
 
-  -- A cause with which one of them ended has its grounds.
+  -- A cause with which one of them ended has its grounds. What stands behind an image that is too large is told of the inputs.
   abbrev pub CausesHaveGrounds : Type 0
   CausesHaveGrounds =
-      (job : Job) (size : ℕ) (edges : List Edge) (inputs after : List S) (wires : List (Wire O I)) (rows : List (Items (TaskPlace S))) (loops : List (Items (LoopPlace O I))) (cause : Cause) →
-      HaveRun job size edges inputs wires rows loops → AreLeftIn rows after → length after ≡ length inputs →
-      HasEnded rows loops cause → cause ≢ Done → cause ≢ Stopped →
-      IsRunCause left faults inputs after (HasLinkFault of_out of_in loops) (HasPeerFault sent got ended job loops) cause
+      (job : Job) (size : ℕ) (every : Option ℕ) (snapshots : SnapshotChannel) (edges : List Edge) (inputs after_run : List S) (wires : List (Wire O I))
+      (before after : Option (List KeptImage)) (fell rose : ℕ) (rows : List (Items (TaskPlace S))) (loops : List (Items (LoopPlace O I))) (collected : Place CollectTask CollectEnd) (cause : Cause) →
+      HaveRun job size every snapshots edges inputs wires before after fell rose rows loops collected → AreLeftIn rows after_run → length after_run ≡ length inputs →
+      HasEnded rows loops collected cause → cause ≢ Done → cause ≢ Stopped →
+      IsRunCause left faults inputs after_run (HasLinkFault of_out of_in loops) (HasPeerFault sent got ended job loops) (HasRisen fell rose)
+      ((end : CollectEnd) (bytes : ℕ → List ℕ) → collected ≡ Ended end → AreTold left inputs bytes → AreSettledWith job rows end → IsTooLarge job (λ a. lines (bytes a)) every) cause
 
   -- Over wires of which no end is to fail, no loop has counted a fault.
   abbrev pub SureWiresHaveNoFault : (O → Type 0) → (I → Type 0) → Type 0
   SureWiresHaveNoFault sure_out sure_in =
-      (job : Job) (size : ℕ) (edges : List Edge) (inputs : List S) (wires : List (Wire O I)) (rows : List (Items (TaskPlace S))) (loops : List (Items (LoopPlace O I))) →
-      HaveRun job size edges inputs wires rows loops → All (NeverFails sure_out sure_in) wires → HasLinkFault of_out of_in loops → ⊥
+      (job : Job) (size : ℕ) (every : Option ℕ) (snapshots : SnapshotChannel) (edges : List Edge) (inputs : List S) (wires : List (Wire O I))
+      (before after : Option (List KeptImage)) (fell rose : ℕ) (rows : List (Items (TaskPlace S))) (loops : List (Items (LoopPlace O I))) (collected : Place CollectTask CollectEnd) →
+      HaveRun job size every snapshots edges inputs wires before after fell rose rows loops collected → All (NeverFails sure_out sure_in) wires → HasLinkFault of_out of_in loops → ⊥

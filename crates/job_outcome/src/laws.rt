@@ -1,9 +1,11 @@
 //! The laws of workers that have ended. Each function does nothing; what it ensures is the law.
-ghost use Rattle.job_outcome.specs.Theorems.{AreFaultless, CausesHaveGrounds, DoneWorkersTally, InputsComeBack, SureWiresHaveNoFault, WorkersEnd};
+ghost use Rattle.job_outcome.specs.Theorems.{AreFaultless, CausesHaveGrounds, DoneCollectorHasLast, DoneWorkersTally, InputsComeBack, KeeperGotImages, StoredImagesAreChain, SureWiresHaveNoFault, WorkersEnd};
 
+use collecting_worker::laws::stored_images_are_collected;
 use conn_run::laws::items_arrive;
-use job_laws::laws::done_gives_tally;
+use job_chain::laws::runs_are_chains;
 use outside::{LinkIn, LinkOut, Links, Source};
+use plain_machine::laws::start_exists;
 
 /// Workers that were deployed and ran have ended, each with the passes of its place.
 pub fn workers_end<S: Source, N: Links>()
@@ -12,17 +14,43 @@ pub fn workers_end<S: Source, N: Links>()
     items_arrive();
 }
 
-/// The tables of workers that are all done are the tally of what the inputs told, which is within its limits.
+/// The images that were stored are a chain with nothing in flight, whatever the causes with which the workers
+/// ended, and the image that was handed back is the last of them.
+pub fn stored_images_are_chain<S: Source, N: Links>()
+    ensures { StoredImagesAreChain S.left S.faults N.Out.line N.Out.sent N.Out.finished N.Out.faults N.In.line N.In.got N.In.ended N.In.faults N.belong }
+{
+    start_exists();
+    stored_images_are_collected();
+    runs_are_chains();
+}
+
+/// The keeper got some images, and nothing else of it changed.
+pub fn keeper_got_images<S: Source, N: Links>()
+    ensures { KeeperGotImages S.left S.faults N.Out.line N.Out.sent N.Out.finished N.Out.faults N.In.line N.In.got N.In.ended N.In.faults N.belong }
+{}
+
+/// Where all workers are done, the tables of the last image are the tally of what the inputs told, which is
+/// within its limits.
 pub fn done_workers_tally<S: Source, N: Links>()
     ensures { DoneWorkersTally S.left S.faults N.Out.line N.Out.sent N.Out.finished N.Out.faults N.In.line N.In.got N.In.ended N.In.faults N.belong }
 {
-    done_gives_tally();
+    start_exists();
+    stored_images_are_collected();
+    runs_are_chains();
 }
 
-/// A cause with which a worker ended has its grounds in an input or a link.
+/// A collecting worker that is done has a last image.
+pub fn done_collector_has_last<S: Source, N: Links>()
+    ensures { DoneCollectorHasLast S.left S.faults N.Out.line N.Out.sent N.Out.finished N.Out.faults N.In.line N.In.got N.In.ended N.In.faults N.belong }
+{}
+
+/// A cause with which a worker ended has its grounds in an input, a link, the keeper or an image.
 pub fn causes_have_grounds<S: Source, N: Links>()
     ensures { CausesHaveGrounds S.left S.faults N.Out.line N.Out.sent N.Out.finished N.Out.faults N.In.line N.In.got N.In.ended N.In.faults N.belong }
-{}
+{
+    stored_images_are_collected();
+    runs_are_chains();
+}
 
 // The law of the ends of links.
 fn ends_are_faultless<O: LinkOut, I: LinkIn>()

@@ -2,11 +2,11 @@
 ghost use Rattle.std.specs.Prelude.{◌≡◌, ◌≢◌, IsTrue, Option};
 ghost use Rattle.flow_defs.specs.declared.cause.Cause.{Cause};
 ghost use Rattle.flow_defs.specs.declared.cause.Cause.TheVariants.{Done, Memory, Stopped};
-ghost use Rattle.job_outcome.specs.Outcomes.{AllDone, HasEnded, cause_of_loop, cause_of_task};
+ghost use Rattle.job_outcome.specs.Outcomes.{AllDone, HasEnded, cause_of_collector, cause_of_loop, cause_of_task};
 ghost use Rattle.job_outcome.specs.Rows.{AreDone, HasOne, HasOneIn, RowIsDone};
 
 use flow_defs::{Cause, ListOf};
-use job_workers::{LoopLeft, LoopPlace, LoopRow, Place, TaskPlace, TaskRow};
+use job_workers::{CollectPlace, LoopLeft, LoopPlace, LoopRow, Place, TaskPlace, TaskRow};
 
 // A place of a worker.
 trait Ends {
@@ -44,12 +44,31 @@ impl<'a, 'p, O, I> Ends for LoopPlace<'a, 'p, O, I> {
     }
 }
 
+impl<'a> Ends for CollectPlace<'a> {
+    ghost cause_in = { λ place. cause_of_collector place };
+
+    fn cause(&self) -> Option<Cause> {
+        match self {
+            Place::Todo(_) => None,
+            Place::Ended(end) => Some(end.cause),
+            Place::Vacant => None,
+        }
+    }
+}
+
+// Whether the worker of a place is done.
+fn is_done<P: Ends>(place: &P) -> bool
+    ensures { IsTrue result → P.cause_in place.now ≡ Some Done }
+{
+    matches!(place.cause(), Some(Cause::Done))
+}
+
 // Whether all workers of a row are done.
 fn all_done_in<P: Ends>(row: &[P]) -> bool
     ensures { IsTrue result → RowIsDone P.cause_in row.now }
 {
     for place in row {
-        if !matches!(place.cause(), Some(Cause::Done)) {
+        if !is_done(place) {
             return false;
         }
     }
@@ -68,14 +87,19 @@ fn all_done<P: Ends>(rows: &[ListOf<P>]) -> bool
     true
 }
 
+// Whether the worker of a place ended with this cause.
+fn ended_with<P: Ends>(place: &P, cause: Cause) -> bool
+    ensures { IsTrue result → P.cause_in place.now ≡ Some cause }
+{
+    matches!(place.cause(), Some(found) if found == cause)
+}
+
 // Whether a worker of a row ended with this cause.
 fn has_ended_in<P: Ends>(row: &[P], cause: Cause) -> bool
     ensures { IsTrue result → HasOneIn P.cause_in row.now cause }
 {
     for place in row {
-        if let Some(found) = place.cause()
-            && found == cause
-        {
+        if ended_with(place, cause) {
             return true;
         }
     }
@@ -100,19 +124,20 @@ fn has_ended<P: Ends>(rows: &[ListOf<P>], cause: Cause) -> bool
 pub fn outcome_of<'a, 'p, S, O, I>(
     rows: &[TaskRow<'a, 'p, S>],
     loops: &[LoopRow<'a, 'p, O, I>],
+    collected: &CollectPlace<'a>,
     told: Option<Cause>,
 ) -> Cause
-    ensures done { result ≡ Done → AllDone rows.now loops.now }
-    ensures ended { result ≢ Done → result ≢ Memory → HasEnded rows.now loops.now result }
+    ensures done { result ≡ Done → AllDone rows.now loops.now collected.now }
+    ensures ended { result ≢ Done → result ≢ Memory → HasEnded rows.now loops.now collected.now result }
     ensures stopped { result ≢ Stopped }
 {
-    if all_done(rows) && all_done(loops) {
+    if all_done(rows) && all_done(loops) && is_done(collected) {
         return Cause::Done;
     }
     match told {
         None | Some(Cause::Done | Cause::Stopped) => Cause::Memory,
         Some(cause) => {
-            if has_ended(rows, cause) || has_ended(loops, cause) {
+            if has_ended(rows, cause) || has_ended(loops, cause) || ended_with(collected, cause) {
                 cause
             } else {
                 Cause::Memory

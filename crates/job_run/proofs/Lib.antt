@@ -1,8 +1,9 @@
 pub mod DeployLaws
+pub mod EndLaws
 pub mod InputLaws
 pub mod Joining
 pub mod ListLaws
+pub mod PassLaws
 pub mod PeerLaws
 pub mod RunLaws
-pub mod StopLaws
 pub mod WireLaws

@@ -23,6 +23,12 @@ get_or_is [] i x at = absurd (cc)
 get_or_is (y ∷ xs) zero x at = cc
 get_or_is (y ∷ xs) (suc i) x at = get_or_is xs i x at
 
+-- What was read at a place stands there.
+pub read_there : {A : Type 0} (xs : List A) (k : ℕ) (x : A) → k < length xs → x ≡ get_or xs k x → slice_get xs k ≡ Some (get_or xs k x)
+read_there [] k x low is = absurd (omega arith)
+read_there (y ∷ xs) zero x low is = refl
+read_there (y ∷ xs) (suc k) x low is = read_there xs k x (omega arith) is
+
 pub all_at : {A : Type 0} (P : A → Type 0) (xs : List A) (i : ℕ) (x : A) → All P xs → slice_get xs i ≡ Some x → P x
 all_at P [] i x all at = absurd (cc)
 all_at P (y ∷ xs) zero x all at = let e : y ≡ x = cc in subst P e (all 0 y (omega arith))

@@ -1,29 +1,28 @@
 -- What a run of a job comes to, step by step. This is this project's own choice.
-use Rattle.std.specs.Prelude.{◌≡◌, ◌≢◌, ◌⊎◌, ℕ, suc, ◌<◌, ◌≤◌, List, [], All, length, slice_get, option_and_then, Option, Some, Result, IfOk, IfErr}
-use Rattle.turn_cell.specs.Passes.{IsPassOf, mine}
+use Rattle.std.specs.Prelude.{◌≡◌, ◌≢◌, ◌⊎◌, ℕ, ◌<◌, ◌≤◌, List, option_and_then, Option, Some, Result, IfOk, IfErr, IsSome}
 use Rattle.flow_defs.specs.Items.{Items}
 use Rattle.flow_defs.specs.declared.cause.Cause.{Cause}
 use Rattle.flow_defs.specs.declared.cause.Cause.TheVariants.{Done, Stopped, Memory}
 use Rattle.flow_defs.specs.declared.cause.PeerFault.{PeerFault}
+use Rattle.flow_defs.specs.declared.image.Image.{Image}
 use Rattle.flow_defs.specs.declared.job.Job.{Job}
 use Rattle.flow_defs.specs.Jobs.{last_edge, tasks}
 use Rattle.flow_defs.specs.Lines.{lines}
 use Rattle.flow_defs.specs.Tables.{Values, join}
 use Rattle.plain_machine.specs.Worth.{tally}
+use Rattle.outside.specs.Faults.{HasRisen}
+use Rattle.outside.specs.Keepers.{KeptImage}
+use Rattle.snapshot_channel.specs.declared.opened.SnapshotChannel.{SnapshotChannel}
+use Rattle.snapshot_channel.specs.Passes.{IsCollecting, received_by}
+use Rattle.collecting_worker.specs.declared.world.CollectEnd.{CollectEnd}
+use Rattle.job_workers.specs.declared.collecting.CollectTask.{CollectTask}
+use Rattle.job_workers.specs.declared.place.Place.{Place}
+use Rattle.job_workers.specs.declared.place.Place.TheVariants.{Ended}
 use Rattle.job_workers.specs.declared.task.TaskLeft.{TaskLeft}
-use Rattle.job_deploy.specs.Stops.{stops_needed}
-use Rattle.job_ends.specs.Ended.{TaskPlace, LoopPlace, LinksTell, left_in, left_at}
+use Rattle.job_ends.specs.Edges.{EdgeCarries}
+use Rattle.job_ends.specs.Ended.{TaskPlace, LoopPlace, AreReceived, LinksTell, left_in, left_at, own_at, gate_at}
 use Rattle.job_outcome.specs.Outcomes.{AllDone, HasEnded, AreTold, AreWithin, ComeBack, IsRunCause}
-use Rattle.job_outcome.specs.Theorems.{tables_in}
-use Rattle.job_run.specs.declared.stops.StopPasses.{StopPasses}
-
--- ---- the stop cell
-
--- The workers have as many passes of the cell as they need, which have told nothing, and the run has one of its own.
-pub record AreStopsOf (job : Job) (stops : StopPasses) : Type 0 where
-  pub enough : stops_needed job ≤ length stops.workers.items
-  pub each : All (λ pass. IsPassOf stops.cell pass × (mine pass ≡ [])) stops.workers.items
-  pub own : IsPassOf stops.cell stops.own
+use Rattle.job_outcome.specs.Storing.{EndsIn, HasKept, HasStored, IsTooLarge}
 
 -- ---- what workers left
 
@@ -36,27 +35,58 @@ module _ {S : Type 0} where
   abbrev pub HaveInputs : Job → List (Items (TaskPlace S)) → Type 0
   HaveInputs job rows = (a : ℕ) → a < tasks job 0 → (end : TaskLeft S) × ((input : S) × (left_at rows 0 a ≡ Some end) × (end.input ≡ Some input))
 
-  -- The table is that of the last row's tables, joined.
-  abbrev pub IsJoined : Job → List (Items (TaskPlace S)) → Values → Type 0
-  IsJoined job rows table = (row : Items (TaskPlace S)) × (slice_get rows (suc (last_edge job)) ≡ Some row) × (table ≡ join job.agg (tables_in row.items))
+  -- What is settled once all workers have ended: each edge carries, and of each task's snapshots the first ones were received.
+  pub record AreAllSettled (job : Job) (rows : List (Items (TaskPlace S))) (end : CollectEnd) : Type 0 where
+    pub edges : (e : ℕ) → e ≤ last_edge job → EdgeCarries job e (own_at rows e) (gate_at rows e)
+    pub received : AreReceived job (received_by end.collecting) rows
+
+-- The worker that collects has ended with its pass of the channel of snapshots, and where it is done with a last image.
+pub record HasCollected (channel : SnapshotChannel) (collected : Place CollectTask CollectEnd) : Type 0 where
+  pub end : CollectEnd
+  pub end_is : collected ≡ Ended end
+  pub collecting : IsCollecting channel end.collecting
+  pub last : end.cause ≡ Done → IsSome end.last
+
+-- ---- what is answered
+
+-- The table is that of the tables of this image, joined.
+pub record IsTableOf (job : Job) (last : Option Image) (table : Values) : Type 0 where
+  pub image : Image
+  pub image_is : last ≡ Some image
+  pub table_is : table ≡ join job.agg image.tables.items
+
+-- It is that of the image that was stored last.
+pub record IsJoined (job : Job) (collected : Place CollectTask CollectEnd) (table : Values) : Type 0 where
+  pub end : CollectEnd
+  pub end_is : collected ≡ Ended end
+  pub table_of : IsTableOf job end.last table
 
 -- A run has no table for the cause with which its workers ended, or for want of memory.
 abbrev pub IsFaultOf : Cause → Cause → Type 0
 IsFaultOf cause fault = (fault ≡ Memory) ⊎ ((fault ≡ cause) × (fault ≢ Done))
 
-module _ {S O I : Type 0} (job : Job) (rows : List (Items (TaskPlace S))) (loops : List (Items (LoopPlace O I))) where
+module _ {S O I : Type 0} (job : Job) (rows : List (Items (TaskPlace S))) (loops : List (Items (LoopPlace O I))) (collected : Place CollectTask CollectEnd) where
   -- A table comes of workers that are all done, and another answer is the cause with which one of them ended, or want of memory.
   pub record IsAnswer (result : Result Values Cause) : Type 0 where
-    pub table : IfOk result (λ table. AllDone rows loops × IsJoined job rows table)
-    pub cause : IfErr result (λ cause. (cause ≡ Memory) ⊎ (HasEnded rows loops cause × (cause ≢ Done) × (cause ≢ Stopped)))
+    pub table : IfOk result (λ table. AllDone rows loops collected × IsJoined job collected table)
+    pub cause : IfErr result (λ cause. (cause ≡ Memory) ⊎ (HasEnded rows loops collected cause × (cause ≢ Done) × (cause ≢ Stopped)))
 
 -- ---- the run
 
 module _ {S O I : Type 0} (left : S → Option (List ℕ)) (faults : S → ℕ) (sent : O → Option (List ℕ)) (got : I → Option (List ℕ)) where
-  -- A run with these inputs, which are those afterwards: its table is the tally of all lines where links and inputs tell their bytes, its
-  -- cause has its grounds, and the inputs come back.
-  pub record IsRun (job : Job) (before after : List S) (link : Type 0) (peer : PeerFault → Type 0) (result : Result Values Cause) : Type 0 where
-    pub tally : IfOk result (λ table. LinksTell sent got → (bytes : ℕ → List ℕ) → AreTold left before bytes →
-        AreWithin job bytes × (table ≡ tally job (λ a. lines (bytes a))))
-    pub cause : IfErr result (IsRunCause left faults before after link peer)
+  -- It holds of the bytes of the inputs, where links and inputs tell their bytes.
+  abbrev pub WhereTold : List S → ((ℕ → List ℕ) → Type 0) → Type 0
+  WhereTold inputs P = LinksTell sent got → (bytes : ℕ → List ℕ) → AreTold left inputs bytes → P bytes
+
+  -- A run with these inputs, which are those afterwards, and with a keeper that told these images before and those after, and had counted so
+  -- many faults: its table is the tally of all lines where links and inputs tell their bytes, its cause has its grounds, and the inputs come
+  -- back. Whatever it answers, the keeper got some images, and they are a chain where links and inputs tell their bytes; a table is that of
+  -- the last one.
+  pub record IsRun (job : Job) (every : Option ℕ) (before after : List S) (kept keeps : Option (List KeptImage)) (fell rose : ℕ) (link : Type 0) (peer : PeerFault → Type 0) (result : Result Values Cause) : Type 0 where
+    pub tally : IfOk result (λ table. WhereTold before (λ bytes. AreWithin job bytes × (table ≡ tally job (λ a. lines (bytes a)))))
+    pub cause : IfErr result (IsRunCause left faults before after link peer (HasRisen fell rose) (WhereTold before (λ bytes. IsTooLarge job (λ a. lines (bytes a)) every)))
     pub inputs : ComeBack faults before after
+    pub chain : WhereTold before (λ bytes. HasStored job (λ a. lines (bytes a)) every kept keeps)
+    pub kept_some : (images : List Image) × HasKept kept keeps images
+    pub last : IfOk result (λ table. WhereTold before (λ bytes. EndsIn job (λ a. lines (bytes a)) every kept keeps table))
+    pub never_falls : fell ≤ rose

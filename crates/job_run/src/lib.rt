@@ -5,7 +5,9 @@
 //! `job_cli` stands on it.
 #![tactic(auto)]
 
+mod cells;
 mod ending;
+mod images;
 mod inputs;
 mod run;
 mod stops;

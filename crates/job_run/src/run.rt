@@ -1,73 +1,90 @@
 // A run of a job, from its inputs to its table.
-ghost use Rattle.std.specs.Prelude.{◌≡◌, ◌+◌, ◌≤◌, ℕ, List, length, suc, All, IfOk, IfErr};
+ghost use Rattle.std.specs.Prelude.{◌≡◌, ◌+◌, ◌≤◌, ℕ, List, length, suc, All, IfErr, IfOk, IfSome};
+ghost use Rattle.flow_defs.specs.declared.image.Image.{Image};
 ghost use Rattle.flow_defs.specs.Jobs.{IsJob, last_edge, segments_needed, tasks};
 ghost use Rattle.flow_defs.specs.Lines.{lines};
 ghost use Rattle.plain_machine.specs.Worth.{tally};
+ghost use Rattle.outside.specs.Faults.{HasRisen};
 ghost use Rattle.outside.specs.Links.{NeverFails};
 ghost use Rattle.segment_pool.specs.Pools.{size_of};
 ghost use Rattle.segment_pool.specs.Stocks.{IsSize, IsTotal};
 ghost use Rattle.stage_fns.specs.Kinds.{kinds};
 ghost use Rattle.job_plan.specs.Plans.{CanRun};
+ghost use Rattle.collecting_worker.specs.Accounts.{HasText};
 ghost use Rattle.job_cells.specs.Edges.{AreAllPassesOf, AreEdgesOf};
 ghost use Rattle.job_cells.specs.Grants.{AreGrantsOf};
+ghost use Rattle.job_workers.specs.Collecting.{TakesImages};
 ghost use Rattle.job_ends.specs.Ended.{LinksTell};
 ghost use Rattle.job_outcome.specs.Outcomes.{AreTold, AreWithin, ComeBack, IsRunCause};
-ghost use Rattle.job_run.specs.Runs.{AreStopsOf, IsRun};
+ghost use Rattle.job_outcome.specs.Storing.{EndsIn, HasKept, HasStored, IsTooLarge};
+ghost use Rattle.job_run.specs.Cells.{AreCellsOf, CanCheckpoint};
+ghost use Rattle.job_run.specs.Runs.{IsRun};
 ghost use Rattle.job_run.specs.Wires.{IsLinkGround, IsPeerGround, IsUnused};
 
+use crate::cells::{OpenedCells, open_cells};
 use crate::ending::wind_up;
-use crate::stops::{StopPasses, open_stops};
 use crate::wires::{give_back, open_wires};
 use crate::workers::run_workers;
 use flow_defs::{Cause, Job, ListOf, Table, needed};
 use job_cells::{Edge, EdgePasses, Grants, open_edges, open_pool};
 use job_outcome::laws::{
-    causes_have_grounds, done_workers_tally, inputs_come_back, sure_wires_have_no_fault,
-    workers_end,
+    causes_have_grounds, done_collector_has_last, done_workers_tally, inputs_come_back,
+    keeper_got_images, stored_images_are_chain, sure_wires_have_no_fault, workers_end,
 };
-use outside::{Links, Source, Wire};
+use outside::{Keeper, Links, Source, Wire};
 use segment_pool::Pool;
 use stage_fns::FnTable;
 use std::alloc::Global;
 use std::sync::Wait;
 use std::thread::Threads;
 
-// Runs a job over its edges and these wires, which are given back.
-fn run_over_wires<'p, S, N, R>(
+// Runs a job over its edges, these wires, which are given back, and what its workers share.
+fn run_over_wires<'p, S, N, K, R>(
     rt: &R,
     alloc: Global,
     job: &Job,
     functions: &FnTable,
+    every: Option<u64>,
     size: u32,
     edges: &[Edge<'p>],
     passes: ListOf<EdgePasses<'p>>,
-    stops: StopPasses,
+    opened: OpenedCells,
     inputs: &mut ListOf<S>,
     wires: ListOf<Wire<N::Out, N::In>>,
     net: &mut N,
+    keeper: &mut K,
 ) -> Result<Table, Cause>
 where
     S: Source + Send + Drop,
     N: Links,
+    K: Keeper + Send,
     R: Threads + Wait + Sync,
     requires is_job { IsJob job.now × CanRun (kinds functions.now) job.now }
+    requires checkpoints { CanCheckpoint job.now every (K.images keeper.old) }
     requires edges { AreEdgesOf job.now size edges.now }
     requires passes { AreAllPassesOf job.now edges.now passes.items }
-    requires stops { AreStopsOf job.now stops }
+    requires opened { AreCellsOf job.now every opened }
     requires inputs { length inputs.old.items ≡ tasks job.now 0 }
     requires wires { length wires.items ≡ suc (last_edge job.now) }
     requires unused { All (λ wire. IsUnused N.Out.line N.Out.sent N.Out.finished N.Out.faults N.In.line N.In.got N.In.ended N.In.faults N.belong wire) wires.items }
     requires lent { suc (last_edge job.now) ≤ N.lent net.old }
-    ensures run { IsRun S.left S.faults N.Out.sent N.In.got job.now inputs.old.items inputs.new.items
+    ensures run { IsRun S.left S.faults N.Out.sent N.In.got job.now every inputs.old.items inputs.new.items
+        (K.images keeper.old) (K.images keeper.new) (K.faults keeper.old) (K.faults keeper.new)
         (IsLinkGround (All (NeverFails N.Out.never_fails N.In.never_fails) wires.items) (N.faults net.old) (N.faults net.new))
         (IsPeerGround N.Out.sent N.In.got N.In.ended job.now (N.wires net.old) (N.wires net.new)) result }
     ensures lent { N.lent net.new + suc (last_edge job.now) ≡ N.lent net.old }
     ensures never_falls { N.faults net.old ≤ N.faults net.new }
 {
-    let StopPasses { cell, workers, own } = stops;
+    let OpenedCells {
+        cells,
+        passes: dealt,
+        own,
+        room,
+    } = opened;
     let mut wires = wires;
-    let ran = run_workers::<S, N, R>(
-        rt, alloc, job, functions, size, edges, passes, &cell, workers, inputs, &mut wires,
+    let ran = run_workers::<S, N, K, R>(
+        rt, alloc, job, functions, every, size, edges, passes, &cells, dealt, inputs, &mut wires,
+        keeper,
     );
     let Ok(ran) = ran else {
         give_back(net, wires);
@@ -78,29 +95,37 @@ where
     causes_have_grounds::<S, N>();
     sure_wires_have_no_fault::<S, N>();
     done_workers_tally::<S, N>();
-    wind_up(rt, alloc, job, edges, &cell, own, ran, inputs, net)
+    done_collector_has_last::<S, N>();
+    stored_images_are_chain::<S, N>();
+    keeper_got_images::<S, N>();
+    wind_up(rt, alloc, job, edges, &cells, room, own, ran, inputs, net)
 }
 
 // Runs a job with this pool, by what is granted of it.
-fn run_in_pool<S, N, R>(
+fn run_in_pool<S, N, K, R>(
     rt: &R,
     alloc: Global,
     job: &Job,
     functions: &FnTable,
+    every: Option<u64>,
     pool: &Pool,
     grants: Grants,
     size: u32,
     inputs: &mut ListOf<S>,
     net: &mut N,
+    keeper: &mut K,
 ) -> Result<Table, Cause>
 where
     S: Source + Send + Drop,
     N: Links,
+    K: Keeper + Send,
     R: Threads + Wait + Sync,
     requires is_job { IsJob job.now × CanRun (kinds functions.now) job.now }
+    requires checkpoints { CanCheckpoint job.now every (K.images keeper.old) }
     requires pool { (size_of pool.now ≡ size) × AreGrantsOf job.now pool.now grants }
     requires inputs { length inputs.old.items ≡ tasks job.now 0 }
-    ensures run { IsRun S.left S.faults N.Out.sent N.In.got job.now inputs.old.items inputs.new.items
+    ensures run { IsRun S.left S.faults N.Out.sent N.In.got job.now every inputs.old.items inputs.new.items
+        (K.images keeper.old) (K.images keeper.new) (K.faults keeper.old) (K.faults keeper.new)
         (IsLinkGround (N.never_fails net.old) (N.faults net.old) (N.faults net.new))
         (IsPeerGround N.Out.sent N.In.got N.In.ended job.now (N.wires net.old) (N.wires net.new)) result }
     ensures lent { N.lent net.new ≡ N.lent net.old }
@@ -109,7 +134,7 @@ where
     let Ok((edges, passes)) = open_edges(rt, alloc, job, pool, grants) else {
         return Err(Cause::Memory);
     };
-    let Ok(stops) = open_stops(alloc, job) else {
+    let Ok(opened) = open_cells(alloc, job, every) else {
         return Err(Cause::Memory);
     };
     let many = edges.as_slice().len();
@@ -117,7 +142,8 @@ where
         Ok(wires) => {
             let edges = edges.as_slice();
             run_over_wires(
-                rt, alloc, job, functions, size, edges, passes, stops, inputs, wires, net,
+                rt, alloc, job, functions, every, size, edges, passes, opened, inputs, wires, net,
+                keeper,
             )
         }
         Err(cause) => Err(cause),
@@ -138,32 +164,42 @@ fn opened(job: &Job, segments: u32) -> u32
     segments.min(most.max(1))
 }
 
-/// Runs a job: each task, and each of the four loops of each edge's connection, is a worker of its own, in a
-/// thread of its own where threads can be made. Answers the table that the aggregate's tasks counted, or the
-/// cause of the first fault that a worker met.
+/// Runs a job: each task, each of the four loops of each edge's connection, and the worker that collects snapshots is
+/// a worker of its own, in a thread of its own where threads can be made. Answers the table that the aggregate's tasks
+/// counted, which is that of the last image, or the cause of the first fault that a worker met.
+///
+/// `every` is how many lines a source reads between two checkpoints, from 1; with None there is one checkpoint, at the
+/// end. The images are stored in the keeper, from number 1 on; it has none with a higher number. With aligned barriers
+/// as in Flink nothing is in flight at any of them.
 ///
 /// `segments` and `size` are those of the pool of network memory, in segments and in bytes a segment. Of the
 /// segments at most six for each that the job needs are opened; more are never lent. There is
-/// an input for each source, in order; they come back in the same order. Memory: the pool, the tables, 131,072
-/// bytes for each link and the stacks of the threads, whatever the size of the inputs.
-pub fn run_job<S, N, R>(
+/// an input for each source, in order; they come back in the same order. Memory: the pool, the tables, two images,
+/// 131,072 bytes for each link and the stacks of the threads, whatever the size of the inputs.
+pub fn run_job<S, N, K, R>(
     rt: &R,
     alloc: Global,
     job: &Job,
     functions: &FnTable,
+    every: Option<u64>,
     segments: u32,
     size: u32,
     inputs: &mut ListOf<S>,
     net: &mut N,
+    keeper: &mut K,
 ) -> Result<Table, Cause>
 where
     S: Source + Send + Drop,
     N: Links,
+    K: Keeper + Send,
     R: Threads + Wait + Sync,
     requires is_job { IsJob job.now × CanRun (kinds functions.now) job.now }
     requires range { IsTotal segments × IsSize size }
     requires enough { segments_needed job.now ≤ segments }
     requires inputs { length inputs.old.items ≡ tasks job.now 0 }
+    requires text { HasText job.now }
+    requires every { IfSome every (λ n. 1 ≤ n) }
+    requires keeper { TakesImages (K.images keeper.old) }
 
     // Over links and inputs that tell their bytes the table is the tally of all lines, whatever the order in which workers took their
     // turns.
@@ -171,14 +207,26 @@ where
         AreWithin job.now bytes × (table ≡ tally job.now (λ a. lines (bytes a)))) }
     ensures cause { IfErr result (IsRunCause S.left S.faults inputs.old.items inputs.new.items
         (IsLinkGround (N.never_fails net.old) (N.faults net.old) (N.faults net.new))
-        (IsPeerGround N.Out.sent N.In.got N.In.ended job.now (N.wires net.old) (N.wires net.new))) }
+        (IsPeerGround N.Out.sent N.In.got N.In.ended job.now (N.wires net.old) (N.wires net.new))
+        (HasRisen (K.faults keeper.old) (K.faults keeper.new))
+        (LinksTell N.Out.sent N.In.got → (bytes : ℕ → List ℕ) → AreTold S.left inputs.old.items bytes → IsTooLarge job.now (λ a. lines (bytes a)) every)) }
     ensures inputs { ComeBack S.faults inputs.old.items inputs.new.items }
     ensures lent { N.lent net.new ≡ N.lent net.old }
     ensures never_falls { N.faults net.old ≤ N.faults net.new }
+
+    // Whatever it answers, the images that the keeper got are then a chain from the start on, and a table is that of the last of them.
+    ensures chain { LinksTell N.Out.sent N.In.got → (bytes : ℕ → List ℕ) → AreTold S.left inputs.old.items bytes →
+        HasStored job.now (λ a. lines (bytes a)) every (K.images keeper.old) (K.images keeper.new) }
+    ensures last { IfOk result (λ table. LinksTell N.Out.sent N.In.got → (bytes : ℕ → List ℕ) → AreTold S.left inputs.old.items bytes →
+        EndsIn job.now (λ a. lines (bytes a)) every (K.images keeper.old) (K.images keeper.new) table) }
+    ensures kept { (images : List Image) × HasKept (K.images keeper.old) (K.images keeper.new) images }
+    ensures keeper_never_falls { K.faults keeper.old ≤ K.faults keeper.new }
 {
     let total = opened(job, segments);
     let Ok((pool, grants)) = open_pool(alloc, job, total, size) else {
         return Err(Cause::Memory);
     };
-    run_in_pool(rt, alloc, job, functions, &pool, grants, size, inputs, net)
+    run_in_pool(
+        rt, alloc, job, functions, every, &pool, grants, size, inputs, net, keeper,
+    )
 }

@@ -1,65 +1,41 @@
-// The tables of the aggregate's tasks, joined.
-ghost use Rattle.std.specs.Prelude.{◌≡◌, ◌++◌, length, suc, IfErr, IfOk, OnOk};
-ghost use Rattle.std.specs.FinMap as map;
+// The tables of a job's last image, joined.
+ghost use Rattle.std.specs.Prelude.{◌≡◌, IfErr, IfOk, IsSome, OnOk};
 ghost use Rattle.flow_defs.specs.declared.cause.Cause.TheVariants.{Done};
-ghost use Rattle.flow_defs.specs.Jobs.{IsJob, last_edge};
 ghost use Rattle.flow_defs.specs.Tables.{join};
-ghost use Rattle.job_plan.specs.Joins.{lent_pairs};
-ghost use Rattle.job_outcome.specs.Theorems.{table_in, tables_in};
-ghost use Rattle.job_run.specs.Runs.{IsFaultOf, IsJoined};
+ghost use Rattle.job_run.specs.Runs.{IsFaultOf, IsTableOf};
 
-use flow_defs::{AggKind, Cause, Job, Row, Table};
+use flow_defs::{AggKind, Cause, Image, Job, Table};
 use job_plan::{fold_rows, lend_rows};
-use job_workers::{Place, TaskPlace, TaskRow};
 use std::alloc::{AllocError, Global};
 
-// Lends the rows of what stands in a place.
-fn lend_place<'r, 'a, 'p, S>(
-    place: &'r TaskPlace<'a, 'p, S>,
-    rows: &mut Vec<&'r Row>,
-) -> Result<(), AllocError>
-    ensures { OnOk result (lent_pairs rows.new.items ≡ lent_pairs rows.old.items ++ map.entries (table_in place.now)) }
-{
-    match place {
-        Place::Ended(left) => lend_rows(left.table.rows(), rows),
-        Place::Todo(_) => Ok(()),
-        Place::Vacant => Ok(()),
-    }
-}
-
-// The tables of a row, joined.
-fn join_row<'a, 'p, S>(
-    alloc: Global,
-    agg: AggKind,
-    row: &[TaskPlace<'a, 'p, S>],
-) -> Result<Table, AllocError>
-    ensures { IfOk result (λ table. table ≡ join agg (tables_in row.now)) }
+// These tables joined. Their rows are lent.
+fn join_tables(alloc: Global, agg: AggKind, tables: &[Table]) -> Result<Table, AllocError>
+    ensures { IfOk result (λ table. table ≡ join agg tables.now) }
 {
     let mut rows = Vec::new(alloc);
-    for place in row {
-        lend_place(place, &mut rows)?;
+    for table in tables {
+        lend_rows(table.rows(), &mut rows)?;
     }
     fold_rows(alloc, agg, rows.as_mut_slice())
 }
 
-/// What a run answers whose workers ended with this cause: where they are done, the tables of the last row,
+/// What a run answers whose workers ended with this cause: where they are done, the tables of the last image,
 /// joined.
-pub fn answer_of<'a, 'p, S>(
+pub fn answer_of(
     alloc: Global,
     job: &Job,
     cause: Cause,
-    rows: &[TaskRow<'a, 'p, S>],
+    last: Option<Image>,
 ) -> Result<Table, Cause>
-    requires is_job { IsJob job.now }
-    requires many { length rows.now ≡ suc (suc (last_edge job.now)) }
+    requires { cause ≡ Done → IsSome last }
     ensures done { OnOk result (cause ≡ Done) }
-    ensures table { IfOk result (λ table. IsJoined job.now rows.now table) }
+    ensures table { IfOk result (λ table. IsTableOf job.now last table) }
     ensures fault { IfErr result (λ fault. IsFaultOf cause fault) }
 {
     match cause {
         Cause::Done => {
-            let last = job.stages.as_slice().len() + 1;
-            match join_row(alloc, job.agg, rows[last].as_slice()) {
+            let Some(image) = last else { unreachable!() };
+            match join_tables(alloc, job.agg, image.tables.as_slice()) {
                 Ok(table) => Ok(table),
                 Err(_) => Err(Cause::Memory),
             }

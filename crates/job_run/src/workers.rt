@@ -1,66 +1,116 @@
 // The workers of a job at work.
 ghost use Rattle.std.specs.Prelude.{◌≡◌, ◌≤◌, [], suc, length, All, IfOk, OnErr, OnOk};
-ghost use Rattle.turn_cell.specs.Passes.{IsPassOf, mine};
 ghost use Rattle.flow_defs.specs.Jobs.{IsJob, last_edge, tasks};
 ghost use Rattle.stage_fns.specs.Kinds.{kinds};
 ghost use Rattle.job_plan.specs.Plans.{CanRun};
 ghost use Rattle.job_cells.specs.Edges.{AreAllPassesOf, AreEdgesOf};
-ghost use Rattle.job_deploy.specs.Stops.{stops_needed};
 ghost use Rattle.job_outcome.specs.Theorems.{HaveRun};
+ghost use Rattle.job_run.specs.Cells.{AreDealt, CanCheckpoint};
 ghost use Rattle.job_run.specs.Wires.{IsUnused};
 
+use crate::cells::{CellPasses, RunCells};
+use collecting_worker::CollectWorld;
 use flow_defs::{Job, ListOf};
 use job_cells::{Edge, EdgePasses};
-use job_deploy::{Deployed, deploy};
-use job_workers::run_all;
-use outside::{Links, Source, StopState, Wire};
+use job_deploy::{Deployed, Shared, deploy};
+use job_workers::{CollectPlace, CollectTask, LoopRow, Place, TaskRow, run_all};
+use outside::{Keeper, Links, Source, Wire};
 use stage_fns::FnTable;
 use std::alloc::{AllocError, Global};
 use std::sync::Wait;
 use std::thread::Threads;
-use turn_cell::{Pass, TurnCell};
+
+/// What the workers of a job left in their places.
+#[derive(Drop)]
+pub struct Ran<'a, 'p, S, O, I> {
+    pub rows: ListOf<TaskRow<'a, 'p, S>>,
+    pub loops: ListOf<LoopRow<'a, 'p, O, I>>,
+    pub collected: CollectPlace<'a>,
+}
 
 /// Puts the workers of a job into their places and runs them; what each left stands there afterwards. Where
-/// there is no memory none runs, and inputs and wires stay where they were.
-pub fn run_workers<'a, 'p, S, N, R>(
+/// there is no memory none runs, and inputs, wires and the keeper stay as they were.
+pub fn run_workers<'a, 'p, S, N, K, R>(
     rt: &R,
     alloc: Global,
-    job: &Job,
+    job: &'a Job,
     functions: &FnTable,
+    every: Option<u64>,
     size: u32,
     edges: &'a [Edge<'p>],
     passes: ListOf<EdgePasses<'p>>,
-    stop: &'a TurnCell<StopState>,
-    stops: ListOf<Pass<StopState>>,
+    cells: &'a RunCells,
+    dealt: CellPasses,
     inputs: &mut ListOf<S>,
     wires: &mut ListOf<Wire<N::Out, N::In>>,
-) -> Result<Deployed<'a, 'p, S, N::Out, N::In>, AllocError>
+    keeper: &mut K,
+) -> Result<Ran<'a, 'p, S, N::Out, N::In>, AllocError>
 where
     S: Source + Send + Drop,
     N: Links,
+    K: Keeper + Send,
     R: Threads + Wait + Sync,
     requires is_job { IsJob job.now × CanRun (kinds functions.now) job.now }
     requires edges { AreEdgesOf job.now size edges.now }
     requires passes { AreAllPassesOf job.now edges.now passes.items }
-    requires stops { (stops_needed job.now ≤ length stops.items) × All (λ pass. IsPassOf stop.now pass × (mine pass ≡ [])) stops.items }
+    requires checkpoints { CanCheckpoint job.now every (K.images keeper.old) }
+    requires dealt { AreDealt job.now every cells.now dealt }
     requires inputs { length inputs.old.items ≡ tasks job.now 0 }
     requires wires { length wires.old.items ≡ suc (last_edge job.now) }
     requires unused { All (λ wire. IsUnused N.Out.line N.Out.sent N.Out.finished N.Out.faults N.In.line N.In.got N.In.ended N.In.faults N.belong wire) wires.old.items }
     ensures ran { IfOk result (λ d. HaveRun S.left S.faults N.Out.line N.Out.sent N.Out.finished N.Out.faults N.In.line N.In.got N.In.ended N.In.faults N.belong
-        job.now size edges.now inputs.old.items wires.old.items d.rows.items d.loops.items) }
+        job.now size every cells.now.channel edges.now inputs.old.items wires.old.items
+        (K.images keeper.old) (K.images keeper.new) (K.faults keeper.old) (K.faults keeper.new) d.rows.items d.loops.items d.collected) }
     ensures taken { OnOk result ((inputs.new.items ≡ []) × (length inputs.old.items ≤ inputs.new.room)) }
-    ensures kept { OnErr result ((inputs.new.items ≡ inputs.old.items) × (wires.new.items ≡ wires.old.items)) }
+    ensures kept { OnErr result ((inputs.new.items ≡ inputs.old.items) × (wires.new.items ≡ wires.old.items) × (keeper.new ≡ keeper.old)) }
 {
-    let deployed = deploy(alloc, job, size, edges, passes, stop, stops, inputs, wires)?;
+    let CellPasses {
+        collecting,
+        snapshots,
+        last_collecting,
+        last,
+        stop_collecting,
+        stops,
+    } = dealt;
+    let shared = Shared {
+        every,
+        snapshots: &cells.channel,
+        snapshot_passes: snapshots,
+        last_image: &cells.last_image,
+        last_passes: last,
+        stop: &cells.stop,
+        stops,
+    };
+    let world = CollectWorld {
+        job,
+        snapshots: &cells.channel,
+        collecting,
+        last_image: &cells.last_image,
+        last_pass: last_collecting,
+        stop: &cells.stop,
+        stop_pass: stop_collecting,
+    };
+    let deployed = deploy(alloc, job, size, edges, passes, shared, inputs, wires)?;
     let Deployed { rows, loops } = deployed;
     let mut rows = rows;
     let mut loops = loops;
+    let mut collected = Place::Todo(CollectTask {
+        alloc,
+        every,
+        world,
+    });
     run_all(
         rt,
         job,
         functions,
         rows.as_mut_slice(),
         loops.as_mut_slice(),
+        &mut collected,
+        keeper,
     );
-    Ok(Deployed { rows, loops })
+    Ok(Ran {
+        rows,
+        loops,
+        collected,
+    })
 }

@@ -44,8 +44,11 @@ run_of_a_job = refl
 no_option_of_a_script : usage_fault (codes "script" ∷ codes "s" ∷ codes "--pool" ∷ codes "3" ∷ []) ≡ Some UnknownOption
 no_option_of_a_script = refl
 
+abbrev options_with : Option ℕ → ℕ → ℕ → Result RunOptions UsageKind
+options_with every segment pool = Ok (record { every = every; segment = segment; pool = pool })
+
 abbrev options : ℕ → ℕ → Result RunOptions UsageKind
-options segment pool = Ok (record { segment = segment; pool = pool })
+options segment pool = options_with None segment pool
 
 -- the first fault of these words behind the operand of `run`
 abbrev behind : List (List ℕ) → Option UsageKind
@@ -62,6 +65,30 @@ all_given = refl
 
 all_given_at_most : run_options (codes "--pool" ∷ codes "16384" ∷ codes "--segment" ∷ codes "65536" ∷ []) ≡ options 65536 16384
 all_given_at_most = refl
+
+checkpoints_given : run_options (codes "--mode" ∷ codes "inline" ∷ codes "--every" ∷ codes "20" ∷ []) ≡ options_with (Some 20) 32768 2048
+checkpoints_given = refl
+
+one_line_between : run_options (codes "--every" ∷ codes "1" ∷ []) ≡ options_with (Some 1) 32768 2048
+one_line_between = refl
+
+most_lines_between : run_options (codes "--every" ∷ codes "1099511627776" ∷ []) ≡ options_with (Some 1099511627776) 32768 2048
+most_lines_between = refl
+
+no_lines_between : behind (codes "--every" ∷ codes "0" ∷ []) ≡ Some BadValue
+no_lines_between = refl
+
+too_many_lines_between : behind (codes "--every" ∷ codes "1099511627777" ∷ []) ≡ Some BadValue
+too_many_lines_between = refl
+
+every_given_twice : behind (codes "--every" ∷ codes "2" ∷ codes "--every" ∷ codes "3" ∷ []) ≡ Some OptionTwice
+every_given_twice = refl
+
+other_mode : behind (codes "--mode" ∷ codes "front" ∷ []) ≡ Some BadValue
+other_mode = refl
+
+option_for_a_value : behind (codes "--every" ∷ codes "--every" ∷ codes "3" ∷ []) ≡ Some BadValue
+option_for_a_value = refl
 
 short_segment : behind (codes "--segment" ∷ codes "63" ∷ []) ≡ Some BadValue
 short_segment = refl
@@ -93,6 +120,21 @@ given_twice = refl
 
 word_behind_an_option : behind (codes "--pool" ∷ codes "3" ∷ codes "4" ∷ []) ≡ Some ExtraWord
 word_behind_an_option = refl
+
+selfrun_of_most : usage_fault (codes "selfrun" ∷ codes "2000000" ∷ codes "18446744073709551615" ∷ []) ≡ None
+selfrun_of_most = refl
+
+selfrun_of_none : usage_fault (codes "selfrun" ∷ codes "0" ∷ codes "0" ∷ []) ≡ None
+selfrun_of_none = refl
+
+selfrun_of_too_many : usage_fault (codes "selfrun" ∷ codes "2000001" ∷ codes "18446744073709551616" ∷ []) ≡ Some BadValue
+selfrun_of_too_many = refl
+
+selfrun_of_a_large_seed : usage_fault (codes "selfrun" ∷ codes "1" ∷ codes "18446744073709551616" ∷ []) ≡ Some BadValue
+selfrun_of_a_large_seed = refl
+
+no_option_of_selfrun : usage_fault (codes "selfrun" ∷ codes "1" ∷ codes "7" ∷ codes "--every" ∷ codes "2" ∷ []) ≡ Some UnknownOption
+no_option_of_selfrun = refl
 
 -- ---- the texts of jobs
 

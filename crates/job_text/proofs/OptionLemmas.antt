@@ -6,7 +6,7 @@ use Rattle.job_text.specs.declared.words.RunOptions.{RunOptions}
 use Rattle.job_text.specs.declared.words.UsageKind.{UsageKind}
 use Rattle.job_text.specs.declared.words.UsageKind.TheVariants.{BadValue, MissingValue}
 use Rattle.job_text.specs.declared.options.RunOption.{RunOption}
-use Rattle.job_text.specs.declared.options.RunOption.TheVariants.{Segment, Pool, Links}
+use Rattle.job_text.specs.declared.options.RunOption.TheVariants.{Every, Mode, Segment, Pool, Links}
 use Rattle.job_text.specs.declared.options.Given.{Given}
 use Rattle.job_text.specs.JobFaults.{number_of}
 use Rattle.job_text.specs.Words.{number_within, nothing, with_value, option_behind, and_then, given_from, with_defaults, run_options, HasRange}
@@ -53,11 +53,12 @@ within_range least most n word is = by_number (number_of most word) refl is
 
 -- what is given so far is in its ranges
 pub record AreWithin (given : Given) : Type 0 where
+  pub every : IfSome given.every (λ n. (1 ≤ n) × (n ≤ 1099511627776))
   pub segment : IfSome given.segment (λ n. (64 ≤ n) × (n ≤ 65536))
   pub pool : IfSome given.pool (λ n. (1 ≤ n) × (n ≤ 16384))
 
 nothing_within : AreWithin nothing
-nothing_within = record { segment = tt; pool = tt }
+nothing_within = record { every = tt; segment = tt; pool = tt }
 
 -- an option and its value: what is given then, and what the words behind give
 pub record Takes (given more : Given) (word value : List ℕ) (words : List (List ℕ)) : Type 0 where
@@ -87,27 +88,42 @@ no_value given more word is = by_option (option_behind given word) is
 
 -- a value of an option is in its range
 value_within : (given next : Given) (option : RunOption) (value : List ℕ) → AreWithin given → with_value given option value ≡ Some next → AreWithin next
+value_within given next Every value within is = by_number (number_of 1099511627776 value) refl is
+  where
+    by_number : (o : Option ℕ) → number_of 1099511627776 value ≡ o → option_map (λ n. record given { every = Some n }) o ≡ Some next → AreWithin next
+    by_number None number is = absurd (cc)
+    by_number (Some n) number is =
+        let same : record given { every = Some n } ≡ next = cc in
+        let known = number_known 1099511627776 n value number in
+        subst AreWithin same (record { every = (known.low, known.high); segment = within.segment; pool = within.pool })
+value_within given next Mode value within is = by_word (bytes_eq value (codes "inline")) is
+  where
+    by_word : (b : Bool) → cond b (Some (record given { mode = true })) None ≡ Some next → AreWithin next
+    by_word false is = absurd (cc)
+    by_word true is =
+        let same : record given { mode = true } ≡ next = cc in
+        subst AreWithin same (record { every = within.every; segment = within.segment; pool = within.pool })
 value_within given next Segment value within is = by_number (number_within 64 65536 value) refl is
   where
     by_number : (o : Option ℕ) → number_within 64 65536 value ≡ o → option_map (λ n. record given { segment = Some n }) o ≡ Some next → AreWithin next
     by_number None number is = absurd (cc)
     by_number (Some n) number is =
         let same : record given { segment = Some n } ≡ next = cc in
-        subst AreWithin same (record { segment = within_range 64 65536 n value number; pool = within.pool })
+        subst AreWithin same (record { every = within.every; segment = within_range 64 65536 n value number; pool = within.pool })
 value_within given next Pool value within is = by_number (number_within 1 16384 value) refl is
   where
     by_number : (o : Option ℕ) → number_within 1 16384 value ≡ o → option_map (λ n. record given { pool = Some n }) o ≡ Some next → AreWithin next
     by_number None number is = absurd (cc)
     by_number (Some n) number is =
         let same : record given { pool = Some n } ≡ next = cc in
-        subst AreWithin same (record { segment = within.segment; pool = within_range 1 16384 n value number })
+        subst AreWithin same (record { every = within.every; segment = within.segment; pool = within_range 1 16384 n value number })
 value_within given next Links value within is = by_word (bytes_eq value (codes "memory")) is
   where
     by_word : (b : Bool) → cond b (Some (record given { links = true })) None ≡ Some next → AreWithin next
     by_word false is = absurd (cc)
     by_word true is =
         let same : record given { links = true } ≡ next = cc in
-        subst AreWithin same (record { segment = within.segment; pool = within.pool })
+        subst AreWithin same (record { every = within.every; segment = within.segment; pool = within.pool })
 
 given_within : (given more : Given) (words : List (List ℕ)) → AreWithin given → given_from given words ≡ Ok more → AreWithin more
 given_within given more [] within is = let same : given ≡ more = cc in subst AreWithin same within
@@ -117,7 +133,7 @@ given_within given more (word ∷ value ∷ words) within is =
     given_within step.next more words (value_within given step.next step.option value within step.next_is) step.rest
 
 defaults_within : (given : Given) → AreWithin given → HasRange (with_defaults given)
-defaults_within given within = record { segment = segment given.segment within.segment; pool = pool given.pool within.pool }
+defaults_within given within = record { every = within.every; segment = segment given.segment within.segment; pool = pool given.pool within.pool }
   where
     segment : (o : Option ℕ) → IfSome o (λ n. (64 ≤ n) × (n ≤ 65536)) → (64 ≤ unwrap_or o 32768) × (unwrap_or o 32768 ≤ 65536)
     segment None within = (omega arith, omega arith)

@@ -59,7 +59,7 @@ same_agg : (kind other : AggKind) (m n : ℕ) → (1 ≤ m) × (m ≤ TASKS_MAX)
 same_agg kind other m n first second same =
     same_number m n first second (ap (λ (ws : List (List ℕ)). get_or ws 2 []) (sym (agg_words kind m first) ∙ ap (pieces 32) same ∙ agg_words other n second))
 
-no_agg : (s : Stage) (kind : AggKind) (n : ℕ) → stage_line s ≡ aggregate_line kind n → ⊥
+pub no_agg : (s : Stage) (kind : AggKind) (n : ℕ) → stage_line s ≡ aggregate_line kind n → ⊥
 no_agg s kind n same = let first : 115 ≡ 97 = ap (λ l. get_or l 0 0) same in omega (arith, first)
 
 -- stages and the aggregate behind them, with the same tasks and exchanges
@@ -107,7 +107,7 @@ length-map_files : (files : List (Items ℕ)) → length (map file_of files) ≡
 length-map_files [] = refl
 length-map_files (f ∷ files) = ap suc (length-map_files files)
 
-lines_of_files : (files : List (Items ℕ)) → map line_for files ≡ map source_line (map file_of files)
+pub lines_of_files : (files : List (Items ℕ)) → map line_for files ≡ map source_line (map file_of files)
 lines_of_files [] = refl
 lines_of_files (f ∷ files) = ap (λ l. line_for f ∷ l) (lines_of_files files)
 

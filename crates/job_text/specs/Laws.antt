@@ -3,6 +3,7 @@ use Rattle.std.specs.Prelude.{◌≡◌, ℕ, List, map, None}
 use Rattle.flow_defs.specs.Items.{Items}
 use Rattle.flow_defs.specs.Jobs.{last_edge, tasks, exchange}
 use Rattle.flow_defs.specs.declared.job.Job.{Job}
+use Rattle.flow_defs.specs.declared.job.Stage.{Stage}
 use Rattle.stage_fns.specs.Functions.{Functions}
 use Rattle.job_text.specs.JobText.{IsJobText}
 use Rattle.job_text.specs.JobFaults.{first_fault}
@@ -34,6 +35,16 @@ pub record HaveSameTasks (job other : Job) : Type 0 where
 -- All jobs of a text have the same tasks and edges.
 abbrev pub JobTextSaysTasks : Type 0
 JobTextSaysTasks = (functions : Functions) (text : List ℕ) (job other : Job) → IsJobText functions text job → IsJobText functions text other → HaveSameTasks job other
+
+-- Two jobs do the same work: each stage has the same kind and argument in both, and so has the aggregate its kind.
+pub record HaveSameWork (job other : Job) : Type 0 where
+  pub kinds : map (λ (s : Stage). s.kind) job.stages.items ≡ map (λ (s : Stage). s.kind) other.stages.items
+  pub arguments : map (λ (s : Stage). s.arg.items) job.stages.items ≡ map (λ (s : Stage). s.arg.items) other.stages.items
+  pub aggregate : job.agg ≡ other.agg
+
+-- All jobs of a text do the same work.
+abbrev pub JobTextSaysWork : Type 0
+JobTextSaysWork = (functions : Functions) (text : List ℕ) (job other : Job) → IsJobText functions text job → IsJobText functions text other → HaveSameWork job other
 
 -- A text says the shape of its job.
 abbrev pub JobTextSaysShape : Type 0

@@ -1,16 +1,16 @@
 -- The words of a command line. The commands, their options and what is told of faulty words are this project's own choice.
-use Rattle.std.specs.Prelude.{◌≡◌, ℕ, ◌≤◌, ◌<◌, ◌^◌, decimal, ◌==◌, Bool, true, false, not, nat_le, List, [], ◌∷◌, IsTrue, ⊤, if◌then◌else◌, Option, Some, None, is_some, unwrap_or, ok_or, option_map, option_and_then, Result, Ok, Err, codes, bytes_eq}
+use Rattle.std.specs.Prelude.{◌≡◌, ℕ, ◌≤◌, ◌<◌, ◌^◌, IfSome, decimal, ◌==◌, Bool, true, false, not, nat_le, List, [], ◌∷◌, IsTrue, ⊤, if◌then◌else◌, Option, Some, None, is_some, unwrap_or, ok_or, option_map, option_and_then, Result, Ok, Err, codes, bytes_eq}
 use Rattle.std.specs.Option.{option_map_or}
 use Rattle.std.specs.Result.{result_err}
 use Rattle.job_text.specs.declared.words.Command.{Command}
-use Rattle.job_text.specs.declared.words.Command.TheVariants.{Run, Script, Gen, Inspect}
+use Rattle.job_text.specs.declared.words.Command.TheVariants.{Run, Script, Gen, SelfRun, Inspect}
 use Rattle.job_text.specs.declared.words.RunOptions.{RunOptions}
 use Rattle.job_text.specs.declared.words.WordFault.{WordFault}
 use Rattle.job_text.specs.declared.words.WordFault.TheVariants.{Usage, Memory}
 use Rattle.job_text.specs.declared.words.UsageKind.{UsageKind}
 use Rattle.job_text.specs.declared.words.UsageKind.TheVariants.{NoCommand, UnknownCommand, MissingOperand, BadValue, UnknownOption, ExtraWord, OptionTwice, MissingValue}
 use Rattle.job_text.specs.declared.options.RunOption.{RunOption}
-use Rattle.job_text.specs.declared.options.RunOption.TheVariants.{Segment, Pool, Links}
+use Rattle.job_text.specs.declared.options.RunOption.TheVariants.{Every, Mode, Segment, Pool, Links}
 use Rattle.job_text.specs.declared.options.Given.{Given}
 use Rattle.job_text.specs.declared.words.TheConstants.{LINES_MAX}
 use Rattle.job_text.specs.JobFaults.{number_of}
@@ -34,7 +34,9 @@ stray_fault word = if has_dash word then UnknownOption else ExtraWord
 -- The option that a word names.
 abbrev pub option_of : List ℕ → Option RunOption
 option_of word =
-    if bytes_eq word (codes "--segment") then Some Segment
+    if bytes_eq word (codes "--every") then Some Every
+    else if bytes_eq word (codes "--mode") then Some Mode
+    else if bytes_eq word (codes "--segment") then Some Segment
     else if bytes_eq word (codes "--pool") then Some Pool
     else if bytes_eq word (codes "--links") then Some Links
     else None
@@ -45,16 +47,20 @@ number_within least most word = option_and_then (λ n. if nat_le least n then So
 
 -- Before the first option nothing was given.
 abbrev pub nothing : Given
-nothing = record { segment = None; pool = None; links = false }
+nothing = record { every = None; mode = false; segment = None; pool = None; links = false }
 
 -- Whether an option was given.
 abbrev pub was_given : Given → RunOption → Bool
+was_given given Every = is_some given.every
+was_given given Mode = given.mode
 was_given given Segment = is_some given.segment
 was_given given Pool = is_some given.pool
 was_given given Links = given.links
 
 -- What was given with this value of an option besides, where the option has such a value.
 abbrev pub with_value : Given → RunOption → List ℕ → Option Given
+with_value given Every value = option_map (λ n. record given { every = Some n }) (number_of 1099511627776 value)
+with_value given Mode value = if bytes_eq value (codes "inline") then Some (record given { mode = true }) else None
 with_value given Segment value = option_map (λ n. record given { segment = Some n }) (number_within 64 65536 value)
 with_value given Pool value = option_map (λ n. record given { pool = Some n }) (number_within 1 16384 value)
 with_value given Links value = if bytes_eq value (codes "memory") then Some (record given { links = true }) else None
@@ -74,16 +80,18 @@ given_from given [] = Ok given
 given_from given (word ∷ []) = and_then (option_behind given word) (λ option. Err MissingValue)
 given_from given (word ∷ value ∷ words) = and_then (option_behind given word) (λ option. and_then (ok_or (with_value given option value) BadValue) (λ more. given_from more words))
 
--- The options of a run: what was given, and else segments of 32,768 bytes and 2,048 of them in the pool.
+-- The options of a run: what was given, and else one checkpoint alone, the last, segments of 32,768 bytes and 2,048 of them in the pool.
 abbrev pub with_defaults : Given → RunOptions
-with_defaults given = record { segment = unwrap_or given.segment 32768; pool = unwrap_or given.pool 2048 }
+with_defaults given = record { every = given.every; segment = unwrap_or given.segment 32768; pool = unwrap_or given.pool 2048 }
 
 -- The options of a run that these words behind its operand give, or their first fault.
 abbrev pub run_options : List (List ℕ) → Result RunOptions UsageKind
 run_options words = and_then (given_from nothing words) (λ given. Ok (with_defaults given))
 
--- A segment has from 64 to 65,536 bytes, and a pool from 1 to 16,384 segments.
+-- Between two checkpoints lie from 1 to 1,099,511,627,776 lines of a source; a segment has from 64 to
+-- 65,536 bytes, and a pool from 1 to 16,384 segments.
 pub record HasRange (options : RunOptions) : Type 0 where
+  pub every : IfSome options.every (λ n. (1 ≤ n) × (n ≤ 1099511627776))
   pub segment : (64 ≤ options.segment) × (options.segment ≤ 65536)
   pub pool : (1 ≤ options.pool) × (options.pool ≤ 16384)
 
@@ -101,11 +109,19 @@ pub record IsScript (words : List (List ℕ)) (file : List ℕ) : Type 0 where
   pub words_are : words ≡ codes "script" ∷ file ∷ []
   pub operand : IsTrue (is_operand file)
 
--- The words are `gen`, how many lines are to be made, and the seed that they are made of.
-pub record IsGen (words : List (List ℕ)) (lines seed : ℕ) : Type 0 where
-  pub words_are : words ≡ codes "gen" ∷ decimal lines ∷ decimal seed ∷ []
+-- The words are a command's name, how many lines are to be made, and the seed that they are made of.
+pub record NameLines (command : List ℕ) (words : List (List ℕ)) (lines seed : ℕ) : Type 0 where
+  pub words_are : words ≡ command ∷ decimal lines ∷ decimal seed ∷ []
   pub few : lines ≤ LINES_MAX
   pub fits : seed < 2 ^ 64
+
+-- The words are `gen`, a number of lines and a seed.
+abbrev pub IsGen : List (List ℕ) → ℕ → ℕ → Type 0
+IsGen words lines seed = NameLines (codes "gen") words lines seed
+
+-- The words are `selfrun`, a number of lines and a seed.
+abbrev pub IsSelfRun : List (List ℕ) → ℕ → ℕ → Type 0
+IsSelfRun words lines seed = NameLines (codes "selfrun") words lines seed
 
 -- The one word is `inspect`.
 abbrev pub IsInspect : List (List ℕ) → Type 0
@@ -116,6 +132,7 @@ abbrev pub IsCommand : List (List ℕ) → Command → Type 0
 IsCommand words (Run job options) = IsRun words job options
 IsCommand words (Script file) = IsScript words file
 IsCommand words (Gen lines seed) = IsGen words lines seed
+IsCommand words (SelfRun lines seed) = IsSelfRun words lines seed
 IsCommand words Inspect = IsInspect words
 
 -- The options of a command are in their ranges.
@@ -123,6 +140,7 @@ abbrev pub HasRanges : Command → Type 0
 HasRanges (Run job options) = HasRange options
 HasRanges (Script file) = ⊤
 HasRanges (Gen lines seed) = ⊤
+HasRanges (SelfRun lines seed) = ⊤
 HasRanges Inspect = ⊤
 
 -- ---- what is told of faulty words
@@ -151,9 +169,9 @@ number_fault most fault [] = Some MissingOperand
 number_fault most fault (operand ∷ words) =
     if is_operand operand then (if is_some (whole_number most operand) then fault words else Some BadValue) else Some MissingOperand
 
--- The first fault of the words behind `gen`, which has no options.
-abbrev pub gen_fault : List (List ℕ) → Option UsageKind
-gen_fault words = number_fault LINES_MAX (number_fault 18446744073709551615 no_options_fault) words
+-- The first fault of the words behind `gen` or `selfrun`, which have no options.
+abbrev pub lines_fault : List (List ℕ) → Option UsageKind
+lines_fault words = number_fault LINES_MAX (number_fault 18446744073709551615 no_options_fault) words
 
 -- The first fault of the words, from the left.
 abbrev pub usage_fault : List (List ℕ) → Option UsageKind
@@ -161,7 +179,8 @@ usage_fault [] = Some NoCommand
 usage_fault (command ∷ words) =
     if bytes_eq command (codes "run") then operand_fault run_fault words
     else if bytes_eq command (codes "script") then operand_fault no_options_fault words
-    else if bytes_eq command (codes "gen") then gen_fault words
+    else if bytes_eq command (codes "gen") then lines_fault words
+    else if bytes_eq command (codes "selfrun") then lines_fault words
     else if bytes_eq command (codes "inspect") then no_options_fault words
     else Some UnknownCommand
 

@@ -1,9 +1,10 @@
 // The options of `run`, read from the left.
 ghost use Rattle.std.specs.Prelude.{◌≡◌, ok_or};
 ghost use Rattle.job_text.specs.declared.words.UsageKind.TheVariants.{BadValue};
+ghost use Rattle.job_text.specs.JobFaults.{number_of};
 ghost use Rattle.job_text.specs.Words.{stray_fault, option_of, number_within, nothing, was_given, with_value, option_behind, with_defaults, run_options};
 
-use crate::spelling::number_of;
+use crate::spelling::{long_number_of, number_of};
 use crate::words::has_dash;
 use crate::{RunOptions, UsageKind};
 use flow_defs::Word;
@@ -11,15 +12,19 @@ use flow_defs::Word;
 // An option of `run`.
 #[derive(Clone, Copy)]
 pub(crate) enum RunOption {
+    Every,
+    Mode,
     Segment,
     Pool,
     Links,
 }
 
-// What the options gave so far. The links have one value, so of them it is only known whether they
-// were given.
+// What the options gave so far. The mode and the links have one value each, so of them it is only
+// known whether they were given.
 #[derive(Clone, Copy)]
 pub(crate) struct Given {
+    every: Option<u64>,
+    mode: bool,
     segment: Option<u32>,
     pool: Option<u32>,
     links: bool,
@@ -30,6 +35,8 @@ impl Given {
         ensures { result ≡ nothing }
     {
         Given {
+            every: None,
+            mode: false,
             segment: None,
             pool: None,
             links: false,
@@ -52,6 +59,8 @@ impl Given {
         ensures { result ≡ was_given self.now option }
     {
         match option {
+            RunOption::Every => self.every.is_some(),
+            RunOption::Mode => self.mode,
             RunOption::Segment => self.segment.is_some(),
             RunOption::Pool => self.pool.is_some(),
             RunOption::Links => self.links,
@@ -64,6 +73,9 @@ impl Given {
     {
         let mut given = self;
         match option {
+            RunOption::Every => given.every = Some(number_to(value, 1_099_511_627_776)?),
+            RunOption::Mode if value == "inline" => given.mode = true,
+            RunOption::Mode => return Err(UsageKind::BadValue),
             RunOption::Segment => given.segment = Some(number_within(value, 64, 65_536)?),
             RunOption::Pool => given.pool = Some(number_within(value, 1, 16_384)?),
             RunOption::Links if value == "memory" => given.links = true,
@@ -77,6 +89,7 @@ impl Given {
         ensures { result ≡ with_defaults self.now }
     {
         RunOptions {
+            every: self.every,
             segment: self.segment.unwrap_or(32_768),
             pool: self.pool.unwrap_or(2_048),
         }
@@ -104,7 +117,11 @@ pub(crate) fn run_options(words: &[Word]) -> Result<RunOptions, UsageKind>
 fn option_of(word: &str) -> Option<RunOption>
     ensures { result ≡ option_of word.now }
 {
-    if word == "--segment" {
+    if word == "--every" {
+        Some(RunOption::Every)
+    } else if word == "--mode" {
+        Some(RunOption::Mode)
+    } else if word == "--segment" {
         Some(RunOption::Segment)
     } else if word == "--pool" {
         Some(RunOption::Pool)
@@ -113,6 +130,13 @@ fn option_of(word: &str) -> Option<RunOption>
     } else {
         None
     }
+}
+
+// The number from 1 to the most that the word spells in decimal.
+fn number_to(word: &str, most: u64) -> Result<u64, UsageKind>
+    ensures { result ≡ ok_or (number_of most word.now) BadValue }
+{
+    long_number_of(word.as_bytes(), most).ok_or(UsageKind::BadValue)
 }
 
 // The number from the least, which is not 0, to the most that the word spells in decimal.

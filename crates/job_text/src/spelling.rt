@@ -42,7 +42,8 @@ pub(crate) fn number_of(word: &[u8], most: u32) -> Option<u32>
     Some(number as u32)
 }
 
-fn long_number_of(word: &[u8], most: u64) -> Option<u64>
+// The same for numbers of up to 64 bits.
+pub(crate) fn long_number_of(word: &[u8], most: u64) -> Option<u64>
     ensures { result ≡ number_of most word.now }
 {
     let [b'1'..=b'9', ..] = word else {

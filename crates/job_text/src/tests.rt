@@ -5,6 +5,7 @@ use crate::{Command, JobFault, JobReadFault, RunOptions, read_grammar, read_job,
 use flow_defs::{AggKind, Bytes, Exchange, ListOf, StageKind, Word};
 use stage_fns::{AggFn, FnTable, StageFn, count, field, keep, words};
 use std::alloc::{AllocError, Global};
+use std::process::Abort;
 use std::test::Fail;
 
 // The words, each on its own.
@@ -30,7 +31,7 @@ const FAULTY: &[(&[&str], &str)] = &[
     (&["run", "--pool", "3"], "usage: missing operand"),
     (&["run", "j", "--fast"], "usage: unknown option"),
     (&["run", "j", "-", "k"], "usage: unknown option"),
-    (&["run", "j", "--every", "2"], "usage: unknown option"),
+    (&["run", "j", "--Every", "2"], "usage: unknown option"),
     (&["run", "j", "--pool=3"], "usage: unknown option"),
     (&["run", "j", "--Pool", "3"], "usage: unknown option"),
     (
@@ -42,6 +43,8 @@ const FAULTY: &[(&[&str], &str)] = &[
     (&["run", "j", "--pool", "3", "4"], "usage: extra word"),
     (&["run", "j", "--pool"], "usage: missing value"),
     (&["run", "j", "--links"], "usage: missing value"),
+    (&["run", "j", "--every"], "usage: missing value"),
+    (&["run", "j", "--mode"], "usage: missing value"),
     (
         &["run", "j", "--pool", "3", "--segment"],
         "usage: missing value",
@@ -75,6 +78,26 @@ const FAULTY: &[(&[&str], &str)] = &[
         &["run", "j", "--links", "memory", "--links", "memory"],
         "usage: option twice",
     ),
+    (
+        &["run", "j", "--every", "2", "--every", "3"],
+        "usage: option twice",
+    ),
+    (
+        &["run", "j", "--mode", "inline", "--mode", "front"],
+        "usage: option twice",
+    ),
+    // Of two faults the first is told.
+    (
+        &["run", "j", "--every", "0", "--every", "3"],
+        "usage: bad value",
+    ),
+    (&["run", "j", "--every", "--every", "3"], "usage: bad value"),
+    (&["run", "j", "--mode", "front", "k"], "usage: bad value"),
+    (&["run", "j", "k", "--every", "0"], "usage: extra word"),
+];
+
+// Runs with a value that is out of its range or none, and what is told of them.
+const FAULTY_VALUES: &[(&[&str], &str)] = &[
     (&["run", "j", "--segment", "63"], "usage: bad value"),
     (&["run", "j", "--segment", "65537"], "usage: bad value"),
     (&["run", "j", "--segment", "4294967360"], "usage: bad value"),
@@ -88,9 +111,29 @@ const FAULTY: &[(&[&str], &str)] = &[
     (&["run", "j", "--pool", ""], "usage: bad value"),
     (&["run", "j", "--pool", "--pool"], "usage: bad value"),
     (&["run", "j", "--pool", "0", "--pool"], "usage: bad value"),
+    (&["run", "j", "--every", "0"], "usage: bad value"),
+    (&["run", "j", "--every", "05"], "usage: bad value"),
+    (
+        &["run", "j", "--every", "1099511627777"],
+        "usage: bad value",
+    ),
+    (
+        &["run", "j", "--every", "18446744073709551617"],
+        "usage: bad value",
+    ),
+    (&["run", "j", "--every", "+2"], "usage: bad value"),
+    (&["run", "j", "--every", "2s"], "usage: bad value"),
+    (&["run", "j", "--every", ""], "usage: bad value"),
+    (&["run", "j", "--mode", "front"], "usage: bad value"),
+    (&["run", "j", "--mode", "Inline"], "usage: bad value"),
+    (&["run", "j", "--mode", ""], "usage: bad value"),
     (&["run", "j", "--links", "loopback"], "usage: bad value"),
     (&["run", "j", "--links", "Memory"], "usage: bad value"),
     (&["run", "j", "--links", ""], "usage: bad value"),
+];
+
+// Words of the other commands that are none, and their first faults.
+const FAULTY_OTHERS: &[(&[&str], &str)] = &[
     (&["script"], "usage: missing operand"),
     (&["script", "--fast"], "usage: missing operand"),
     (&["script", "s", "--fast"], "usage: unknown option"),
@@ -106,6 +149,26 @@ const FAULTY: &[(&[&str], &str)] = &[
     (&["gen", "1", "7 "], "usage: bad value"),
     (&["gen", "1", "7", "--pool"], "usage: unknown option"),
     (&["gen", "1", "7", "7"], "usage: extra word"),
+    (&["gen", "1", "7", "--every", "2"], "usage: unknown option"),
+    (&["selfrun"], "usage: missing operand"),
+    (&["selfrun", "1"], "usage: missing operand"),
+    (&["selfrun", "1", "-7"], "usage: missing operand"),
+    (&["selfrun", "2000001", "7"], "usage: bad value"),
+    (&["selfrun", "01", "7"], "usage: bad value"),
+    (
+        &["selfrun", "1", "18446744073709551616"],
+        "usage: bad value",
+    ),
+    (
+        &["selfrun", "2000001", "18446744073709551616", "7"],
+        "usage: bad value",
+    ),
+    (
+        &["selfrun", "1", "7", "--every", "2"],
+        "usage: unknown option",
+    ),
+    (&["selfrun", "1", "7", "7"], "usage: extra word"),
+    (&["selfruns", "1", "7"], "usage: unknown command"),
     (&["inspect", "x"], "usage: extra word"),
     (&["inspect", ""], "usage: extra word"),
     (&["inspect", "--every", "1"], "usage: unknown option"),
@@ -113,10 +176,9 @@ const FAULTY: &[(&[&str], &str)] = &[
     (&["Inspect"], "usage: unknown command"),
 ];
 
-#[test]
-fn the_first_fault_of_words_is_told(rt: HostRuntime) -> Result<(), Fail> {
-    let alloc = rt.alloc();
-    for (line, fault) in FAULTY {
+// Reads the words of each row, and compares the fault that is told with the one beside them.
+fn compare_faults<R: Abort>(rt: &R, alloc: Global, rows: &[(&[&str], &str)]) -> Result<(), Fail> {
+    for (line, fault) in rows {
         match read_words(alloc, &words_of(alloc, line)?) {
             Ok(_) => return Err(Fail::from("words are taken that have a fault")),
             Err(told) => assert_eq!(rt; format!(in alloc; "{told}")?.as_str(), *fault),
@@ -125,12 +187,28 @@ fn the_first_fault_of_words_is_told(rt: HostRuntime) -> Result<(), Fail> {
     Ok(())
 }
 
-// Words of runs, with the length and the number of segments that they give.
-const RUNS: &[(&[&str], u32, u32)] = &[
-    (&["run", "j"], 32_768, 2_048),
-    (&["run", "j", "--pool", "41"], 32_768, 41),
-    (&["run", "j", "--segment", "4096"], 4_096, 2_048),
-    (&["run", "j", "--links", "memory"], 32_768, 2_048),
+#[test]
+fn the_first_fault_of_words_is_told(rt: HostRuntime) -> Result<(), Fail> {
+    compare_faults(&rt, rt.alloc(), FAULTY)
+}
+
+#[test]
+fn a_value_out_of_its_range_is_told(rt: HostRuntime) -> Result<(), Fail> {
+    compare_faults(&rt, rt.alloc(), FAULTY_VALUES)
+}
+
+#[test]
+fn the_first_fault_of_other_commands_is_told(rt: HostRuntime) -> Result<(), Fail> {
+    compare_faults(&rt, rt.alloc(), FAULTY_OTHERS)
+}
+
+// Words of runs, with the lines between checkpoints, the length and the number of segments that they
+// give.
+const RUNS: &[(&[&str], Option<u64>, u32, u32)] = &[
+    (&["run", "j"], None, 32_768, 2_048),
+    (&["run", "j", "--pool", "41"], None, 32_768, 41),
+    (&["run", "j", "--segment", "4096"], None, 4_096, 2_048),
+    (&["run", "j", "--links", "memory"], None, 32_768, 2_048),
     (
         &[
             "run",
@@ -142,6 +220,7 @@ const RUNS: &[(&[&str], u32, u32)] = &[
             "--links",
             "memory",
         ],
+        None,
         64,
         4,
     ),
@@ -156,6 +235,7 @@ const RUNS: &[(&[&str], u32, u32)] = &[
             "--segment",
             "64",
         ],
+        None,
         64,
         4,
     ),
@@ -170,25 +250,61 @@ const RUNS: &[(&[&str], u32, u32)] = &[
             "--pool",
             "4",
         ],
+        None,
         64,
         4,
     ),
     (
         &["run", "j", "--pool", "1", "--segment", "65536"],
+        None,
         65_536,
         1,
     ),
     (
         &["run", "j", "--segment", "65535", "--pool", "16384"],
+        None,
         65_535,
         16_384,
+    ),
+    (&["run", "j", "--every", "1"], Some(1), 32_768, 2_048),
+    (
+        &["run", "j", "--every", "1099511627776"],
+        Some(1_099_511_627_776),
+        32_768,
+        2_048,
+    ),
+    (&["run", "j", "--mode", "inline"], None, 32_768, 2_048),
+    (
+        &["run", "j", "--mode", "inline", "--every", "20"],
+        Some(20),
+        32_768,
+        2_048,
+    ),
+    (
+        &[
+            "run",
+            "j",
+            "--pool",
+            "4",
+            "--every",
+            "5",
+            "--links",
+            "memory",
+            "--mode",
+            "inline",
+            "--segment",
+            "64",
+        ],
+        Some(5),
+        64,
+        4,
     ),
 ];
 
 #[test]
 fn a_run_is_read_with_its_options(rt: HostRuntime) -> Result<(), Fail> {
     let alloc = rt.alloc();
-    for (line, segment, pool) in RUNS {
+    for (line, every, segment, pool) in RUNS {
         let Command::Run { job, options } = read_words(alloc, &words_of(alloc, line)?)? else {
             return Err(Fail::from("the words of a run are another command"));
         };
@@ -196,6 +312,7 @@ fn a_run_is_read_with_its_options(rt: HostRuntime) -> Result<(), Fail> {
         assert_eq!(rt;
             options,
             RunOptions {
+                every: *every,
                 segment: *segment,
                 pool: *pool
             }
@@ -229,8 +346,17 @@ fn lines_and_a_seed_are_read(rt: HostRuntime) -> Result<(), Fail> {
         ("10", "18446744073709551615", (10, u64::MAX)),
     ] {
         let words = words_of(alloc, &["gen", lines, seed])?;
-        let Command::Gen { lines, seed } = read_words(alloc, &words)? else {
+        let Command::Gen {
+            lines: made,
+            seed: of,
+        } = read_words(alloc, &words)?
+        else {
             return Err(Fail::from("the words of lines are another command"));
+        };
+        assert_eq!(rt; (made, of), wanted);
+        let words = words_of(alloc, &["selfrun", lines, seed])?;
+        let Command::SelfRun { lines, seed } = read_words(alloc, &words)? else {
+            return Err(Fail::from("the words of a run of lines are another command"));
         };
         assert_eq!(rt; (lines, seed), wanted);
     }

@@ -2,7 +2,7 @@
 ghost use Rattle.std.specs.Prelude.{◌≡◌, ◌↔◌, ◌⊎◌, ◌≤◌, ℕ, List, ◌∷◌, Option, Some, None, Err, IsTrue, IfOk, IfErr, MatchResult, codes, decimal};
 ghost use Rattle.std.specs.Result.{result_err};
 ghost use Rattle.job_text.specs.declared.words.WordFault.TheVariants.{Memory, Usage};
-ghost use Rattle.job_text.specs.Words.{IsRun, IsScript, IsGen, IsInspect, IsCommand, HasRanges, IsUsage, has_dash, is_operand, operand_fault, number_fault, run_fault, no_options_fault, gen_fault, usage_fault};
+ghost use Rattle.job_text.specs.Words.{IsRun, IsScript, NameLines, IsGen, IsSelfRun, IsInspect, IsCommand, HasRanges, IsUsage, has_dash, is_operand, operand_fault, number_fault, run_fault, no_options_fault, lines_fault, usage_fault};
 
 use crate::options::{run_options, stray_fault};
 use crate::spelling::whole_number;
@@ -19,6 +19,8 @@ pub enum Command {
     Script { file: Word },
     /// Make so many lines, from 0 to 2,000,000, of a seed.
     Gen { lines: u64, seed: u64 },
+    /// Run the job of the words of so many lines, from 0 to 2,000,000, that are made of a seed.
+    SelfRun { lines: u64, seed: u64 },
     /// Show the last image that the keeper holds.
     Inspect,
 }
@@ -29,6 +31,9 @@ pub const LINES_MAX: u64 = 2_000_000;
 /// How a job is run.
 #[derive(Clone, Copy, Debug, PartialEq, Eq)]
 pub struct RunOptions {
+    /// How many lines of a source lie between two of its checkpoints, from 1 to 1,099,511,627,776;
+    /// without it there is one checkpoint, the last.
+    pub every: Option<u64>,
     /// The length of a segment of network memory in bytes, from 64 to 65,536.
     pub segment: u32,
     /// How many segments the pool of network memory has, from 1 to 16,384.
@@ -100,6 +105,7 @@ pub fn read_words(alloc: Global, words: &ListOf<Word>) -> Result<Command, WordFa
         ↔ (((job : List ℕ) × (options : RunOptions) × IsRun words.now.items job options)
         ⊎ ((file : List ℕ) × IsScript words.now.items file)
         ⊎ ((lines : ℕ) × (seed : ℕ) × IsGen words.now.items lines seed)
+        ⊎ ((lines : ℕ) × (seed : ℕ) × IsSelfRun words.now.items lines seed)
         ⊎ IsInspect words.now.items) }
 {
     let [command, words @ ..] = words.as_slice() else {
@@ -111,6 +117,8 @@ pub fn read_words(alloc: Global, words: &ListOf<Word>) -> Result<Command, WordFa
         read_script(alloc, words)
     } else if command.text() == "gen" {
         read_gen(words)
+    } else if command.text() == "selfrun" {
+        read_selfrun(words)
     } else if command.text() == "inspect" {
         read_inspect(words)
     } else {
@@ -143,12 +151,19 @@ fn read_script(alloc: Global, words: &[Word]) -> Result<Command, WordFault>
 // Reads the words behind `gen`.
 fn read_gen(words: &[Word]) -> Result<Command, WordFault>
     ensures command { IfOk result (IsCommand (codes "gen" ∷ words.now)) }
-    ensures fault { IfErr result (λ told. IsUsage told (gen_fault words.now)) }
+    ensures fault { IfErr result (λ told. IsUsage told (lines_fault words.now)) }
 {
-    let (lines, behind) = number_operand(words, LINES_MAX)?;
-    let (seed, behind) = number_operand(behind, u64::MAX)?;
-    no_options(behind)?;
+    let (lines, seed) = lines_and_seed(words)?;
     Ok(Command::Gen { lines, seed })
+}
+
+// Reads the words behind `selfrun`.
+fn read_selfrun(words: &[Word]) -> Result<Command, WordFault>
+    ensures command { IfOk result (IsCommand (codes "selfrun" ∷ words.now)) }
+    ensures fault { IfErr result (λ told. IsUsage told (lines_fault words.now)) }
+{
+    let (lines, seed) = lines_and_seed(words)?;
+    Ok(Command::SelfRun { lines, seed })
 }
 
 // Reads the words behind `inspect`.
@@ -158,6 +173,18 @@ fn read_inspect(words: &[Word]) -> Result<Command, WordFault>
 {
     no_options(words)?;
     Ok(Command::Inspect)
+}
+
+// How many lines are to be made, and of which seed, where the words behind a command say no more.
+fn lines_and_seed(words: &[Word]) -> Result<(u64, u64), UsageKind>
+    ensures { MatchResult result
+        (λ made. (command : List ℕ) → NameLines command (command ∷ words.now) made.0 made.1)
+        (λ kind. lines_fault words.now ≡ Some kind) }
+{
+    let (lines, behind) = number_operand(words, LINES_MAX)?;
+    let (seed, behind) = number_operand(behind, u64::MAX)?;
+    no_options(behind)?;
+    Ok((lines, seed))
 }
 
 // The number up to the most that stands first, and the words behind it.

@@ -1,24 +1,29 @@
 -- What the tasks of a job may be lent, and what they leave. This is this project's own choice.
-use Rattle.std.specs.Prelude.{◌≡◌, ℕ, suc, ◌<◌, ◌≤◌, ⊤, [], List, length, Option, Some, None, IfSome}
+use Rattle.std.specs.Prelude.{◌≡◌, ℕ, suc, ◌<◌, ◌≤◌, [], List, Option, Some, None, IfSome}
 use Rattle.std.specs.Option.{option_map_or}
 use Rattle.turn_cell.specs.Passes.{IsPassOf, mine}
-use Rattle.flow_defs.specs.declared.cause.Cause.{Cause}
-use Rattle.flow_defs.specs.declared.cause.Cause.TheVariants as causes
-use Rattle.flow_defs.specs.declared.cause.PeerFault.TheVariants as peers
+use Rattle.flow_defs.specs.declared.image.Snapshot.{Snapshot}
+use Rattle.flow_defs.specs.declared.image.TakeRun.{TakeRun}
 use Rattle.flow_defs.specs.declared.job.Job.{Job}
 use Rattle.flow_defs.specs.Jobs.{last_edge, tasks}
-use Rattle.flow_defs.specs.Lines.{lines}
 use Rattle.conn_parts.specs.Shares.{AreOwn}
-use Rattle.record_writer.specs.Writers.{ways_into}
+use Rattle.record_writer.specs.declared.partition.Partition.{Partition}
+use Rattle.record_writer.specs.declared.partition.PartitionPasses.{PartitionPasses}
+use Rattle.record_writer.specs.Partitions.{ArePassesOf, IsPartitionOf}
+use Rattle.record_writer.specs.Writers.{SendPass, ways_into}
 use Rattle.input_gate.specs.declared.passes.GatePasses.{GatePasses}
 use Rattle.input_gate.specs.Channels.{cells_in}
-use Rattle.input_gate.specs.Gates.{IsNew}
+use Rattle.input_gate.specs.Gates.{Account, IsNew}
 use Rattle.input_gate.specs.States.{GateState, account_in}
 use Rattle.input_gate.specs.Turning.{InputCell, InputPass}
-use Rattle.job_plan.specs.declared.limits.TheConstants.{SOURCE_MAX}
-use Rattle.job_laws.specs.Accounts.{TellsPolled}
-use Rattle.job_laws.specs.Ends.{SentWhole, StageDone, AggregateDone}
-use Rattle.task_run.specs.Tasks.{HasPartition, HandsBack, IsSourceCause, passes_in}
+use Rattle.outside.specs.declared.last_image.Stored.{Stored}
+use Rattle.checkpoint_laws.specs.Chapters.{task_at}
+use Rattle.snapshot_channel.specs.declared.opened.TaskPass.{TaskPass}
+use Rattle.snapshot_channel.specs.Passes as channels
+use Rattle.source_task.specs.Sources.{SourceAccount}
+use Rattle.stage_task.specs.Stages.{StageAccount}
+use Rattle.aggregate_task.specs.Aggregates.{AggregateAccount}
+use Rattle.job_chain.specs.Ran.{TellsGiven}
 use Rattle.job_workers.specs.declared.task.Lent.{Lent}
 use Rattle.job_workers.specs.declared.task.SourceTask.{SourceTask}
 use Rattle.job_workers.specs.declared.task.StageTask.{StageTask}
@@ -29,29 +34,34 @@ use Rattle.job_workers.specs.declared.task.TaskLeft.{TaskLeft}
 
 -- ---- what they are lent
 
--- Its pass of what stops all workers has told nothing.
-abbrev pub MayStop : Lent → Type 0
-MayStop lent = IsPassOf lent.stop.now lent.stop_pass × (mine lent.stop_pass ≡ [])
+-- Task a of stage i is lent fresh passes: of the channel of snapshots, which is opened for the job from the start on and for the interval
+-- that it is told, of the cell of the last image, and of what stops all workers. An interval has at least one line.
+pub record MayCheckpoint (job : Job) (i a : ℕ) (lent : Lent) : Type 0 where
+  pub interval : IfSome lent.every (λ n. 1 ≤ n)
+  pub fresh : channels.IsFresh lent.snapshots.now lent.snapshot_pass
+  pub task : channels.task_of lent.snapshot_pass ≡ task_at i a
+  pub opening : channels.opening_of lent.snapshots.now ≡ channels.opening job 0 lent.every
+  pub last_pass : IsPassOf lent.last_image.now lent.last_pass
+  pub stop : IsPassOf lent.stop.now lent.stop_pass × (mine lent.stop_pass ≡ [])
 
 -- The gate of a task behind edge e has given nothing.
 abbrev pub IsGateBehind : Job → ℕ → GateState → Type 0
 IsGateBehind job e gate = IsNew (account_in gate) × ((account_in gate).channels ≡ ways_into job e)
 
 pub record MayRunSource {S : Type 0} (job : Job) (task : SourceTask S) : Type 0 where
-  pub partition : HasPartition job 0 task.index task.lent.partition
-  pub stop : MayStop task.lent
+  pub partition : IsPartitionOf job 0 task.index task.partition
+  pub may : MayCheckpoint job 0 task.index task.lent
 
 pub record MayRunStage (job : Job) (task : StageTask) : Type 0 where
   pub stage : (task.edge < last_edge job) × (task.index < tasks job (suc task.edge))
   pub gate : IsGateBehind job task.edge task.gate
-  pub partition : HasPartition job (suc task.edge) task.index task.lent.partition
-  pub stop : MayStop task.lent
+  pub partition : IsPartitionOf job (suc task.edge) task.index task.partition
+  pub may : MayCheckpoint job (suc task.edge) task.index task.lent
 
 pub record MayRunAggregate (job : Job) (task : AggregateTask) : Type 0 where
   pub index : task.index < tasks job (suc (last_edge job))
   pub gate : IsGateBehind job (last_edge job) task.gate
-  pub none : task.lent.partition ≡ None
-  pub stop : MayStop task.lent
+  pub may : MayCheckpoint job (suc (last_edge job)) task.index task.lent
 
 abbrev pub MayRunTask : {S : Type 0} → Job → Task S → Type 0
 MayRunTask job (Source task) = MayRunSource job task
@@ -60,16 +70,15 @@ MayRunTask job (Aggregate task) = MayRunAggregate job task
 
 -- ---- what they leave
 
--- The passes of a gate. Without a gate there are none.
+-- The passes of a gate, those by which a task sent, and the snapshots that it sent. Without such passes there are none.
 abbrev pub gate_in : Option GatePasses → List InputPass
 gate_in back = option_map_or (λ (passes : GatePasses). passes.cells.items) back []
 
--- A gate gave its passes back, and they tell what it gave.
-pub record GaveBack (gate : GateState) (back : Option GatePasses) : Type 0 where
-  pub passes : GatePasses
-  pub are_there : back ≡ Some passes
-  pub own : AreOwn 0 (cells_in gate.lanes) passes.cells.items
-  pub tells : TellsPolled passes.cells.items (account_in gate)
+abbrev pub passes_in : Option PartitionPasses → List SendPass
+passes_in back = option_map_or (λ (passes : PartitionPasses). passes.subpartitions.items) back []
+
+abbrev pub snapshots_in : Option TaskPass → List Snapshot
+snapshots_in back = option_map_or (λ (pass : TaskPass). channels.sent_by pass) back []
 
 -- There are passes of these cells of a gate's channels.
 pub record HasGatePasses (cells : List InputCell) (back : Option GatePasses) : Type 0 where
@@ -77,41 +86,51 @@ pub record HasGatePasses (cells : List InputCell) (back : Option GatePasses) : T
   pub are_there : back ≡ Some passes
   pub own : AreOwn 0 cells passes.cells.items
 
--- Why a task with a gate may end.
-abbrev pub IsTakerEnd : Cause → Type 0
-IsTakerEnd causes.Done = ⊤
-IsTakerEnd causes.Stopped = ⊤
-IsTakerEnd (causes.Peer peers.Left) = ⊤
-IsTakerEnd (causes.Peer peers.Barrier) = ⊤
-IsTakerEnd causes.Memory = ⊤
-IsTakerEnd other = ⊥
+-- There are passes of the partition before edge e.
+pub record HasPartitionPasses (job : Job) (e : ℕ) (lent : Partition) (back : Option PartitionPasses) : Type 0 where
+  pub passes : PartitionPasses
+  pub are_there : back ≡ Some passes
+  pub are_of : ArePassesOf job e lent passes
 
--- A source that is done sent all lines of its input, where that is told.
+-- There is the pass of the channel of snapshots of task a of stage i.
+pub record HasSnapshotPass (i a : ℕ) (lent : Lent) (back : Option TaskPass) : Type 0 where
+  pub pass : TaskPass
+  pub is_there : back ≡ Some pass
+  pub of_channel : channels.IsPassOf lent.snapshots.now pass
+  pub task : channels.task_of pass ≡ task_at i a
+
+-- A source has its account.
 pub record LeftBySource {S : Type 0} (left : S → Option (List ℕ)) (faults : S → ℕ) (job : Job) (task : SourceTask S) (end : TaskLeft S) : Type 0 where
   pub input : S
   pub is_there : end.input ≡ Some input
   pub no_gate : end.gate ≡ None
-  pub partition : HandsBack job 0 task.lent.partition end.partition
-  pub did : end.cause ≡ causes.Done → IfSome (left task.input) (λ bytes.
-      SentWhole job 0 task.index (passes_in end.partition) (lines bytes) × (length bytes ≤ SOURCE_MAX))
-  pub never_falls : faults task.input ≤ faults input
-  pub cause_is : IsSourceCause task.index (left task.input) (faults task.input) (faults input) end.cause
+  pub partition : HasPartitionPasses job 0 task.partition end.partition
+  pub snapshots : HasSnapshotPass 0 task.index task.lent end.snapshots
+  pub account : SourceAccount job task.index task.partition.size task.lent.every (passes_in end.partition) (snapshots_in end.snapshots) (left task.input) (faults task.input) (faults input) end.cause
 
--- A stateless task that is done took all that was sent to it, and sent what its stage gives for that.
+-- A stateless task has its account by what its gate's passes tell.
 pub record LeftByStage {S : Type 0} (job : Job) (task : StageTask) (end : TaskLeft S) : Type 0 where
   pub no_input : end.input ≡ None
   pub gate : HasGatePasses (cells_in task.gate.lanes) end.gate
-  pub partition : HandsBack job (suc task.edge) task.lent.partition end.partition
-  pub did : end.cause ≡ causes.Done → StageDone job task.edge task.index (gate_in end.gate) (passes_in end.partition)
-  pub cause_is : IsTakerEnd end.cause
+  pub partition : HasPartitionPasses job (suc task.edge) task.partition end.partition
+  pub snapshots : HasSnapshotPass (suc task.edge) task.index task.lent end.snapshots
+  pub given : Account
+  pub tells : TellsGiven (gate_in end.gate) given
+  pub history : List (ℕ × Stored)
+  pub takes : List TakeRun
+  pub account : StageAccount job task.edge task.index task.partition.size task.lent.every given (passes_in end.partition) (snapshots_in end.snapshots) history takes end.cause
 
--- A task of the aggregate that is done has the table of all that was sent to it.
+-- So has a task of the aggregate.
 pub record LeftByAggregate {S : Type 0} (job : Job) (task : AggregateTask) (end : TaskLeft S) : Type 0 where
   pub no_input : end.input ≡ None
   pub gate : HasGatePasses (cells_in task.gate.lanes) end.gate
   pub no_partition : end.partition ≡ None
-  pub did : end.cause ≡ causes.Done → AggregateDone job task.index (gate_in end.gate) end.table
-  pub cause_is : IsTakerEnd end.cause
+  pub snapshots : HasSnapshotPass (suc (last_edge job)) task.index task.lent end.snapshots
+  pub given : Account
+  pub tells : TellsGiven (gate_in end.gate) given
+  pub history : List (ℕ × Stored)
+  pub takes : List TakeRun
+  pub account : AggregateAccount job task.index task.lent.every given (snapshots_in end.snapshots) history takes end.cause
 
 abbrev pub LeftByTask : {S : Type 0} → (S → Option (List ℕ)) → (S → ℕ) → Job → Task S → TaskLeft S → Type 0
 LeftByTask left faults job (Source task) end = LeftBySource left faults job task end

@@ -1,27 +1,33 @@
 // The tasks of a job as workers.
-ghost use Rattle.std.specs.Prelude.{◌≡◌, ◌<◌, suc, None};
 ghost use Rattle.flow_defs.specs.Jobs.{IsJob};
 ghost use Rattle.stage_fns.specs.Kinds.{kinds};
 ghost use Rattle.job_plan.specs.Plans.{CanRun};
-ghost use Rattle.job_workers.specs.Tasks.{LeftByAggregate, LeftBySource, LeftByStage, LeftByTask, GaveBack, MayRunAggregate, MayRunSource, MayRunStage, MayRunTask};
+ghost use Rattle.job_workers.specs.Tasks.{LeftByAggregate, LeftBySource, LeftByStage, LeftByTask, MayRunAggregate, MayRunSource, MayRunStage, MayRunTask};
 
 use crate::place::Worker;
-use flow_defs::{Cause, Job, Table};
-use input_gate::{CellGate, GatePasses, lines_are_polled};
-use job_laws::laws::done_tasks_did_all;
-use outside::{Source, StopState};
+use aggregate_task::{AggregateTaskEnd, AggregateWorld, run_aggregate};
+use flow_defs::{Cause, Job};
+use input_gate::{CellGate, GatePasses};
+use outside::{LastImage, Source, StopState};
 use record_writer::{Partition, PartitionPasses};
+use snapshot_channel::{SnapshotChannel, TaskPass};
+use source_task::{SourceTaskEnd, SourceWorld, run_source};
 use stage_fns::FnTable;
+use stage_task::{StageTaskEnd, StageWorld, run_stage};
 use std::alloc::Global;
 use std::sync::Wait;
-use task_run::{TaskEnd, World, WorldPasses, run_aggregate, run_source, run_stage};
 use turn_cell::{Pass, TurnCell};
 
-/// What a task is lent beside its input or its gate: the result partition on which it sends, if it does,
-/// and what stops all workers.
+/// What a task is lent beside its input or its gate and its partition: how many lines a source reads between two
+/// checkpoints, from 1, or None for the last one alone; the channel of snapshots, the cell that tells the image
+/// stored last, and what stops all workers.
 #[derive(Drop)]
-pub struct Lent<'a, 'p> {
-    pub partition: Option<Partition<'a, 'p>>,
+pub struct Lent<'a> {
+    pub every: Option<u64>,
+    pub snapshots: &'a SnapshotChannel,
+    pub snapshot_pass: TaskPass,
+    pub last_image: &'a TurnCell<LastImage>,
+    pub last_pass: Pass<LastImage>,
     pub stop: &'a TurnCell<StopState>,
     pub stop_pass: Pass<StopState>,
 }
@@ -32,7 +38,8 @@ pub struct SourceTask<'a, 'p, S> {
     pub alloc: Global,
     pub input: S,
     pub index: u32,
-    pub lent: Lent<'a, 'p>,
+    pub partition: Partition<'a, 'p>,
+    pub lent: Lent<'a>,
 }
 
 /// The task of this index of the stateless stage behind `edge`.
@@ -42,7 +49,8 @@ pub struct StageTask<'a, 'p> {
     pub gate: CellGate<'a, 'p>,
     pub edge: u32,
     pub index: u32,
-    pub lent: Lent<'a, 'p>,
+    pub partition: Partition<'a, 'p>,
+    pub lent: Lent<'a>,
 }
 
 /// The aggregate's task of this index.
@@ -51,7 +59,7 @@ pub struct AggregateTask<'a, 'p> {
     pub alloc: Global,
     pub gate: CellGate<'a, 'p>,
     pub index: u32,
-    pub lent: Lent<'a, 'p>,
+    pub lent: Lent<'a>,
 }
 
 /// A task of a job.
@@ -62,69 +70,21 @@ pub enum Task<'a, 'p, S> {
     Aggregate(AggregateTask<'a, 'p>),
 }
 
-/// What a task leaves: the input of a source, the passes of a gate and of a partition where it has such,
-/// what an aggregate task counted, and why it ended.
+/// What a task leaves: the input of a source, the passes of a gate and of a partition where it has such, its pass
+/// of the channel of snapshots, and why it ended.
 #[derive(Drop)]
 pub struct TaskLeft<'p, S> {
     pub input: Option<S>,
     pub gate: Option<GatePasses<'p>>,
     pub partition: Option<PartitionPasses<'p>>,
-    pub table: Table,
+    pub snapshots: Option<TaskPass>,
     pub cause: Cause,
-}
-
-// What a task shares with others.
-fn world_of<'a, 'p>(job: &'a Job, functions: &'a FnTable, lent: Lent<'a, 'p>) -> World<'a, 'p>
-    ensures job { (result.job.now ≡ job.now) × (result.functions.now ≡ functions.now) }
-    ensures partition { result.partition ≡ lent.entry.partition }
-    ensures stop { (result.stop.now ≡ lent.entry.stop.now) × (result.stop_pass ≡ lent.entry.stop_pass) }
-{
-    let Lent {
-        partition,
-        stop,
-        stop_pass,
-    } = lent;
-    World {
-        job,
-        functions,
-        partition,
-        stop,
-        stop_pass,
-    }
-}
-
-// What a task with a gate leaves.
-fn left_of<'a, 'p, S>(end: TaskEnd<'p, CellGate<'a, 'p>>) -> TaskLeft<'p, S>
-    ensures input { result.input ≡ None }
-    ensures gate { GaveBack end.entry.gate result.gate }
-    ensures partition { result.partition ≡ end.entry.passes.partition }
-    ensures table { result.table ≡ end.entry.table }
-    ensures cause { result.cause ≡ end.entry.cause }
-{
-    let TaskEnd {
-        gate,
-        passes,
-        takes: _,
-        emitted: _,
-        table,
-        cause,
-    } = end;
-    let WorldPasses { partition, stop: _ } = passes;
-    lines_are_polled(&gate);
-    TaskLeft {
-        input: None,
-        gate: Some(gate.into_passes()),
-        partition,
-        table,
-        cause,
-    }
 }
 
 // Runs a source.
 fn run_source_task<'a, 'p, S: Source, R: Wait>(
     rt: &R,
     job: &Job,
-    functions: &FnTable,
     task: SourceTask<'a, 'p, S>,
 ) -> TaskLeft<'p, S>
     requires is_job { IsJob job.now }
@@ -135,25 +95,41 @@ fn run_source_task<'a, 'p, S: Source, R: Wait>(
         alloc,
         input,
         index,
+        partition,
         lent,
     } = task;
+    let Lent {
+        every,
+        snapshots,
+        snapshot_pass,
+        last_image,
+        last_pass,
+        stop,
+        stop_pass,
+    } = lent;
+    let world = SourceWorld {
+        job,
+        partition,
+        snapshots,
+        snapshot_pass,
+        last_image,
+        last_pass,
+        stop,
+        stop_pass,
+    };
     let mut input = input;
-    let world = world_of(job, functions, lent);
-    let TaskEnd {
-        gate: (),
-        passes,
-        takes: _,
-        emitted: _,
-        table,
+    let SourceTaskEnd {
+        partition,
+        snapshot_pass,
+        last_pass: _,
+        stop_pass: _,
         cause,
-    } = run_source(rt, alloc, &mut input, index, world);
-    let WorldPasses { partition, stop: _ } = passes;
-    done_tasks_did_all();
+    } = run_source(rt, alloc, &mut input, index, every, world);
     TaskLeft {
         input: Some(input),
         gate: None,
-        partition,
-        table,
+        partition: Some(partition),
+        snapshots: Some(snapshot_pass),
         cause,
     }
 }
@@ -174,12 +150,45 @@ fn run_stage_task<'a, 'p, S, R: Wait>(
         gate,
         edge,
         index,
+        partition,
         lent,
     } = task;
-    let world = world_of(job, functions, lent);
-    let end = run_stage(rt, alloc, gate, edge, index, world);
-    done_tasks_did_all();
-    left_of(end)
+    let Lent {
+        every,
+        snapshots,
+        snapshot_pass,
+        last_image,
+        last_pass,
+        stop,
+        stop_pass,
+    } = lent;
+    let world = StageWorld {
+        job,
+        functions,
+        partition,
+        snapshots,
+        snapshot_pass,
+        last_image,
+        last_pass,
+        stop,
+        stop_pass,
+    };
+    let StageTaskEnd {
+        gate,
+        partition,
+        snapshot_pass,
+        last_pass: _,
+        stop_pass: _,
+        takes: _,
+        cause,
+    } = run_stage(rt, alloc, gate, edge, index, every, world);
+    TaskLeft {
+        input: None,
+        gate: Some(gate.into_passes()),
+        partition: Some(partition),
+        snapshots: Some(snapshot_pass),
+        cause,
+    }
 }
 
 // Runs a task of the aggregate.
@@ -199,10 +208,40 @@ fn run_aggregate_task<'a, 'p, S, R: Wait>(
         index,
         lent,
     } = task;
-    let world = world_of(job, functions, lent);
-    let end = run_aggregate(rt, alloc, gate, index, world);
-    done_tasks_did_all();
-    left_of(end)
+    let Lent {
+        every,
+        snapshots,
+        snapshot_pass,
+        last_image,
+        last_pass,
+        stop,
+        stop_pass,
+    } = lent;
+    let world = AggregateWorld {
+        job,
+        functions,
+        snapshots,
+        snapshot_pass,
+        last_image,
+        last_pass,
+        stop,
+        stop_pass,
+    };
+    let AggregateTaskEnd {
+        gate,
+        snapshot_pass,
+        last_pass: _,
+        stop_pass: _,
+        takes: _,
+        cause,
+    } = run_aggregate(rt, alloc, gate, index, every, world);
+    TaskLeft {
+        input: None,
+        gate: Some(gate.into_passes()),
+        partition: None,
+        snapshots: Some(snapshot_pass),
+        cause,
+    }
 }
 
 impl<'a, 'p, S: Source + Send> Worker for Task<'a, 'p, S> {
@@ -214,7 +253,7 @@ impl<'a, 'p, S: Source + Send> Worker for Task<'a, 'p, S> {
 
     fn run<R: Wait>(self, rt: &R, job: &Job, functions: &FnTable) -> TaskLeft<'p, S> {
         match self {
-            Task::Source(task) => run_source_task(rt, job, functions, task),
+            Task::Source(task) => run_source_task(rt, job, task),
             Task::Stage(task) => run_stage_task(rt, job, functions, task),
             Task::Aggregate(task) => run_aggregate_task(rt, job, functions, task),
         }

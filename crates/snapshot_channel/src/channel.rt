@@ -200,11 +200,12 @@ impl SnapshotChannel {
         }
     }
 
-    /// Ends the channel, with passes of its tasks in any order. The cost is their number.
-    pub fn close(self, collecting: CollectingPass, passes: ListOf<TaskPass>)
-        requires collecting { IsCollecting self collecting }
-        requires passes { All (IsPassOf self) passes.items }
-        ensures { All (IsReceivedOf (opening_of self) (received_by collecting)) passes.items }
+    /// Uses all passes up, those of the tasks in any order, and tells what was received of each. The cost is their
+    /// number.
+    pub fn close(&self, collecting: CollectingPass, passes: ListOf<TaskPass>)
+        requires collecting { IsCollecting self.now collecting }
+        requires passes { All (IsPassOf self.now) passes.items }
+        ensures { All (IsReceivedOf (opening_of self.now) (received_by collecting)) passes.items }
     {
         let mut collecting = collecting;
         self.take_all_back(&mut collecting, passes);

@@ -1,4 +1,6 @@
-use Rattle.std.proofs.Common.{◌≡◌, inl, inr, ◌⊎◌}
+use Rattle.std.proofs.Common.{◌≡◌, inl, inr, ◌⊎◌, refl}
+use Rattle.flow_defs.specs.Lines.{lines}
+use Rattle.job_cli.proofs.StoringLemmas.{none_stored, kept_still}
 use Rattle.std.proofs.lemmas.Result.{IfErr-weaker}
 use Rattle.outside.specs.Faults.{HasRisen}
 use Rattle.job_cli.specs.declared.fault.Fault.{Fault}
@@ -15,3 +17,9 @@ returns-clause-input g c = IfErr-weaker c.table_of_found-table.result
       | inl risen ↦ risen_still (g.F.Files.faults c.args.files.now) (g.F.Files.faults c.table_of_found-table.new.files) (g.F.Files.faults c.give_back.new.files) risen c.give_back.ensures.never_falls
       | inr faulty ↦ risen_since (g.F.Files.faults c.args.files.now) (g.F.Files.faults c.table_of_found-table.new.files) (g.F.Files.faults c.give_back.new.files) c.table_of_found-table.ensures.never_falls (c.give_back.ensures.rises faulty)
     ]) c.table_of_found-table.ensures.input
+
+pub returns-in_err-reserve-clause-chain : goal.returns-in_err-reserve-clause-chain
+returns-in_err-reserve-clause-chain g c = λ bytes tells. none_stored c.args.job.now (λ a. lines (bytes a)) c.args.options.every (g.K.Keeper.images c.args.keeper.now) (g.K.Keeper.images c.args.keeper.now) refl
+
+pub returns-in_err-reserve-clause-kept : goal.returns-in_err-reserve-clause-kept
+returns-in_err-reserve-clause-kept g c = kept_still (g.K.Keeper.images c.args.keeper.now) (g.K.Keeper.images c.args.keeper.now) refl

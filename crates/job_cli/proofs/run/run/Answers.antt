@@ -22,3 +22,11 @@ returns-clause-front g c = λ _.
     (λ text. IfSome (g.O.Sink.got c.args.out.now) (λ had. GotFront had text (g.O.Sink.got c.write_all.new.out)))
     (λ text is. subst (λ (t : List ℕ). IfSome (g.O.Sink.got c.args.out.now) (λ had. GotFront had t (g.O.Sink.got c.write_all.new.out))) (c.as_slice.ensures ∙ is) c.write_all.ensures.front)
     c.in_ok-text.ensures.done
+
+pub returns-in-Ok-clause-last : goal.returns-in-Ok-clause-last
+returns-in-Ok-clause-last g c = λ done options job bytes run tells.
+    let ends = c.in_ok-text.ensures.last options job bytes run tells in (
+      ends.0,
+      ends.1,
+      subst (λ (t : List ℕ). IfSome (g.O.Sink.got c.args.out.now) (λ had. g.O.Sink.got c.write_all.new.out ≡ Some (had ++ t))) (c.as_slice.ensures ∙ ends.2) c.in-Ok.ensures.told,
+    )

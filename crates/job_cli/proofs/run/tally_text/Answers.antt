@@ -1,4 +1,4 @@
-use Rattle.std.proofs.Common.{◌≡◌, ℕ, List, Option, None, ap, sym, subst, ◌∙◌, IfErr}
+use Rattle.std.proofs.Common.{◌≡◌, ℕ, List, Option, None, refl, ap, sym, subst, ◌∙◌, IfErr}
 use Rattle.std.proofs.lemmas.Result.{err_from_is_err_and}
 use Rattle.std.specs.Prelude.{⊤}
 use Rattle.flow_defs.specs.declared.job.Job.{Job}
@@ -9,12 +9,20 @@ use Rattle.stage_fns.specs.Kinds.{kinds}
 use Rattle.job_text.specs.JobText.{IsJobText}
 use Rattle.job_text.specs.JobFaults.{first_fault}
 use Rattle.job_text.specs.Words.{IsRun}
+use Rattle.flow_defs.specs.declared.image.Image.{Image}
+use Rattle.outside.specs.Faults.{HasRisen}
+use Rattle.outside.specs.Keepers.{KeptImage}
+use Rattle.job_outcome.specs.Storing.{HasKept}
+use Rattle.job_cli.specs.Causes.{status_of}
 use Rattle.job_cli.specs.declared.fault.Fault.{Fault}
 use Rattle.job_cli.specs.Held.{IsHeldFault}
-use Rattle.job_cli.specs.Sources.{IsRunFault}
+use Rattle.job_cli.specs.Sources.{TellsSources, IsRunFault}
 use Rattle.job_cli.specs.TextFaults.{IsSmallPoolFault}
-use Rattle.job_cli.specs.Run.{TellsSources, AreWithinLimits, IsFaultOf}
-use Rattle.job_cli.proofs.RunLemmas.{of_enough, of_pool, of_held, of_run}
+use Rattle.job_cli.specs.Run.{AreWithinLimits, IsFaultOf}
+use Rattle.job_cli.proofs.RunLemmas.{of_enough, of_pool, of_held, of_ready, of_run}
+use Rattle.job_cli.proofs.SourceLemmas.{risen_since}
+use Rattle.job_cli.proofs.StoringLemmas.{none_stored, kept_still}
+use Rattle.job_cli.proofs.TextJobs.{has_text, stored_of_ran, ends_of_ran}
 use Rattle.job_cli.proofs.run.tally_text.Goals as goal
 
 pub returns-clause-done : goal.returns-clause-done
@@ -70,9 +78,91 @@ returns-in_err-table-clause-fault g c =
     let options = c.args.options in
     let passed = err_from_is_err_and c.from_residual-in_err-table.result c.from_residual-in_err-table.ensures.1 in
     let same : c.in_err-table.field-0.0 ≡ passed.0 = (let gives = passed.2 in cc) in
-    let fault : IsRunFault job contents passed.0 = subst (IsRunFault job contents) same (subst (λ (f : List ℕ → Option (List ℕ)). IsRunFault job f c.in_err-table.field-0.0) c.read_job_text.ensures.same c.in_err-table.ensures.fault) in
+    let fault : IsRunFault job options.every contents passed.0 = subst (IsRunFault job options.every contents) same (subst (λ (f : List ℕ → Option (List ℕ)). IsRunFault job options.every f c.in_err-table.field-0.0) c.read_job_text.ensures.same c.in_err-table.ensures.fault) in
     subst (λ r. IfErr r (λ (f : Fault). (words : List (List ℕ)) → IsRun words c.args.name.now options → IsFaultOf words functions contents held f)) (sym passed.1)
     (λ words is_run. of_run words functions contents held c.args.name.now options is_run c.in_ok-text.text.items job passed.0 c.in_ok-refuse_held.ensures.none
-    (λ P. of_enough words functions contents held c.args.name.now options is_run c.in_ok-text.text.items job P
+    (λ P. of_ready words functions contents held c.args.name.now options is_run c.in_ok-text.text.items job P
     c.in_ok-text.ensures.told c.in_ok-text.ensures.fits (subst (λ text. first_fault functions text ≡ None) c.as_slice.ensures c.in_ok-job.ensures.clear) (subst (λ text. IsJobText functions text job) c.as_slice.ensures c.in_ok-job.ensures.job) c.in_ok-check_pool.ensures.enough)
     fault)
+
+-- ---- what the keeper got
+
+pub table_by_exchange-requires-clause-text : goal.table_by_exchange-requires-clause-text
+table_by_exchange-requires-clause-text g c = λ κs lives.
+    has_text (kinds c.args.functions.now) c.in_ok-text.text.items c.in_ok-job.job (subst (λ text. IsJobText (kinds c.args.functions.now) text c.in_ok-job.job) c.as_slice.ensures c.in_ok-job.ensures.job) c.in_ok-text.ensures.fits
+
+pub returns-in_err-text-clause-chain : goal.returns-in_err-text-clause-chain
+returns-in_err-text-clause-chain g c = λ text job bytes told is tells. none_stored job (λ a. lines (bytes a)) c.args.options.every (g.K.Keeper.images c.args.keeper.now) (g.K.Keeper.images c.args.keeper.now) refl
+
+pub returns-in_err-text-clause-kept : goal.returns-in_err-text-clause-kept
+returns-in_err-text-clause-kept g c = kept_still (g.K.Keeper.images c.args.keeper.now) (g.K.Keeper.images c.args.keeper.now) refl
+
+pub returns-in_err-job-clause-chain : goal.returns-in_err-job-clause-chain
+returns-in_err-job-clause-chain g c = λ text job bytes told is tells. none_stored job (λ a. lines (bytes a)) c.args.options.every (g.K.Keeper.images c.args.keeper.now) (g.K.Keeper.images c.args.keeper.now) refl
+
+pub returns-in_err-job-clause-kept : goal.returns-in_err-job-clause-kept
+returns-in_err-job-clause-kept g c = kept_still (g.K.Keeper.images c.args.keeper.now) (g.K.Keeper.images c.args.keeper.now) refl
+
+pub returns-in_err-check_pool-clause-chain : goal.returns-in_err-check_pool-clause-chain
+returns-in_err-check_pool-clause-chain g c = λ text job bytes told is tells. none_stored job (λ a. lines (bytes a)) c.args.options.every (g.K.Keeper.images c.args.keeper.now) (g.K.Keeper.images c.args.keeper.now) refl
+
+pub returns-in_err-check_pool-clause-kept : goal.returns-in_err-check_pool-clause-kept
+returns-in_err-check_pool-clause-kept g c = kept_still (g.K.Keeper.images c.args.keeper.now) (g.K.Keeper.images c.args.keeper.now) refl
+
+pub returns-in_err-refuse_held-clause-chain : goal.returns-in_err-refuse_held-clause-chain
+returns-in_err-refuse_held-clause-chain g c = λ text job bytes told is tells. none_stored job (λ a. lines (bytes a)) c.args.options.every (g.K.Keeper.images c.args.keeper.now) (g.K.Keeper.images c.refuse_held.new.keeper) c.refuse_held.ensures.same
+
+pub returns-in_err-refuse_held-clause-kept : goal.returns-in_err-refuse_held-clause-kept
+returns-in_err-refuse_held-clause-kept g c = kept_still (g.K.Keeper.images c.args.keeper.now) (g.K.Keeper.images c.refuse_held.new.keeper) c.refuse_held.ensures.same
+
+pub returns-in_err-table-clause-chain : goal.returns-in_err-table-clause-chain
+returns-in_err-table-clause-chain g c = λ text job bytes told is tells.
+    stored_of_ran c.job_texts_are_clear.ensures.tasks c.job_texts_are_clear.ensures.work c.job_texts_are_clear.ensures.files (kinds c.args.functions.now) (g.F.Files.contents c.args.files.now) c.args.name.now c.in_ok-text.text.items text c.in_ok-job.job job
+    c.in_ok-text.ensures.told told (subst (λ t. IsJobText (kinds c.args.functions.now) t c.in_ok-job.job) c.as_slice.ensures c.in_ok-job.ensures.job) is
+    bytes tells (g.F.Files.contents c.read_job_text.new.files) c.read_job_text.ensures.same
+    c.args.options.every (g.K.Keeper.images c.args.keeper.now) (g.K.Keeper.images c.refuse_held.new.keeper) (g.K.Keeper.images c.table_by_exchange.new.keeper) c.refuse_held.ensures.same
+    c.table_by_exchange.ensures.chain
+
+pub returns-in_err-table-clause-kept : goal.returns-in_err-table-clause-kept
+returns-in_err-table-clause-kept g c = subst (λ (o : Option (List KeptImage)). (images : List Image) × HasKept o (g.K.Keeper.images c.table_by_exchange.new.keeper) images) c.refuse_held.ensures.same c.table_by_exchange.ensures.kept
+
+pub returns-in_err-table_text-clause-chain : goal.returns-in_err-table_text-clause-chain
+returns-in_err-table_text-clause-chain g c = λ text job bytes told is tells.
+    stored_of_ran c.job_texts_are_clear.ensures.tasks c.job_texts_are_clear.ensures.work c.job_texts_are_clear.ensures.files (kinds c.args.functions.now) (g.F.Files.contents c.args.files.now) c.args.name.now c.in_ok-text.text.items text c.in_ok-job.job job
+    c.in_ok-text.ensures.told told (subst (λ t. IsJobText (kinds c.args.functions.now) t c.in_ok-job.job) c.as_slice.ensures c.in_ok-job.ensures.job) is
+    bytes tells (g.F.Files.contents c.read_job_text.new.files) c.read_job_text.ensures.same
+    c.args.options.every (g.K.Keeper.images c.args.keeper.now) (g.K.Keeper.images c.refuse_held.new.keeper) (g.K.Keeper.images c.table_by_exchange.new.keeper) c.refuse_held.ensures.same
+    c.table_by_exchange.ensures.chain
+
+pub returns-in_err-table_text-clause-kept : goal.returns-in_err-table_text-clause-kept
+returns-in_err-table_text-clause-kept g c = subst (λ (o : Option (List KeptImage)). (images : List Image) × HasKept o (g.K.Keeper.images c.table_by_exchange.new.keeper) images) c.refuse_held.ensures.same c.table_by_exchange.ensures.kept
+
+pub returns-clause-chain : goal.returns-clause-chain
+returns-clause-chain g c = λ text job bytes told is tells.
+    stored_of_ran c.job_texts_are_clear.ensures.tasks c.job_texts_are_clear.ensures.work c.job_texts_are_clear.ensures.files (kinds c.args.functions.now) (g.F.Files.contents c.args.files.now) c.args.name.now c.in_ok-text.text.items text c.in_ok-job.job job
+    c.in_ok-text.ensures.told told (subst (λ t. IsJobText (kinds c.args.functions.now) t c.in_ok-job.job) c.as_slice.ensures c.in_ok-job.ensures.job) is
+    bytes tells (g.F.Files.contents c.read_job_text.new.files) c.read_job_text.ensures.same
+    c.args.options.every (g.K.Keeper.images c.args.keeper.now) (g.K.Keeper.images c.refuse_held.new.keeper) (g.K.Keeper.images c.table_by_exchange.new.keeper) c.refuse_held.ensures.same
+    c.table_by_exchange.ensures.chain
+
+pub returns-clause-kept : goal.returns-clause-kept
+returns-clause-kept g c = subst (λ (o : Option (List KeptImage)). (images : List Image) × HasKept o (g.K.Keeper.images c.table_by_exchange.new.keeper) images) c.refuse_held.ensures.same c.table_by_exchange.ensures.kept
+
+pub returns-clause-last : goal.returns-clause-last
+returns-clause-last g c = λ text job bytes told is tells. (
+  c.in_ok-table.table,
+  ends_of_ran c.job_texts_are_clear.ensures.tasks c.job_texts_are_clear.ensures.work c.job_texts_are_clear.ensures.files (kinds c.args.functions.now) (g.F.Files.contents c.args.files.now) c.args.name.now c.in_ok-text.text.items text c.in_ok-job.job job
+      c.in_ok-text.ensures.told told (subst (λ t. IsJobText (kinds c.args.functions.now) t c.in_ok-job.job) c.as_slice.ensures c.in_ok-job.ensures.job) is
+      bytes tells (g.F.Files.contents c.read_job_text.new.files) c.read_job_text.ensures.same
+      c.args.options.every (g.K.Keeper.images c.args.keeper.now) (g.K.Keeper.images c.refuse_held.new.keeper) (g.K.Keeper.images c.table_by_exchange.new.keeper) c.refuse_held.ensures.same
+      c.in_ok-table.table c.in_ok-table.ensures.last,
+  c.in_ok-table_text.ensures,
+)
+
+pub returns-in_err-table-clause-keeper : goal.returns-in_err-table-clause-keeper
+returns-in_err-table-clause-keeper g c =
+    let passed = err_from_is_err_and c.from_residual-in_err-table.result c.from_residual-in_err-table.ensures.1 in
+    let same : c.in_err-table.field-0.0 ≡ passed.0 = (let gives = passed.2 in cc) in
+    let risen : status_of passed.0 ≡ 5 → HasRisen (g.K.Keeper.faults c.args.keeper.now) (g.K.Keeper.faults c.table_by_exchange.new.keeper) =
+    λ five. risen_since (g.K.Keeper.faults c.args.keeper.now) (g.K.Keeper.faults c.refuse_held.new.keeper) (g.K.Keeper.faults c.table_by_exchange.new.keeper) c.refuse_held.ensures.never_falls (c.in_err-table.ensures.keeper (ap status_of same ∙ five)) in
+    subst (λ r. IfErr r (λ (f : Fault). status_of f ≡ 5 → HasRisen (g.K.Keeper.faults c.args.keeper.now) (g.K.Keeper.faults c.table_by_exchange.new.keeper))) (sym passed.1) risen

@@ -1,7 +1,10 @@
 use Rattle.std.proofs.Common.{◌≡◌, ◌++◌, [], ◌∷◌, Contains, Some, IfSome, refl, sym, subst, inr, ◌∙◌}
 use Rattle.outside.specs.Faults.{HasRisen}
+use Rattle.flow_defs.specs.Lines.{lines}
 use Rattle.stage_fns.specs.Kinds.{kinds}
-use Rattle.job_cli.proofs.TopLemmas.{known_status, no_link, told_over, no_command, no_job, passes_limit, text_refused, job_refused, source_refused, not_done, pool_refused, pool_not_done, completes, script_refused, over_refused, over_not_done, bad_not_done, script_completes, gen_completes, hindered, held_refused, held_not_done, inspect_refused, none_not_done, inspect_completes}
+use Rattle.job_cli.proofs.TopLemmas.{known_status, no_link, not_zero, told_over, no_command, no_job, passes_limit, text_refused, job_refused, source_refused, not_done, pool_refused, pool_not_done, completes, script_refused, over_refused, over_not_done, bad_not_done, script_completes, gen_completes, self_completes, hindered, held_refused, held_not_done, inspect_refused, none_not_done, inspect_completes}
+use Rattle.job_cli.proofs.StoringLemmas.{large_too}
+use Rattle.job_cli.proofs.TextJobs.{one_work}
 use Rattle.job_cli.proofs.top.top.Goals as goal
 
 pub returns-in-Ok-clause-source_refused : goal.returns-in-Ok-clause-source_refused
@@ -10,7 +13,7 @@ returns-in-Ok-clause-source_refused g c = λ options job bytes a run sources ins
     (λ text. IfSome (g.O.Sink.got c.args.out.now) (λ had. g.O.Sink.got c.run.new.out ≡ Some (had ++ text))) a inside over (c.in-Ok.ensures.done refl))
 
 pub returns-in-Err-clause-text : goal.returns-in-Err-clause-text
-returns-in-Err-clause-text g c = λ three. no_job c.args.words.now.items (kinds c.args.functions.now) (g.F.Files.contents c.args.files.now) (g.K.Keeper.images c.args.keeper.now) c.in-Err.fault (sym c.status.ensures ∙ three) c.in-Err.ensures.fault
+returns-in-Err-clause-text g c = λ three. no_job c.args.words.now.items (kinds c.args.functions.now) (g.F.Files.contents c.args.files.now) (g.K.Keeper.images c.args.keeper.now) c.job_texts_are_clear.ensures.no_fault c.in-Err.fault (sym c.status.ensures ∙ three) c.in-Err.ensures.fault
 
 pub returns-in-Err-clause-text_refused : goal.returns-in-Err-clause-text_refused
 returns-in-Err-clause-text_refused g c = λ options text tells no.
@@ -29,9 +32,11 @@ returns-in-Err-clause-source_refused g c = λ options job bytes a run sources in
     (source_refused c.args.words.now.items (kinds c.args.functions.now) (g.F.Files.contents c.args.files.now) (g.K.Keeper.images c.args.keeper.now) c.words_are_clear.ensures.no_fault c.words_are_clear.ensures.one options job run c.job_texts_are_clear.ensures.no_fault c.job_texts_are_clear.ensures.files bytes sources a inside over c.in-Err.fault c.in-Err.ensures.fault)
 
 pub returns-in-Err-clause-complete : goal.returns-in-Err-clause-complete
-returns-in-Err-clause-complete g c = λ options job bytes run sources enough within empty no_input no_keeper no_output.
+returns-in-Err-clause-complete g c = λ options job bytes run sources enough within small empty no_input no_keeper no_output.
     subst (Contains (0 ∷ 11 ∷ 12 ∷ 70 ∷ [])) (sym c.status.ensures)
-    (completes c.args.words.now.items (kinds c.args.functions.now) (g.F.Files.contents c.args.files.now) (g.K.Keeper.images c.args.keeper.now) c.words_are_clear.ensures.no_fault c.words_are_clear.ensures.one options job run c.job_texts_are_clear.ensures.no_fault c.job_texts_are_clear.ensures.files bytes sources enough within empty c.in-Err.fault
+    (completes c.args.words.now.items (kinds c.args.functions.now) (g.F.Files.contents c.args.files.now) (g.K.Keeper.images c.args.keeper.now) c.words_are_clear.ensures.no_fault c.words_are_clear.ensures.one options job run c.job_texts_are_clear.ensures.no_fault c.job_texts_are_clear.ensures.files bytes sources enough within
+    (λ other is large. small (large_too other job (one_work c.job_texts_are_clear.ensures.tasks c.job_texts_are_clear.ensures.work (kinds c.args.functions.now) run.text other job is run.is_job) (λ a. lines (bytes a)) options.every large))
+    empty c.in-Err.fault
     (λ four. no_input (c.in-Err.ensures.input four)) (λ five. no_keeper (c.in-Err.ensures.keeper five)) (λ seven. no_output (c.in-Err.ensures.output seven)) c.in-Err.ensures.fault)
 
 pub returns-in-Err-clause-known : goal.returns-in-Err-clause-known
@@ -125,3 +130,16 @@ returns-in-Err-clause-complete_inspect g c = λ kept image inspect tells is_kept
     subst (Contains (0 ∷ 70 ∷ [])) (sym c.status.ensures)
     (inspect_completes c.args.words.now.items (kinds c.args.functions.now) (g.F.Files.contents c.args.files.now) (g.K.Keeper.images c.args.keeper.now) c.words_are_clear.ensures.no_fault c.words_are_clear.ensures.one tells.0 inspect tells.1 kept image tells.2 is_kept c.in-Err.fault
     (λ five. no_keeper (c.in-Err.ensures.keeper five)) (λ seven. no_output (c.in-Err.ensures.output seven)) c.in-Err.ensures.fault)
+
+pub returns-in-Ok-clause-last : goal.returns-in-Ok-clause-last
+returns-in-Ok-clause-last g c = λ zero. c.in-Ok.ensures.last refl
+
+pub returns-in-Err-clause-last : goal.returns-in-Err-clause-last
+returns-in-Err-clause-last g c = λ zero.
+    absurd (not_zero c.args.words.now.items (kinds c.args.functions.now) (g.F.Files.contents c.args.files.now) (g.K.Keeper.images c.args.keeper.now) c.in-Err.fault (sym c.status.ensures ∙ zero))
+
+pub returns-in-Err-clause-complete_selfrun : goal.returns-in-Err-clause-complete_selfrun
+returns-in-Err-clause-complete_selfrun g c = λ lines seed self has no_output.
+    subst (Contains (0 ∷ 11 ∷ 12 ∷ 70 ∷ [])) (sym c.status.ensures)
+    (self_completes c.args.words.now.items (kinds c.args.functions.now) (g.F.Files.contents c.args.files.now) (g.K.Keeper.images c.args.keeper.now) c.words_are_clear.ensures.no_fault c.words_are_clear.ensures.one lines seed self c.job_texts_are_clear.ensures.no_fault has c.in-Err.fault
+    (λ seven. no_output (c.in-Err.ensures.output seven)) c.in-Err.ensures.fault)

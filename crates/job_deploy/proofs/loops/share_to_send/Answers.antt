@@ -6,6 +6,6 @@ use Rattle.job_deploy.proofs.loops.share_to_send.Goals as goal
 
 pub returns-clause-may : goal.returns-clause-may
 returns-clause-may c =
-    let passes : SharePasses = record { readers = Some c.args.writer; subpartitions = c.args.takers; inputs = c.new.result; pools = c.args.pools; stop = c.next-stop.result } in
+    let passes : SharePasses = record { readers = Some c.args.writer; subpartitions = c.args.takers; inputs = c.new.result; pools = c.args.pools; stop = c.next_stop-stop.result } in
     let share = c.sending_share in
-    may_send c.args.size c.args.edge.now c.next-stop.new.self.cell.now share.result passes c.requires.edge share.ensures.over share.ensures.passes c.next-stop.ensures.pass.0 c.args.writer refl c.requires.writer c.requires.takers share.ensures.pools c.requires.pools
+    may_send c.args.size c.args.edge.now c.next_stop-stop.new.self.stop.now share.result passes c.requires.edge share.ensures.over share.ensures.passes c.next_stop-stop.ensures.pass.0 c.args.writer refl c.requires.writer c.requires.takers share.ensures.pools c.requires.pools

@@ -1,14 +1,22 @@
 use Rattle.std.proofs.Common.{refl, ◌∙◌}
-use Rattle.job_deploy.proofs.Rows.{fewer_more}
+use Rattle.job_deploy.proofs.Taking.{fewer_more, theirs_more}
 use Rattle.job_deploy.proofs.loops.shares_of.Goals as goal
 
 pub returns-clause-stops : goal.returns-clause-stops
 returns-clause-stops g c =
-    fewer_more 3 1 4 c.args.stops.now c.share_to_receive-items.new.stops c.share_to_announce-announce.new.stops refl
-    (fewer_more 2 1 3 c.args.stops.now c.share_to_grant-control.new.stops c.share_to_receive-items.new.stops refl
-    (fewer_more 1 1 2 c.args.stops.now c.share_to_send-send.new.stops c.share_to_grant-control.new.stops refl c.share_to_send-send.ensures.stops c.share_to_grant-control.ensures.stops)
+    fewer_more 3 1 4 c.args.shared.now c.share_to_receive-items.new.shared c.share_to_announce-announce.new.shared refl
+    (fewer_more 2 1 3 c.args.shared.now c.share_to_grant-control.new.shared c.share_to_receive-items.new.shared refl
+    (fewer_more 1 1 2 c.args.shared.now c.share_to_send-send.new.shared c.share_to_grant-control.new.shared refl c.share_to_send-send.ensures.stops c.share_to_grant-control.ensures.stops)
     c.share_to_receive-items.ensures.stops)
     c.share_to_announce-announce.ensures.stops
+
+pub returns-clause-theirs : goal.returns-clause-theirs
+returns-clause-theirs g c =
+    theirs_more c.args.shared.now c.share_to_receive-items.new.shared c.share_to_announce-announce.new.shared
+    (theirs_more c.args.shared.now c.share_to_grant-control.new.shared c.share_to_receive-items.new.shared
+    (theirs_more c.args.shared.now c.share_to_send-send.new.shared c.share_to_grant-control.new.shared c.share_to_send-send.ensures.theirs c.share_to_grant-control.ensures.theirs)
+    c.share_to_receive-items.ensures.theirs)
+    c.share_to_announce-announce.ensures.theirs
 
 pub returns-clause-shares : goal.returns-clause-shares
 returns-clause-shares g c = record {

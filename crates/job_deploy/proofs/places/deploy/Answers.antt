@@ -16,7 +16,7 @@ source_row-sources-requires-clause-few g c = let few = (c.requires.is_job.counts
 pub returns-clause-deployed : goal.returns-clause-deployed
 returns-clause-deployed g c =
     let all = c.in_ok-prepared.ensures in let p = c.in_ok-prepared.prepared in
-    deployed_is c.args.job.now c.args.edges.now c.args.size c.args.inputs.now.items c.args.wires.now.items p.lents.items p.rows.items c.with_sources.result.items c.source_row-sources.result p.shares.items c.loop_rows.result.items
+    deployed_is c.args.job.now c.args.size c.args.shared.every c.args.shared.snapshots.now c.args.edges.now c.args.inputs.now.items c.args.wires.now.items p.lents.items p.rows.items c.with_sources.result.items c.source_row-sources.result p.shares.items c.loop_rows.result.items
     c.requires.edges c.requires.inputs c.requires.wires all.lents c.source_row-sources.ensures.row all.rows_many all.rows c.with_sources.ensures all.shares c.loop_rows.ensures.rows
 
 pub loop_rows-requires-clause-shares : goal.loop_rows-requires-clause-shares
@@ -29,9 +29,6 @@ loop_rows-requires-clause-empty g c = λ k d low.
 
 pub loop_rows-requires-clause-rows : goal.loop_rows-requires-clause-rows
 loop_rows-requires-clause-rows g c = let l = c.in_ok-prepared.ensures.loops in (l.0, (let r = l.1 in let n = c.requires.wires in omega (arith, r, n)))
-
-pub prepare-requires-clause-stops : goal.prepare-requires-clause-stops
-prepare-requires-clause-stops g c = (c.requires.stops.1, c.requires.stops.0)
 
 pub with_sources-requires : goal.with_sources-requires
 with_sources-requires g c = let r = c.in_ok-prepared.ensures.rows_room in omega (arith, r)

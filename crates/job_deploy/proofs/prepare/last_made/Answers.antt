@@ -4,7 +4,7 @@ use Rattle.flow_defs.specs.Jobs.{last_edge, tasks}
 use Rattle.job_deploy.specs.Making.{AreSharesAt}
 use Rattle.job_deploy.proofs.Edges.{wired}
 use Rattle.job_deploy.proofs.Orders.{turned_none}
-use Rattle.job_deploy.proofs.Rows.{fewer_more}
+use Rattle.job_deploy.proofs.Taking.{fewer_more, tasks_kept}
 use Rattle.job_deploy.proofs.Workers.{first_row, share_more}
 use Rattle.job_deploy.proofs.prepare.last_made.Goals as goal
 
@@ -49,12 +49,15 @@ returns-clause-made g c =
       senders = record { edge = edge; stands = stands; are = ends.senders };
       senders_all = ends.senders_all;
       rows_many = (let l = ap length one in omega (arith, l));
-      rows = first_row job edges c.push.new.self.items row one c.in_ok-row.ensures.row;
+      rows = first_row job c.args.size c.args.shared.now.every c.args.shared.now.snapshots.now edges c.push.new.self.items row one c.in_ok-row.ensures.row;
       shares_many = (let l = ap length two in omega (arith, l));
-      shares = share_more job edges last [] c.push-2.new.self.items share (omega arith) two (turned_none (AreSharesAt job edges) (suc last) [] refl) (record { edge = edge; stands = stands; are = c.in_ok-share.ensures.shares });
+      shares = share_more edges (suc last) last [] c.push-2.new.self.items share (omega arith) two (turned_none (AreSharesAt edges) (suc last) [] refl) (record { edge = edge; stands = stands; are = c.in_ok-share.ensures.shares });
     }
 
 pub returns-clause-stops : goal.returns-clause-stops
 returns-clause-stops g c =
     let n = 2 * tasks c.args.job.now (suc (last_edge c.args.job.now)) in
-    fewer_more n 4 (n + 4) c.args.stops.now c.aggregate_row.new.stops c.shares_of.new.stops refl c.in_ok-row.ensures.stops c.in_ok-share.ensures.stops
+    fewer_more n 4 (n + 4) c.args.shared.now c.aggregate_row.new.shared c.shares_of.new.shared refl c.in_ok-row.ensures.stops c.in_ok-share.ensures.stops
+
+pub returns-clause-theirs : goal.returns-clause-theirs
+returns-clause-theirs g c = tasks_kept c.args.job.now _ c.aggregate_row.new.shared c.shares_of.new.shared c.in_ok-share.ensures.stops.stayed c.in_ok-share.ensures.theirs c.in_ok-row.ensures.theirs

@@ -1,7 +1,10 @@
 use Rattle.std.proofs.Common.{◌≡◌, suc, length, refl, ap, subst, arith}
 use Rattle.flow_defs.specs.Jobs.{last_edge}
 use Rattle.job_workers.specs.Tasks.{IsGateBehind}
-use Rattle.job_deploy.proofs.Rows.{aggregate_at, fewer_more, gate_at, takers_here, takers_there}
+use Rattle.job_deploy.specs.Deployed.{IsLentOf}
+use Rattle.job_deploy.specs.Placing.{HasFirst}
+use Rattle.job_deploy.proofs.Rows.{aggregate_at, gate_at, takers_here, takers_there}
+use Rattle.job_deploy.proofs.Taking.{as_before, fewer_more, first_left, may_checkpoint, some_left, tasks_kept}
 use Rattle.job_deploy.proofs.tasks.aggregate_task.Goals as goal
 
 pub next-requires-clause-edge : goal.next-requires-clause-edge
@@ -17,19 +20,40 @@ returns-clause-takers c = (
   c.next.ensures.fewer,
 )
 
+pub lend-lent-requires-clause-snapshot_passes : goal.lend-lent-requires-clause-snapshot_passes
+lend-lent-requires-clause-snapshot_passes c =
+    let job = c.args.job.now in let n = length c.args.takers.now.own.items in let taken = c.next.ensures in
+    (some_left job (suc (last_edge job)) n c.next.new.shared c.requires.takers.1 (tasks_kept job _ c.args.shared.now c.next.new.shared taken.stops.stayed taken.theirs c.requires.theirs)).0
+
+pub lend-lent-requires-clause-last_passes : goal.lend-lent-requires-clause-last_passes
+lend-lent-requires-clause-last_passes c =
+    let job = c.args.job.now in let n = length c.args.takers.now.own.items in let taken = c.next.ensures in
+    (some_left job (suc (last_edge job)) n c.next.new.shared c.requires.takers.1 (tasks_kept job _ c.args.shared.now c.next.new.shared taken.stops.stayed taken.theirs c.requires.theirs)).1
+
 pub returns-clause-stops : goal.returns-clause-stops
-returns-clause-stops c = fewer_more 1 1 2 c.args.stops.now c.next.new.stops c.next-stop_pass.new.self refl c.next.ensures.stops c.next-stop_pass.ensures.fewer
+returns-clause-stops c = fewer_more 1 1 2 c.args.shared.now c.next.new.shared c.lend-lent.new.self refl c.next.ensures.stops c.lend-lent.ensures.stops
+
+pub returns-clause-theirs : goal.returns-clause-theirs
+returns-clause-theirs c =
+    let job = c.args.job.now in let i = suc (last_edge job) in let b = length c.next.new.self.own.items in let taken = c.next.ensures in let between = c.next.new.shared in
+    let has = tasks_kept job _ c.args.shared.now between taken.stops.stayed taken.theirs c.requires.theirs in
+    first_left job i b between c.lend-lent.new.self c.lend-lent.result c.lend-lent.ensures.stops.stayed c.lend-lent.ensures.taken
+    (subst (λ n. HasFirst job i n between) taken.fewer has)
 
 pub returns-clause-task : goal.returns-clause-task
 returns-clause-task c =
-    let job = c.args.job.now in let edges = c.args.edges.now in let b = length c.next.new.self.own.items in
+    let job = c.args.job.now in let edges = c.args.edges.now in let size = c.args.size in let b = length c.next.new.self.own.items in
+    let lent = c.lend-lent.result in let taken = c.next.ensures in
+    let first = c.args.shared.now in let between = c.next.new.shared in let every = first.every in let snapshots = first.snapshots.now in
+    let has = tasks_kept job _ first between taken.stops.stayed taken.theirs c.requires.theirs in
     let last : length c.as_slice-last.result.now ≡ last_edge job = ap length c.as_slice-last.ensures in
-    aggregate_at job edges b _ (ap length c.as_slice.ensures)
+    aggregate_at job size every snapshots edges b _ (ap length c.as_slice.ensures)
     (let m = c.requires.takers.0.are.many in let f = c.next.ensures.fewer in omega (arith, m, f))
-    (gate_at job edges (last_edge job) (length c.as_slice-last.result.now) c.item_at-edge.result.now last c.item_at-edge.ensures b _ c.in_ok-gate.ensures.cells)
+    (gate_at job edges (last_edge job) (length c.as_slice-last.result.now) c.item_at-edge.result.now last c.item_at-edge.ensures size every snapshots b _ c.in_ok-gate.ensures.cells)
     (subst (λ e. IsGateBehind job e c.in_ok-gate.gate) last c.in_ok-gate.ensures.gate)
-    refl
-    c.next-stop_pass.ensures.pass
+    (as_before (λ every snapshots. IsLentOf job size every snapshots edges lent) first between taken.stops.stayed (record { every_is = c.lend-lent.ensures.taken.every_is; channel = c.lend-lent.ensures.taken.channel }))
+    (may_checkpoint job (suc (last_edge job)) b between c.lend-lent.new.self lent c.lend-lent.ensures.stops.stayed c.lend-lent.ensures.taken
+    (subst (λ n. HasFirst job (suc (last_edge job)) n between) taken.fewer has))
 
 pub overflow_cast-result : goal.overflow_cast-result
 overflow_cast-result c =

@@ -4,13 +4,13 @@ use Rattle.std.proofs.lemmas.Bool.{cases_lt}
 use Rattle.std.proofs.lemmas.List.{length-set}
 use Rattle.conn_parts.proofs.Lists.{get_is, get_set_else}
 use Rattle.flow_defs.specs.Jobs.{last_edge}
-use Rattle.job_laws.specs.Ends.{EdgeCarries}
+use Rattle.job_ends.specs.Edges.{EdgeCarries}
 use Rattle.job_ends.specs.Ended.{gate_at, own_at}
 use Rattle.job_ends.specs.Returning.{RowsCameBack}
 use Rattle.job_ends.proofs.Returns.{none_came_back, one_more_came_back}
 use Rattle.job_ends.proofs.Loops.{place_low}
 use Rattle.job_ends.proofs.Rows.{one_there, read_there, rows_nothing}
-use Rattle.job_ends.proofs.Endings.{carried, edge_low, has_edge, loops_at, risen_before, risen_later, rows_settled, rows_step}
+use Rattle.job_ends.proofs.Endings.{carried, edge_low, has_edge, loops_at, risen_before, risen_later, rows_settled, rows_step, snapshots_stay}
 use Rattle.job_ends.proofs.edges.settle_edges.Goals as goal
 
 pub loop-number-init : goal.loop-number-init
@@ -92,6 +92,9 @@ returns-clause-carry g c = λ tell e low. c.loop-number.invariant.carry tell e (
 
 pub returns-clause-rest : goal.returns-clause-rest
 returns-clause-rest g c = rows_settled c.args.rows.now c.loop-number.rows (λ s. c.loop-number.number ≤ s) (λ s. c.loop-number.number < s) c.loop-number.invariant.rows
+
+pub returns-clause-snapshots : goal.returns-clause-snapshots
+returns-clause-snapshots g c = snapshots_stay c.args.rows.now c.loop-number.rows (λ s. c.loop-number.number ≤ s) (λ s. c.loop-number.number < s) c.loop-number.invariant.rows
 
 pub returns-clause-lent : goal.returns-clause-lent
 returns-clause-lent g c = let many = c.requires.ended.1.edges_are.many in let lent = c.loop-number.invariant.lent in omega (arith, many, lent)

@@ -1,7 +1,7 @@
 use Rattle.std.proofs.Common.{◌≡◌, ◌+◌, ◌<◌, ◌≤◌, length, ℕ, Some}
 use Rattle.std.specs.Prelude.{slice_get}
 use Rattle.outside.specs.Faults.{HasRisen}
-use Rattle.job_laws.specs.Ends.{EdgeCarries}
+use Rattle.job_ends.specs.Edges.{EdgeCarries}
 use Rattle.job_ends.specs.Ended.{LinksTell, faults_in, gate_at, own_at}
 use Rattle.job_ends.specs.Leaving.{RowsGoOn}
 use Rattle.job_ends.specs.Returning.{RowsCameBack}

@@ -3,9 +3,8 @@ use Rattle.std.specs.Prelude.{slice_get}
 use Rattle.std.proofs.lemmas.List.{length-set}
 use Rattle.flow_defs.specs.Items.{Items}
 use Rattle.conn_parts.proofs.Lists.{get_set_else}
-use Rattle.job_ends.proofs.Rows.{read_there}
 use Rattle.job_run.specs.Runs.{input_in}
-use Rattle.job_run.proofs.ListLaws.{given_more, given_none}
+use Rattle.job_run.proofs.ListLaws.{given_more, given_none, read_there}
 use Rattle.job_run.proofs.inputs.take_inputs.Goals.{in-Some+in-Ok, in_default}
 use Rattle.job_run.proofs.inputs.take_inputs.Goals as goal
 

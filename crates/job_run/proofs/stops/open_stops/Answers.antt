@@ -1,17 +1,22 @@
 use Rattle.std.proofs.Common.{arith, length, ap, ◌∙◌}
 use Rattle.std.proofs.lemmas.List.{length_push}
-use Rattle.job_run.proofs.StopLaws.{rest_told_nothing, last_is}
+use Rattle.job_run.proofs.PassLaws.{rest_told_nothing, other_told_nothing, last_is}
 use Rattle.job_run.proofs.stops.open_stops.Goals as goal
 
 pub returns : goal.returns
 returns c =
-    let is = c.in-Some.ensures.items in
+    let front = c.pop.new.self.items in
+    let rest = c.pop-2.new.self.items in
+    let front_is = c.in-Some.ensures.items in
+    let rest_is = c.in-Some-pop.ensures.items in
     let made = c.in-Ok.ensures.made in
     let needed = c.stops_needed-passes.ensures.is in
-    let many = ap length is ∙ length_push c.pop.new.self.items c.in-Some.own in
+    let many_front = ap length front_is ∙ length_push front c.in-Some.own in
+    let many_rest = ap length rest_is ∙ length_push rest c.in-Some-pop.collecting in
     let all = made.1 in
     record {
-      enough = omega (arith, many, all, needed);
-      each = rest_told_nothing c.in-Ok.cell c.in-Ok.workers.items c.pop.new.self.items c.in-Some.own is made.0;
-      own = last_is c.in-Ok.cell c.in-Ok.workers.items c.pop.new.self.items c.in-Some.own is made.0;
+      enough = omega (arith, many_front, many_rest, all, needed);
+      each = rest_told_nothing c.in-Ok.cell c.in-Ok.workers.items made.0 front rest c.in-Some.own c.in-Some-pop.collecting front_is rest_is;
+      collecting = other_told_nothing c.in-Ok.cell c.in-Ok.workers.items made.0 front rest c.in-Some.own c.in-Some-pop.collecting front_is rest_is;
+      own = last_is c.in-Ok.cell c.in-Ok.workers.items made.0 front rest c.in-Some.own c.in-Some-pop.collecting front_is rest_is;
     }

@@ -1,5 +1,6 @@
 use Rattle.job_text.proofs.TaskLemmas.{says_tasks}
 use Rattle.job_text.proofs.ShapeLemmas.{says_shape}
+use Rattle.job_text.proofs.WorkLemmas.{says_work}
 use Rattle.job_text.proofs.FileLemmas.{names_its_files}
 use Rattle.job_text.proofs.Law.{accepted}
 use Rattle.job_text.proofs.laws.job_texts_are_clear.Goals as goal
@@ -15,3 +16,6 @@ returns-clause-tasks c = says_tasks
 
 pub returns-clause-shape : goal.returns-clause-shape
 returns-clause-shape c = says_shape
+
+pub returns-clause-work : goal.returns-clause-work
+returns-clause-work c = says_work

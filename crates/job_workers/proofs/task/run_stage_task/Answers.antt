@@ -1,23 +1,23 @@
-use Rattle.std.proofs.Common.{subst, ap, suc, ◌∙◌, Option}
-use Rattle.flow_defs.specs.declared.job.Job.{Job}
-use Rattle.record_writer.specs.declared.partition.Partition.{Partition}
+-- What it leaves are the passes of its gate and what the task handed back.
+use Rattle.std.proofs.Common.{refl, ◌∙◌}
+use Rattle.turn_cell.specs.Passes.{seen}
 use Rattle.input_gate.specs.States.{account_in}
-use Rattle.input_gate.specs.declared.passes.GateEnds.{GateEnds}
-use Rattle.task_run.specs.Tasks.{HandsBack, StageAccount, passes_in, size_in}
-use Rattle.job_workers.proofs.Left.{left_by_stage}
+use Rattle.job_workers.proofs.Left.{gate_passes, tells_given}
 use Rattle.job_workers.proofs.task.run_stage_task.Goals as goal
 
 pub returns : goal.returns
 returns g c =
-    let end = c.run_stage-end in
-    let world = c.world_of-world in
-    let left = c.left_of.ensures in
-    let task = c.args.task in
-    left_by_stage c.args.job.now task c.left_of.result end.result.gate end.result.passes.partition end.result.takes.items (size_in world.result.partition) end.result.emitted end.result.cause
-    left.input left.gate left.partition left.cause
-    (subst (λ (j : Job). HandsBack j (suc task.edge) task.lent.partition end.result.passes.partition) world.ensures.job.0
-    (subst (λ (p : Option Partition). HandsBack world.result.job.now (suc task.edge) p end.result.passes.partition) world.ensures.partition end.ensures.passes))
-    (ap (λ (ends : GateEnds). ends.cells) end.ensures.gate.0)
-    (end.ensures.gate.1 ∙ c.requires.may.gate.1)
-    (subst (λ (j : Job). StageAccount j task.edge task.index (size_in world.result.partition) (account_in end.result.gate) (passes_in end.result.passes.partition) end.result.takes.items end.result.emitted end.result.cause) world.ensures.job.0 end.ensures.account)
-    c.done_tasks_did_all.ensures.stage
+    let end = c.run_stage-gate.result in
+    let did = c.run_stage-gate.ensures in
+    let passes = c.into_passes.result in
+    let given = c.into_passes.ensures.cells in record {
+      no_input = refl;
+      gate = gate_passes c.args.task.gate end.gate passes did.gate.0 given.1;
+      partition = record { passes = end.partition; are_there = refl; are_of = did.partition };
+      snapshots = record { pass = end.snapshot_pass; is_there = refl; of_channel = did.snapshots.0; task = did.snapshots.1 ∙ c.requires.may.may.task };
+      given = account_in end.gate;
+      tells = tells_given end.gate passes given.0;
+      history = seen end.last_pass;
+      takes = end.takes.items;
+      account = did.account;
+    }

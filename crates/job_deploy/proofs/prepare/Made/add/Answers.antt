@@ -1,11 +1,11 @@
 use Rattle.std.proofs.Common.{◌≡◌, ◌+◌, ◌*◌, suc, length, refl, sym, ap, subst, ◌∙◌, arith}
 use Rattle.std.proofs.lemmas.List.{length_push}
-use Rattle.flow_defs.specs.Jobs.{tasks}
+use Rattle.flow_defs.specs.Jobs.{last_edge, tasks}
 use Rattle.job_deploy.specs.declared.senders.Senders.{Senders}
 use Rattle.job_deploy.specs.Lending.{AreSendersAt}
 use Rattle.job_deploy.specs.Placing.{AreSenders}
 use Rattle.job_deploy.proofs.Edges.{wired}
-use Rattle.job_deploy.proofs.Rows.{fewer_more}
+use Rattle.job_deploy.proofs.Taking.{fewer_more, tasks_kept}
 use Rattle.job_deploy.proofs.Workers.{row_more, share_more}
 use Rattle.job_deploy.proofs.prepare.Made.add.Goals as goal
 
@@ -44,12 +44,15 @@ returns-clause-made g c =
       senders = record { edge = edge; stands = stands; are = subst (λ (s : Senders). AreSenders job e edge s) (sym c.replace-next.ensures.after) ends.senders };
       senders_all = ap (λ (s : Senders). length s.own.items) c.replace-next.ensures.after ∙ ends.senders_all;
       rows_many = (let l = ap length c.in_ok-push.ensures.ok ∙ length_push old.rows.items row in let m = before.rows_many in omega (arith, l, m));
-      rows = row_more job edges e old.rows.items c.push.new.self.items row c.requires.is_job.1 before.rows_many c.in_ok-push.ensures.ok before.rows c.in_ok-row.ensures.row;
+      rows = row_more job c.args.size c.args.shared.now.every c.args.shared.now.snapshots.now edges e old.rows.items c.push.new.self.items row c.requires.is_job.1 before.rows_many c.in_ok-push.ensures.ok before.rows c.in_ok-row.ensures.row;
       shares_many = (let l = ap length c.in_ok-push-2.ensures.ok ∙ length_push old.shares.items share in let m = before.shares_many in omega (arith, l, m));
-      shares = share_more job edges e old.shares.items c.push-2.new.self.items share before.shares_many c.in_ok-push-2.ensures.ok before.shares (record { edge = edge; stands = stands; are = c.in_ok-share.ensures.shares });
+      shares = share_more edges (suc (last_edge job)) e old.shares.items c.push-2.new.self.items share before.shares_many c.in_ok-push-2.ensures.ok before.shares (record { edge = edge; stands = stands; are = c.in_ok-share.ensures.shares });
     }
 
 pub returns-clause-stops : goal.returns-clause-stops
 returns-clause-stops g c =
     let n = 2 * tasks c.args.job.now (suc c.args.e) in
-    fewer_more n 4 (n + 4) c.args.stops.now c.stage_row.new.stops c.shares_of.new.stops refl c.in_ok-row.ensures.stops c.in_ok-share.ensures.stops
+    fewer_more n 4 (n + 4) c.args.shared.now c.stage_row.new.shared c.shares_of.new.shared refl c.in_ok-row.ensures.stops c.in_ok-share.ensures.stops
+
+pub returns-clause-theirs : goal.returns-clause-theirs
+returns-clause-theirs g c = tasks_kept c.args.job.now _ c.stage_row.new.shared c.shares_of.new.shared c.in_ok-share.ensures.stops.stayed c.in_ok-share.ensures.theirs c.in_ok-row.ensures.theirs

@@ -20,8 +20,8 @@ returns-clause-fewer c =
     let after : Senders = record { own = c.take_last-own.new.list; pools = c.take_last-pool.new.list } in
     senders_fewer c.args.job.now c.args.e c.args.edge.now c.args.self.now after c.take_last-own.result c.take_last-pool.result c.requires.senders c.take_last-own.ensures.items c.take_last-pool.ensures.items
 
-pub returns-clause-lent : goal.returns-clause-lent
-returns-clause-lent c = record { cells = c.as_slice.ensures; first = ap length c.as_slice-first.ensures; stride = c.tasks_of.ensures.is }
+pub returns-clause-cells : goal.returns-clause-cells
+returns-clause-cells c = record { cells = c.as_slice.ensures; first = ap length c.as_slice-first.ensures; stride = c.tasks_of.ensures.is; size_is = refl }
 
 pub returns-clause-partition : goal.returns-clause-partition
 returns-clause-partition c =
@@ -34,7 +34,7 @@ returns-clause-partition c =
     partition_is job e a c.args.size edge _ c.requires.is_job.0 c.requires.is_job.1
     (sender_within job e edge c.args.self.now after own pool c.requires.senders is is')
     c.requires.edge
-    (record { cells = c.as_slice.ensures; first = ap length c.as_slice-first.ensures; stride = c.tasks_of.ensures.is })
-    refl stands
+    (record { cells = c.as_slice.ensures; first = ap length c.as_slice-first.ensures; stride = c.tasks_of.ensures.is; size_is = refl })
+    stands
     (last_sender job e edge c.args.self.now after own pool c.requires.senders is is')
     (last_partition_pool job e edge c.args.self.now after own pool c.requires.senders is is' c.item_at.result.now stands)

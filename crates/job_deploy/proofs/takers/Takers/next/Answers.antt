@@ -72,7 +72,7 @@ gate_of-requires c =
       passes = own_passes;
       fresh = deal.own_fresh job e c.args.size edge c.requires.is_job.0 c.requires.is_job.1 c.requires.edge (length after.own.items) index ways own.items here gate index_is ways_is inputs c.as_slice.ensures gates c.as_slice-2.ensures cells many each;
       pool = deal.last_gate_pool job e edge c.args.self.now after own pool c.requires.takers c.take_last-own.ensures.items c.take_last-pool_pass.ensures.items c.item_at-pool.result.now pool_stands;
-      stop = c.next-stop_pass.ensures.pass;
+      stop = c.next_stop-stop_pass.ensures.pass;
       sizes = deal.cell_sizes job e c.args.size edge c.requires.is_job.0 c.requires.is_job.1 c.requires.edge (length after.own.items) index ways own.items here gate index_is ways_is inputs c.as_slice.ensures gates c.as_slice-2.ensures cells many each c.item_at-pool.result.now c.item_at-pool.ensures;
     }
 

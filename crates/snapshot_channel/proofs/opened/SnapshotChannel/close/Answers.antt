@@ -13,5 +13,5 @@ learn_as-requires-clause-rule c = learns_any _ _ (is_collector _ _ c.take_all_ba
 
 pub returns : goal.returns
 returns c =
-    subst (λ (l : List Snapshot). All (IsReceivedOf (opening_of c.args.self) l) c.args.passes.items) c.take_all_back.ensures.received
-    (All-from_recursion _ _ (all_received (opening_of c.args.self) (view c.take_all_back.new.collecting.pass) c.learn_as.ensures.rule.0 c.args.passes.items _ c.take_all_back.ensures.collecting.collector_is c.take_all_back.ensures.back c.learn_as.ensures.rule.1))
+    subst (λ (l : List Snapshot). All (IsReceivedOf (opening_of c.args.self.now) l) c.args.passes.items) c.take_all_back.ensures.received
+    (All-from_recursion _ _ (all_received (opening_of c.args.self.now) (view c.take_all_back.new.collecting.pass) c.learn_as.ensures.rule.0 c.args.passes.items _ c.take_all_back.ensures.collecting.collector_is c.take_all_back.ensures.back c.learn_as.ensures.rule.1))

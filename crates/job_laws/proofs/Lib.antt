@@ -1,4 +1,0 @@
-pub mod Channels
-pub mod Tallies
-pub mod Ends
-pub mod Accounts

@@ -1,0 +1,218 @@
+-- The images that were stored in a run are a chain with nothing in flight.
+use Rattle.std.proofs.Common.{◌≡◌, ℕ, zero, suc, ◌<◌, ◌≤◌, List, [], ◌∷◌, ◌++◌, length, Option, ap, subst, ◌∙◌, arith, inl, inr}
+use Rattle.std.specs.Prelude.{Bool, IfSome, slice_index_or}
+use Rattle.std.specs.FinMap.{empty}
+use Rattle.std.specs.List.{AllByRecursion}
+use Rattle.std.proofs.lemmas.Bool.{cases_lt}
+use Rattle.turn_cell.specs.Passes.{mine, seen}
+use Rattle.flow_defs.specs.Items.{Items}
+use Rattle.flow_defs.specs.Lines.{lines}
+use Rattle.flow_defs.specs.declared.image.Image.{Image}
+use Rattle.flow_defs.specs.declared.image.Saved.{Saved}
+use Rattle.flow_defs.specs.declared.image.Snapshot.{Snapshot}
+use Rattle.flow_defs.specs.declared.job.Job.{Job}
+use Rattle.flow_defs.specs.Jobs.{last_edge, tasks}
+use Rattle.plain_machine.specs.Images.{IsStart}
+use Rattle.plain_machine.specs.Theorems.{StartExists}
+use Rattle.plain_machine.proofs.Channels.{ends_of}
+use Rattle.plain_machine.specs.Spelling.{CanSpell}
+use Rattle.checkpoint_laws.specs.Chapters.{task_at}
+use Rattle.checkpoint_laws.specs.Collecting.{Collected, piece}
+use Rattle.checkpoint_laws.specs.Runs.{IsInterval}
+use Rattle.outside.specs.Keepers.{KeptImage}
+use Rattle.outside.specs.declared.wires.Wire.{Wire}
+use Rattle.record_writer.specs.Writers.{SendPass}
+use Rattle.input_gate.specs.Turning.{InputPass}
+use Rattle.snapshot_channel.specs.declared.opened.SnapshotChannel.{SnapshotChannel}
+use Rattle.snapshot_channel.specs.Passes.{received_by}
+use Rattle.snapshot_channel.specs.Snapshots.{IsBeginning, snapshots_of}
+use Rattle.collector.specs.Faults.{IsNothingSaved}
+use Rattle.collecting_worker.specs.declared.world.CollectEnd.{CollectEnd}
+use Rattle.collecting_worker.specs.Accounts.{CollectAccount}
+use Rattle.collecting_worker.specs.Images.{IsMadeFrom, IsNext}
+use Rattle.collecting_worker.specs.Laws.{AreCollected, StoredAreCollected}
+use Rattle.collecting_worker.proofs.Going.{all_more, linked_more}
+use Rattle.collecting_worker.proofs.Told.{made_are_collected, sent_it}
+use Rattle.job_cells.specs.declared.edge.Edge.{Edge}
+use Rattle.job_chain.specs.Ran.{JobRan, RanIsChain}
+use Rattle.job_chain.proofs.Tasks.{contained, source_none, stage_none, aggregate_none}
+use Rattle.job_workers.specs.declared.collecting.CollectTask.{CollectTask}
+use Rattle.job_workers.specs.declared.place.Place.{Place}
+use Rattle.job_workers.specs.declared.place.Place.TheVariants.{Ended}
+use Rattle.job_ends.specs.Ended.{TaskPlace, LoopPlace, own_at, gate_at, snapshots_at}
+use Rattle.job_outcome.specs.Outcomes.{AreTold}
+use Rattle.job_outcome.specs.Storing.{HasNoneInFlight, HasStored, IsTooLarge}
+use Rattle.job_outcome.specs.Theorems.{HaveRun, AreSettledWith, StoredImagesAreChain, KeeperGotImages}
+use Rattle.job_outcome.proofs.Jobs.{source_did, stage_did, aggregate_did}
+
+-- ---- nothing is in flight
+
+-- What holds at each place of a list holds of all its elements.
+all_by_places : {X : Type 0} (P : X → Type 0) (xs : List X) (d : X) →
+    ((k : ℕ) → k < length xs → P (slice_index_or xs k d)) → AllByRecursion P xs
+all_by_places P [] d at = tt
+all_by_places P (x ∷ xs) d at = (at 0 (omega arith), all_by_places P xs d (λ k low. at (suc k) (omega (arith, low))))
+
+none_of_both : (xs ys : List ℕ) → xs ≡ [] → ys ≡ [] → xs ++ ys ≡ []
+none_of_both xs ys e f = ap (λ (l : List ℕ). l ++ ys) e ∙ f
+
+-- A snapshot with nothing in flight.
+abbrev NoneIn : Snapshot → Type 0
+NoneIn x = (x.saved_in.items ≡ []) × (x.saved_out.items ≡ [])
+
+module _ {job : Job} {size : ℕ} {every : Option ℕ} {bytes : ℕ → List ℕ} {base : Image}
+    {own : ℕ → ℕ → List SendPass} {gate : ℕ → ℕ → List InputPass} {sent : ℕ → ℕ → List Snapshot} {images : List Image}
+    (ran : JobRan job size every bytes base own gate sent images) where
+  -- Each task sent snapshots with nothing in flight,
+  none_behind : (e b : ℕ) → e ≤ last_edge job → b < tasks job (suc e) → AllByRecursion NoneIn (sent (suc e) b)
+  none_behind e b low inside = elim (cases_lt e (last_edge job)) [
+    | inl before ↦
+        let did = ran.stages e b before inside in
+        stage_none job e b 0 0 did.account.groups (sent (suc e) b) did.account.snapshots
+    | inr behind ↦
+        let is : last_edge job ≡ e = omega (arith, low, behind) in
+        subst (λ (k : ℕ). b < tasks job (suc k) → AllByRecursion NoneIn (sent (suc k) b)) is
+        (λ within. let did = ran.aggregates b within in
+        aggregate_none job b 0 empty did.account.groups (sent (suc (last_edge job)) b) did.account.snapshots) inside
+  ]
+
+  none_sent : (i a : ℕ) → i ≤ suc (last_edge job) → a < tasks job i → AllByRecursion NoneIn (sent i a)
+  none_sent zero a low inside =
+      let did = ran.sources a inside in
+      source_none a every 0 0 0 did.account.groups (sent 0 a) did.account.snapshots
+  none_sent (suc e) b low inside = none_behind e b (omega (arith, low)) inside
+
+  -- and of such each image was made.
+  none_acknowledged : (k i a : ℕ) → k < length images → i ≤ suc (last_edge job) → a < tasks job i → NoneIn (ran.snapshot k i a)
+  none_acknowledged k i a low stage inside =
+      contained NoneIn (sent i a) (ran.snapshot k i a) (none_sent i a stage inside) (ran.collected.acknowledged k i a low stage inside).0
+
+  none_at : (k : ℕ) → k < length images → HasNoneInFlight job (slice_index_or images k base)
+  none_at k low = λ e a b channel.
+      let ends = ends_of job e a b channel in
+      let made = ran.collected.made k low in
+      let came = none_acknowledged k (suc e) b low (omega (arith, ends.edge)) ends.receiver in
+      let went = none_acknowledged k e a low (omega (arith, ends.edge)) ends.sender in
+      none_of_both _ _
+      (made.saved_in e a b channel ∙ ap (λ (l : List Saved). piece e a b l) came.0)
+      (made.saved_out e a b channel ∙ ap (λ (l : List Saved). piece e a b l) went.1)
+
+  still : AllByRecursion (HasNoneInFlight job) images
+  still = all_by_places (HasNoneInFlight job) images base none_at
+
+-- ---- a run
+
+-- An interval has at least one line.
+pub interval_of : (every : Option ℕ) → IfSome every (λ (n : ℕ). 1 ≤ n) → IsInterval every
+interval_of every h n is = subst (λ (o : Option ℕ). IfSome o (λ (m : ℕ). 1 ≤ m)) is h
+
+pub same_end : (place : Place CollectTask CollectEnd) (x y : CollectEnd) → place ≡ Ended x → place ≡ Ended y → x ≡ y
+same_end place x y e f = cc
+
+module _ {S O I L N : Type 0} {left : S → Option (List ℕ)} {faults : S → ℕ}
+    {line : O → L} {sent : O → Option (List ℕ)} {finished : O → Option Bool} {of_out : O → ℕ}
+    {end_line : I → N} {got : I → Option (List ℕ)} {ended : I → Option Bool} {of_in : I → ℕ} {belong : L → N → Type 0}
+    {job : Job} {size : ℕ} {every : Option ℕ} {snapshots : SnapshotChannel} {edges : List Edge} {inputs : List S} {wires : List (Wire O I)}
+    {before after : Option (List KeptImage)} {fell rose : ℕ}
+    {rows : List (Items (TaskPlace S))} {loops : List (Items (LoopPlace O I))} {collected : Place CollectTask CollectEnd}
+    (run : HaveRun left faults line sent finished of_out end_line got ended of_in belong
+    job size every snapshots edges inputs wires before after fell rose rows loops collected)
+    (end : CollectEnd) (is : collected ≡ Ended end) where
+  -- The account of the worker that collected, of this job and interval.
+  abbrev AccountOf : Job → Option ℕ → CollectEnd → Type 0
+  AccountOf j n x = CollectAccount j n (received_by x.collecting) before after (mine x.last_pass) x.last fell rose (seen x.stop_pass) x.cause
+
+  pub account_of : AccountOf job every end
+  account_of =
+      subst (λ (x : CollectEnd). AccountOf job every x) (same_end collected run.end end run.end_is is)
+      (subst (λ (n : Option ℕ). AccountOf job n run.end) run.task_is.1
+      (subst (λ (j : Job). AccountOf j run.task.every run.end) run.task_is.0
+      run.collector.account))
+
+  module _ (bytes : ℕ → List ℕ) (told : AreTold left inputs bytes)
+      (settled : AreSettledWith left faults line sent finished of_out end_line got ended of_in belong job rows end) where
+    -- The snapshots of each task that were received are a beginning of those that it sent.
+    beginnings : (i a : ℕ) → i ≤ suc (last_edge job) → a < tasks job i → IsBeginning (snapshots_of (task_at i a) (received_by end.collecting)) (snapshots_at rows i a)
+    beginnings i a stage low = settled.received i a (omega (arith, stage)) low
+
+    -- What all workers did, where these images were collected.
+    ran_behind : (base : Image) (images : List Image) →
+        ((snapshot : ℕ → ℕ → ℕ → Snapshot) × AreCollected job every base images (snapshots_at rows) snapshot) →
+        JobRan job size every bytes base (own_at rows) (gate_at rows) (snapshots_at rows) images
+    ran_behind base images c = record {
+      sources = source_did run bytes told;
+      stages = stage_did run;
+      aggregates = aggregate_did run;
+      channels = λ e a b channel. settled.edges e (ends_of job e a b channel).edge a b channel;
+      snapshot = c.0;
+      collected = c.1;
+    }
+
+    module _ (collects : StoredAreCollected) where
+      -- What all workers did.
+      pub job_ran : (base : Image) → IsStart job base →
+          JobRan job size every bytes base (own_at rows) (gate_at rows) (snapshots_at rows) account_of.images
+      job_ran base start =
+          ran_behind base account_of.images
+          (collects job every base (received_by end.collecting) before after (mine end.last_pass) account_of.images (snapshots_at rows) start account_of.stored beginnings)
+
+      has_stored : StartExists → RanIsChain → HasStored job (λ a. lines (bytes a)) every before after
+      has_stored starts chains = record {
+        images = account_of.images;
+        kept = account_of.stored.kept;
+        chain = λ base start.
+            chains job size every bytes base (own_at rows) (gate_at rows) (snapshots_at rows) account_of.images
+            (interval_of every run.interval) start (job_ran base start);
+        still = let first = starts job in still (job_ran first.0 first.1);
+      }
+
+      -- The image that is next behind those that were stored is of the chain with them.
+      module _ (image : Image) (next : IsNext job every (received_by end.collecting) account_of.images image) where
+        none_of_task : (base : Image) → IsStart job base → (i a : ℕ) → i ≤ suc (last_edge job) → a < tasks job i → NoneIn (next.made.snapshot i a)
+        none_of_task base start i a stage low =
+            contained NoneIn (snapshots_at rows i a) (next.made.snapshot i a) (none_sent (job_ran base start) i a stage low)
+            (sent_it (received_by end.collecting) (snapshots_at rows i a) i a image.number (next.made.snapshot i a) (beginnings i a stage low) (next.made.each i a stage low))
+
+        nothing_saved : (base : Image) → IsStart job base → IsNothingSaved job image
+        nothing_saved base start = λ e a b channel.
+            let ends = ends_of job e a b channel in
+            let made = next.made.made in
+            let came = none_of_task base start (suc e) b (omega (arith, ends.edge)) ends.receiver in
+            let went = none_of_task base start e a (omega (arith, ends.edge)) ends.sender in
+            none_of_both _ _
+            (made.saved_in e a b channel ∙ ap (λ (l : List Saved). piece e a b l) came.0)
+            (made.saved_out e a b channel ∙ ap (λ (l : List Saved). piece e a b l) went.1)
+
+        next_collected : (base : Image) → IsStart job base →
+            (snapshot : ℕ → ℕ → ℕ → Snapshot) × AreCollected job every base (account_of.images ++ image ∷ []) (snapshots_at rows) snapshot
+        next_collected base start =
+            made_are_collected job every base (received_by end.collecting) (account_of.images ++ image ∷ []) (snapshots_at rows)
+            (all_more (IsMadeFrom job (received_by end.collecting)) account_of.images image account_of.stored.made next.made)
+            (linked_more (Collected job every) base image account_of.images (account_of.stored.collected base start)
+            (next.collected (λ final. nothing_saved base start) base start)) beginnings
+
+        pub too_large : RanIsChain → (CanSpell image → ⊥) → IsTooLarge job (λ a. lines (bytes a)) every
+        too_large chains large = (
+          account_of.images,
+          image,
+          λ base start.
+              chains job size every bytes base (own_at rows) (gate_at rows) (snapshots_at rows) (account_of.images ++ image ∷ [])
+              (interval_of every run.interval) start (ran_behind base (account_of.images ++ image ∷ []) (next_collected base start)),
+          large,
+        )
+
+-- ---- the laws
+
+module _ {S O I L N : Type 0} (left : S → Option (List ℕ)) (faults : S → ℕ)
+    (line : O → L) (sent : O → Option (List ℕ)) (finished : O → Option Bool) (of_out : O → ℕ)
+    (end_line : I → N) (got : I → Option (List ℕ)) (ended : I → Option Bool) (of_in : I → ℕ) (belong : L → N → Type 0) where
+  pub stored_images_are_chain : StartExists → StoredAreCollected → RanIsChain →
+      StoredImagesAreChain left faults line sent finished of_out end_line got ended of_in belong
+  unfolding has_stored
+  stored_images_are_chain starts collects chains job size every snapshots edges inputs wires before after fell rose rows loops collected
+      end bytes run is told settled =
+      (has_stored run end is bytes told settled collects starts chains, (account_of run end is).last_is)
+
+  pub keeper_got_images : KeeperGotImages left faults line sent finished of_out end_line got ended of_in belong
+  keeper_got_images job size every snapshots edges inputs wires before after fell rose rows loops collected run =
+      ((run.collector.account.images, run.collector.account.stored.kept), run.collector.account.never_falls)

@@ -1,0 +1,43 @@
+-- What the images of a run come to. As in Flink each checkpoint of a run goes on from the one before it, and with aligned barriers nothing is in
+-- flight at one.
+use Rattle.std.specs.Prelude.{◌≡◌, ℕ, true, List, [], ◌∷◌, ◌++◌, Option}
+use Rattle.std.specs.List.{AllByRecursion}
+use Rattle.flow_defs.specs.declared.image.Image.{Image}
+use Rattle.flow_defs.specs.declared.job.Job.{Job}
+use Rattle.flow_defs.specs.Jobs.{is_channel}
+use Rattle.flow_defs.specs.Tables.{Values, join}
+use Rattle.plain_machine.specs.Images.{IsStart, saved}
+use Rattle.plain_machine.specs.Chains.{Chain, last_of}
+use Rattle.plain_machine.specs.Spelling.{CanSpell}
+use Rattle.outside.specs.Keepers.{KeptImage}
+use Rattle.collecting_worker.specs.Images.{with_images}
+
+-- Nothing is in flight on any channel of the job.
+abbrev pub HasNoneInFlight : Job → Image → Type 0
+HasNoneInFlight job image = (e a b : ℕ) → is_channel job e a b ≡ true → saved job image e a b ≡ []
+
+-- The images that a keeper has behind those that it had, as far as it tells them, are these, and nothing else of it changed.
+abbrev pub HasKept : Option (List KeptImage) → Option (List KeptImage) → List Image → Type 0
+HasKept before after images = after ≡ with_images before images
+
+-- The images that the keeper got are a chain from the start on, each the successor of the one before it by the takes recorded in it, and
+-- nothing is in flight at any of them.
+pub record HasStored (job : Job) (lines : ℕ → List (List ℕ)) (every : Option ℕ) (before after : Option (List KeptImage)) : Type 0 where
+  pub images : List Image
+  pub kept : HasKept before after images
+  pub chain : (base : Image) → IsStart job base → Chain job lines every base images
+  pub still : AllByRecursion (HasNoneInFlight job) images
+
+-- The last of them is marked so, and this is the table of all its tasks' tables.
+pub record EndsIn (job : Job) (lines : ℕ → List (List ℕ)) (every : Option ℕ) (before after : Option (List KeptImage)) (table : Values) : Type 0 where
+  pub stored : HasStored job lines every before after
+  pub last : Image
+  pub last_is : (base : Image) → last_of base stored.images ≡ last
+  pub final : last.final_one ≡ true
+  pub table_is : table ≡ join job.agg last.tables.items
+
+-- An image of the chain from the start on over these lines is too large to be spelled: a number of keys or runs in it, or the length of a
+-- saved piece, is above 4,294,967,295.
+abbrev pub IsTooLarge : Job → (ℕ → List (List ℕ)) → Option ℕ → Type 0
+IsTooLarge job lines every = (images : List Image) × (image : Image) ×
+    ((base : Image) → IsStart job base → Chain job lines every base (images ++ image ∷ [])) × (CanSpell image → ⊥)

@@ -1,0 +1,106 @@
+-- The tasks of a job may cross to another thread: what they share with others may be shared by threads.
+use denote.RattleType.{RattleType}
+use denote.Ref.{NamedLft}
+use denote.Param.Send.{IsSend, IsSync, sendable}
+use denote.Param.SendFields.{declared_send, declared_sync, variants_send}
+use Rattle.std.proofs.Crossing.{crosses}
+use Rattle.atomic_table.proofs.badge.Badge.TheSendSync as badge
+use Rattle.crossbeam_channel.proofs.flavors.array.Key.TheSendSync as key
+use Rattle.crossbeam_channel.proofs.flavors.array.Lockers.TheSendSync as lockers
+use Rattle.crossbeam_channel.proofs.flavors.array.Rounds.TheSendSync as rounds
+use Rattle.crossbeam_channel.proofs.flavors.array.Rows.TheSendSync as rows
+use Rattle.crossbeam_channel.proofs.flavors.array.Whole.TheSendSync as whole
+use Rattle.crossbeam_channel.proofs.flavors.array.ruled.Receiving.TheSendSync as receiving
+use Rattle.crossbeam_channel.proofs.flavors.array.ruled.Sending.TheSendSync as sending
+use Rattle.turn_cell.proofs.cell.TurnCell.TheSendSync as cell
+use Rattle.turn_cell.proofs.pass.Pass.TheSendSync as pass
+use Rattle.flow_defs.proofs.image.Snapshot.TheSendSync as snapshot
+use Rattle.outside.proofs.last_image.LastImage.TheSendSync as last_image
+use Rattle.outside.proofs.stop.StopState.TheSendSync as stop
+use Rattle.snapshot_channel.specs.contracts.opened.SnapshotChannel as channel
+use Rattle.snapshot_channel.proofs.opened.TaskPass.TheSendSync as task_pass
+use Rattle.snapshot_channel.proofs.rule.Order.TheSendSync as order
+use Rattle.snapshot_channel.proofs.views.View.TheSendSync as view
+use Rattle.record_writer.proofs.partition.Partition.TheSendSync as partition
+use Rattle.input_gate.proofs.cell_gate.CellGate.TheSendSync as gate
+use Rattle.job_workers.specs.contracts.task.Lent as lent
+use Rattle.job_workers.specs.contracts.task.SourceTask as source
+use Rattle.job_workers.specs.contracts.task.StageTask as stage
+use Rattle.job_workers.specs.contracts.task.AggregateTask as aggregate
+use Rattle.job_workers.specs.contracts.task.Task as task
+
+-- ---- the channel of snapshots
+
+ruleset lines = (
+  sendable,
+  crosses,
+  sending.the_field_sync,
+  receiving.the_field_sync,
+  rows.the_send,
+  rows.the_sync,
+  key.the_send,
+  key.the_sync,
+  lockers.the_send,
+  lockers.the_sync,
+  rounds.the_send,
+  rounds.the_sync,
+  whole.the_send,
+  whole.the_sync,
+  badge.the_send,
+  snapshot.the_send,
+  snapshot.the_sync,
+  view.the_send,
+  view.the_sync,
+  order.the_send,
+  order.the_sync,
+)
+
+channel_sync : IsSync channel.the_row
+channel_sync = declared_sync channel.the_type
+    (search lines depth 20, (search lines depth 20, (search (sendable, crosses) depth 20, (search (sendable, crosses) depth 20, (search (sendable, crosses) depth 20, tt)))))
+
+-- ---- the tasks
+
+lent_send : (a : NamedLft) → IsSend (lent.the_row a)
+lent_send a = declared_send (lent.the_type a) (
+  search sendable depth 20,
+  (
+    search (sendable, channel_sync) depth 20,
+    (
+      search (sendable, task_pass.the_send) depth 20,
+      (
+        search (sendable, crosses, cell.the_sync, last_image.the_send) depth 20,
+        (
+          search (sendable, crosses, pass.the_send, last_image.the_send) depth 20,
+          (search (sendable, crosses, cell.the_sync, stop.the_send) depth 20, (search (sendable, crosses, pass.the_send, stop.the_send) depth 20, tt)),
+        ),
+      ),
+    ),
+  ),
+)
+
+source_send : (a p : NamedLft) (S : RattleType) → IsSend S → IsSend (source.the_row a p S)
+source_send a p S s = declared_send (source.the_type a p S)
+    (search (sendable, crosses) depth 20, (search (sendable, s) depth 20, (search sendable depth 20, (search (sendable, partition.the_send) depth 20, (lent_send a, tt)))))
+
+stage_send : (a p : NamedLft) → IsSend (stage.the_row a p)
+stage_send a p = declared_send (stage.the_type a p) (
+  search (sendable, crosses) depth 20,
+  (
+    search (sendable, gate.the_send) depth 20,
+    (
+      search sendable depth 20,
+      (
+        search sendable depth 20,
+        (search (sendable, partition.the_send) depth 20, (lent_send a, tt)),
+      ),
+    ),
+  ),
+)
+
+aggregate_send : (a p : NamedLft) → IsSend (aggregate.the_row a p)
+aggregate_send a p = declared_send (aggregate.the_type a p)
+    (search (sendable, crosses) depth 20, (search (sendable, gate.the_send) depth 20, (search sendable depth 20, (lent_send a, tt))))
+
+pub task_send : (a p : NamedLft) (S : RattleType) → IsSend S → IsSend (task.the_row a p S)
+task_send a p S s = variants_send (task.enum a p S) ((source_send a p S s, tt), ((stage_send a p, tt), ((aggregate_send a p, tt), tt)))

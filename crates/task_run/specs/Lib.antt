@@ -1,9 +1,0 @@
-pub mod Tasks
-pub mod Taking
-pub mod Ending
-pub mod Sending
-pub mod Applying
-pub mod Finishing
-pub mod Cutting
-pub mod Reading
-pub mod Samples

@@ -1,10 +1,8 @@
 -- The job that `selfrun` runs, and what its run comes to.
-use Rattle.std.proofs.Common.{◌≡◌, ℕ, zero, suc, ◌≤◌, List, [], ◌∷◌, ◌++◌, length, map, Option, Some, None, refl, ap, ◌∙◌, arith, lit≤}
+use Rattle.std.proofs.Common.{◌≡◌, ℕ, zero, suc, ◌≤◌, List, [], ◌∷◌, length, Option, Some, None, refl, ap, subst, ◌∙◌, arith, lit≤}
 use Rattle.std.specs.Fmt.{digits}
 use Rattle.std.specs.Prelude.{codes}
-use Rattle.std.proofs.lemmas.List.{length-map}
 use Rattle.std.proofs.lemmas.List.Elements.{All-cons, All-nil}
-use Rattle.flow_defs.specs.declared.image.Image.{Image}
 use Rattle.flow_defs.specs.declared.job.Job.{Job}
 use Rattle.flow_defs.specs.declared.job.Exchange.TheVariants.{Rebalance, Forward}
 use Rattle.flow_defs.specs.declared.job.StageKind.TheVariants.{Words}
@@ -16,12 +14,11 @@ use Rattle.plain_machine.specs.Worth.{tally}
 use Rattle.stage_fns.specs.Functions.{Functions}
 use Rattle.outside.specs.Keepers.{KeptImage}
 use Rattle.collecting_worker.specs.Accounts.{HasText}
-use Rattle.collecting_worker.specs.Images.{kept_of}
 use Rattle.job_text.specs.JobText.{IsJobText}
 use Rattle.job_text.specs.JobFaults.{first_fault}
 use Rattle.job_text.specs.KnownKinds.{every_kind}
 use Rattle.job_text.specs.Laws.{JobTextHasNoFault, JobTextNamesItsFiles}
-use Rattle.job_outcome.specs.Storing.{EndsIn, HasKept}
+use Rattle.job_outcome.specs.Storing.{EndsIn}
 use Rattle.job_cli.specs.declared.fault.Fault.{Fault}
 use Rattle.job_cli.specs.declared.fault.Fault.TheVariants.{JobLine, OverCredit, Peer, Memory}
 use Rattle.job_cli.specs.declared.run.TheConstants.{JOB_MAX}
@@ -111,12 +108,6 @@ module _ (functions : Functions) (job : Job) (is : IsJobText functions self_text
       there zero inside = told
       there (suc a) inside = absurd (omega (arith, inside))
 
--- behind none it has those of the run
-many_kept : (before after : List KeptImage) (images : List Image) → before ≡ [] → HasKept (Some before) (Some after) images → length after ≡ length images
-many_kept before after images none kept =
-    let same : after ≡ before ++ map kept_of images = cc in
-    ap length (same ∙ ap (λ (l : List KeptImage). l ++ map kept_of images) none) ∙ length-map images kept_of
-
 -- what the run comes to
 pub self_ran : (functions : Functions) (job : Job) (is : IsJobText functions self_text job) (many seed : ℕ) (before after : List KeptImage) (table : Values) (text : List ℕ) →
     before ≡ [] → table ≡ tally job (made_lines many seed) → EndsIn job (made_lines many seed) (Some 100000) (Some before) (Some after) table → text ≡ summary_of many table (length after) →
@@ -125,13 +116,11 @@ self_ran functions job is many seed before after table text none table_is ends t
   record {
     job = job;
     is_job = is;
-    images = ends.stored.images;
-    chain = ends.stored.chain;
-    last = ends.last;
-    last_is = ends.last_is;
-    final = ends.final;
+    kept = after;
+    table = table;
+    ends = subst (λ (held : List KeptImage). EndsIn job (made_lines many seed) (Some 100000) (Some held) (Some after) table) none ends;
   },
-  text_is ∙ ap (λ (t : Values). summary_of many t (length after)) table_is ∙ ap (λ (n : ℕ). summary_of many (tally job (made_lines many seed)) n) (many_kept before after ends.stored.images none ends.stored.kept),
+  text_is ∙ ap (λ (t : Values). summary_of many t (length after)) table_is,
 )
 
 -- ---- its faults

@@ -26,17 +26,21 @@ use Rattle.job_cli.specs.Sources.{TellsSources, HasLargeImage, IsOfSource, IsSou
 use Rattle.job_cli.specs.Held.{HoldsLast, HoldsNone}
 use Rattle.job_cli.specs.Inspects.{Inspects, IsNoImageAt, HasNoneToShow}
 use Rattle.job_cli.specs.declared.script.TheConstants.{SCRIPT_MAX}
-use Rattle.job_cli.specs.Scripts.{NamesScript, IsScriptWith, HasTooFew, HasBadLine, ScriptRunsTo, HasScripted, HasScriptedInPart}
+use Rattle.job_cli.specs.Scripts.{NamesScript, IsScriptWith, HasTooFew, HasBadLine, ScriptRunsTo}
 use Rattle.job_cli.specs.SelfRuns.{NamesSelfRun, SelfRunsTo, StartsSelfRun, self_text}
 use Rattle.line_generator.specs.Generated.{generated}
+
+-- The words are those of a run.
+abbrev pub NamesAnyRun : List (List ℕ) → Type 0
+NamesAnyRun words = (job : List ℕ) × (options : RunOptions) × IsRun words job options
 
 -- The words are a command's.
 abbrev pub NamesCommand : List (List ℕ) → Type 0
 NamesCommand words =
-    ((job : List ℕ) × (options : RunOptions) × IsRun words job options)
+    NamesAnyRun words
     ⊎ ((file : List ℕ) × IsScript words file)
     ⊎ ((lines : ℕ) × (seed : ℕ) × IsGen words lines seed)
-    ⊎ ((lines : ℕ) × (seed : ℕ) × IsSelfRun words lines seed)
+    ⊎ NamesSelfRun words
     ⊎ IsInspect words
 
 -- None of a job's sources passes a limit.
@@ -76,13 +80,14 @@ NamesGoodJob words functions contents P = NamesRun words contents (λ options te
 abbrev pub NamesReadyJob : List (List ℕ) → Functions → (List ℕ → Option (List ℕ)) → (Job → Type 0) → Type 0
 NamesReadyJob words functions contents P = NamesGoodJob words functions contents (λ options job. HasPool options job × P job)
 
--- The words name a job that has P, and give it such a pool, and the keeper holds no image of an earlier one.
-abbrev pub StartsJob : List (List ℕ) → Functions → (List ℕ → Option (List ℕ)) → Option (List KeptImage) → (Job → Type 0) → Type 0
-StartsJob words functions contents held P = HoldsNone held × NamesReadyJob words functions contents P
-
--- The words name a job that has P under its options, and give it such a pool, and the keeper holds no image of an earlier one.
+-- The words name a job that has P under its options, and give it a pool that has the segments it needs, and the keeper holds no image of an
+-- earlier one.
 abbrev pub StartsRun : List (List ℕ) → Functions → (List ℕ → Option (List ℕ)) → Option (List KeptImage) → (RunOptions → Job → Type 0) → Type 0
 StartsRun words functions contents held P = HoldsNone held × NamesGoodJob words functions contents (λ options job. HasPool options job × P options job)
+
+-- They name a job that has P and may start so.
+abbrev pub StartsJob : List (List ℕ) → Functions → (List ℕ → Option (List ℕ)) → Option (List KeptImage) → (Job → Type 0) → Type 0
+StartsJob words functions contents held P = StartsRun words functions contents held (λ options job. P job)
 
 -- The words name a job that may start. Whatever its sources are told to have is within their limits, and P holds of the text of their
 -- tally.
@@ -90,14 +95,6 @@ abbrev pub RunsTo : List (List ℕ) → Functions → (List ℕ → Option (List
 RunsTo words functions contents held P =
     StartsJob words functions contents held (λ job. (bytes : ℕ → List ℕ) → TellsSources job contents bytes →
     AreWithinLimits job bytes × P (table_text (tally job (λ a. lines (bytes a)))))
-
--- The output got the text of the tally behind what was there, and nothing else.
-abbrev pub HasRun : List (List ℕ) → Functions → (List ℕ → Option (List ℕ)) → Option (List KeptImage) → Option (List ℕ) → Option (List ℕ) → Type 0
-HasRun words functions contents held before after = RunsTo words functions contents held (λ text. IfSome before (λ had. after ≡ Some (had ++ text)))
-
--- The output got a front of that text, and nothing else.
-abbrev pub HasRunInPart : List (List ℕ) → Functions → (List ℕ → Option (List ℕ)) → Option (List KeptImage) → Option (List ℕ) → Option (List ℕ) → Type 0
-HasRunInPart words functions contents held before after = RunsTo words functions contents held (λ text. IfSome before (λ had. GotFront had text after))
 
 -- The words ask for lines of a seed, and P holds of the text of these.
 abbrev pub GensTo : List (List ℕ) → (List ℕ → Type 0) → Type 0
@@ -107,26 +104,17 @@ GensTo words P = (lines : ℕ) × (seed : ℕ) × IsGen words lines seed × P (g
 abbrev pub Prints : List (List ℕ) → Functions → (List ℕ → Option (List ℕ)) → Option (List KeptImage) → (List ℕ → Type 0) → Type 0
 Prints words functions contents held P = RunsTo words functions contents held P ⊎ ScriptRunsTo words contents P ⊎ GensTo words P ⊎ SelfRunsTo words functions P ⊎ Inspects words held P
 
--- The output got all that the command is to print, or a front of it, and nothing else.
+-- The output got all that the command is to print behind what was there, or a front of it, and nothing else.
 abbrev pub HasDone : List (List ℕ) → Functions → (List ℕ → Option (List ℕ)) → Option (List KeptImage) → Option (List ℕ) → Option (List ℕ) → Type 0
-HasDone words functions contents held before after =
-    HasRun words functions contents held before after
-    ⊎ HasScripted words contents before after
-    ⊎ GensTo words (λ text. IfSome before (λ had. after ≡ Some (had ++ text)))
-    ⊎ SelfRunsTo words functions (λ text. IfSome before (λ had. after ≡ Some (had ++ text)))
-    ⊎ Inspects words held (λ text. IfSome before (λ had. after ≡ Some (had ++ text)))
+HasDone words functions contents held before after = Prints words functions contents held (λ text. IfSome before (λ had. after ≡ Some (had ++ text)))
 
 abbrev pub HasDoneInPart : List (List ℕ) → Functions → (List ℕ → Option (List ℕ)) → Option (List KeptImage) → Option (List ℕ) → Option (List ℕ) → Type 0
-HasDoneInPart words functions contents held before after =
-    HasRunInPart words functions contents held before after
-    ⊎ HasScriptedInPart words contents before after
-    ⊎ GensTo words (λ text. IfSome before (λ had. GotFront had text after))
-    ⊎ SelfRunsTo words functions (λ text. IfSome before (λ had. GotFront had text after))
-    ⊎ Inspects words held (λ text. IfSome before (λ had. GotFront had text after))
+HasDoneInPart words functions contents held before after = Prints words functions contents held (λ text. IfSome before (λ had. GotFront had text after))
 
 -- The fault is the first of the words, or of the text of the job or the script that they name, or else one of that job's pool, its
 -- sources, its exchange or its images, or of that script's pool, or of what the keeper holds once the pool was compared, as far as these
--- are told. It is none of a link: those of a job are in memory.
+-- are told. Of `selfrun` it is the first of its job's text, a function that is lacking, or one of its exchange. It is none of a link: those of
+-- a job are in memory.
 abbrev pub IsFaultOf : List (List ℕ) → Functions → (List ℕ → Option (List ℕ)) → Option (List KeptImage) → Fault → Type 0
 IsFaultOf words functions contents held (Usage kind) = usage_fault words ≡ Some kind
 IsFaultOf words functions contents held JobInput = NamesJob words contents (λ text. ⊤)
@@ -203,10 +191,6 @@ pub record TellsRun (words : List (List ℕ)) (functions : Functions) (contents 
   pub tells : TellsJob words contents options text
   pub fits : length text ≤ JOB_MAX
   pub is_job : IsJobText functions text job
-
--- The words are those of a run.
-abbrev pub NamesAnyRun : List (List ℕ) → Type 0
-NamesAnyRun words = (job : List ℕ) × (options : RunOptions) × IsRun words job options
 
 -- The images that a run of the job stored are a chain over the lines of these bytes.
 abbrev pub HasChain : RunOptions → Job → (ℕ → List ℕ) → Option (List KeptImage) → Option (List KeptImage) → Type 0

@@ -1,6 +1,6 @@
 -- What is done with a script, and why it is refused. The command, its limit and its faults are this
 -- project's own choice; what the events do is Flink's credit-based flow control.
-use Rattle.std.specs.Prelude.{◌≡◌, ◌⊎◌, ⊤, ℕ, ◌*◌, ◌<◌, ◌≤◌, length, List, ◌++◌, Option, Some, IfSome}
+use Rattle.std.specs.Prelude.{◌≡◌, ◌⊎◌, ⊤, ℕ, ◌*◌, ◌<◌, ◌≤◌, length, List, Option, Some, IfSome}
 use Rattle.job_text.specs.Words.{IsScript}
 use Rattle.script_text.specs.declared.event.Script.{Script}
 use Rattle.script_text.specs.Scripts.{IsScriptText}
@@ -11,7 +11,6 @@ use Rattle.exchange_world.specs.Steps.{replies_to}
 use Rattle.job_cli.specs.declared.script.TheConstants.{SCRIPT_MAX}
 use Rattle.job_cli.specs.declared.fault.Fault.{Fault}
 use Rattle.job_cli.specs.declared.fault.Fault.TheVariants.{ScriptLine, ScriptInput, LongScript, TooFewSegments, Memory}
-use Rattle.job_cli.specs.Front.{GotFront}
 
 -- What is replied to a script's events, as it is printed: the connection is opened, and they happen in order.
 abbrev pub printed_replies : Script → List ℕ
@@ -46,14 +45,6 @@ Replies P text = IsScriptWith (λ script. HasEnough script × P (printed_replies
 -- The words name a script that has enough segments, and P holds of what is replied to it.
 abbrev pub ScriptRunsTo : List (List ℕ) → (List ℕ → Option (List ℕ)) → (List ℕ → Type 0) → Type 0
 ScriptRunsTo words contents P = NamesScript words contents (Replies P)
-
--- The output got the replies to the script that the words name, behind what was there, and nothing else.
-abbrev pub HasScripted : List (List ℕ) → (List ℕ → Option (List ℕ)) → Option (List ℕ) → Option (List ℕ) → Type 0
-HasScripted words contents before after = ScriptRunsTo words contents (λ replies. IfSome before (λ had. after ≡ Some (had ++ replies)))
-
--- The output got a front of those replies, and nothing else.
-abbrev pub HasScriptedInPart : List (List ℕ) → (List ℕ → Option (List ℕ)) → Option (List ℕ) → Option (List ℕ) → Type 0
-HasScriptedInPart words contents before after = ScriptRunsTo words contents (λ replies. IfSome before (λ had. GotFront had replies after))
 
 -- A file with these bytes, where they are told, has this fault as a script.
 abbrev pub IsScriptFault : Option (List ℕ) → Fault → Type 0

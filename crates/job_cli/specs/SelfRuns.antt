@@ -1,22 +1,22 @@
 -- What `selfrun` does: it runs a job of words over lines that are made of a seed. The command, its job and what it prints are this project's
 -- own choice.
-use Rattle.std.specs.Prelude.{◌≡◌, ⊤, true, ℕ, ◌+◌, ◌%◌, ◌^◌, List, [], ◌∷◌, ◌++◌, length, fold, Some, None, codes, decimal}
+use Rattle.std.specs.Prelude.{◌≡◌, ⊤, ℕ, ◌%◌, ◌^◌, List, [], ◌∷◌, ◌++◌, length, Some, None, codes, decimal}
+use Rattle.std.specs.List.{sum_by}
 use Rattle.std.specs.FinMap.{entries}
-use Rattle.flow_defs.specs.declared.image.Image.{Image}
 use Rattle.flow_defs.specs.declared.job.Job.{Job}
 use Rattle.flow_defs.specs.declared.job.StageKind.TheVariants.{Words}
 use Rattle.flow_defs.specs.declared.job.AggKind.TheVariants.{Count}
 use Rattle.flow_defs.specs.Lines.{lines}
 use Rattle.flow_defs.specs.Tables.{Values}
-use Rattle.plain_machine.specs.Chains.{Chain, last_of}
-use Rattle.plain_machine.specs.Images.{IsStart}
 use Rattle.plain_machine.specs.Worth.{tally}
 use Rattle.stage_fns.specs.Functions.{Functions, HasStage, HasAgg}
 use Rattle.line_generator.specs.Generated.{generated}
 use Rattle.job_text.specs.Words.{IsSelfRun}
 use Rattle.job_text.specs.JobText.{IsJobText}
 use Rattle.job_text.specs.JobFaults.{first_fault}
+use Rattle.outside.specs.Keepers.{KeptImage}
 use Rattle.job_outcome.specs.Grounds.{IsOverByOne}
+use Rattle.job_outcome.specs.Storing.{EndsIn}
 use Rattle.job_cli.specs.declared.fault.Fault.{Fault}
 use Rattle.job_cli.specs.declared.fault.Fault.TheVariants.{JobLine, OverCredit, Peer, Memory}
 
@@ -36,7 +36,7 @@ made_lines many seed = λ a. lines (generated seed many)
 
 -- How many records a table has counted, modulo 2^64.
 abbrev pub counted_in : Values → ℕ
-counted_in table = fold (λ count (row : List ℕ × ℕ). (count + row.1) % 2 ^ 64) 0 (entries table)
+counted_in table = sum_by (λ (row : List ℕ × ℕ). row.1) (entries table) % 2 ^ 64
 
 -- A line of a name and a number.
 abbrev pub number_line : List ℕ → ℕ → List ℕ
@@ -50,20 +50,18 @@ summary_of many table images =
 
 -- ---- what is run
 
--- The job is run over so many lines of a seed to its end, with a checkpoint every 100,000 lines: the images that are stored are a chain from
--- the start on, and the last of them is marked so.
+-- The job is run over so many lines of a seed to its end, with a checkpoint every 100,000 lines: a keeper that held nothing got a chain of
+-- images from the start on, with nothing in flight, and the last of them is marked so and has this table.
 pub record SelfRan (functions : Functions) (many seed : ℕ) : Type 0 where
   pub job : Job
   pub is_job : IsJobText functions self_text job
-  pub images : List Image
-  pub chain : (base : Image) → IsStart job base → Chain job (made_lines many seed) (Some 100000) base images
-  pub last : Image
-  pub last_is : (base : Image) → last_of base images ≡ last
-  pub final : last.final_one ≡ true
+  pub kept : List KeptImage
+  pub table : Values
+  pub ends : EndsIn job (made_lines many seed) (Some 100000) (Some []) (Some kept) table
 
 -- There is such a run, and P holds of the text that tells of the tally of its lines and of its images.
 abbrev pub HasRunOver : Functions → ℕ → ℕ → (List ℕ → Type 0) → Type 0
-HasRunOver functions many seed P = (ran : SelfRan functions many seed) × P (summary_of many (tally ran.job (made_lines many seed)) (length ran.images))
+HasRunOver functions many seed P = (ran : SelfRan functions many seed) × P (summary_of many (tally ran.job (made_lines many seed)) (length ran.kept))
 
 -- The words ask for it, and P holds of that text.
 abbrev pub SelfRunsTo : List (List ℕ) → Functions → (List ℕ → Type 0) → Type 0
@@ -84,7 +82,7 @@ LacksFunction words functions = NamesSelfRun words × (HasFunctions functions �
 -- ---- its faults
 
 -- What is told of a fault of its run. Neither its file nor its keeper is to fail, so that another fault than one of a connection is told as
--- want of memory.
+-- want of memory. That none of these comes is not proved.
 abbrev pub of_self : Fault → Fault
 of_self (OverCredit channel received announced) = OverCredit channel received announced
 of_self (Peer fault) = Peer fault

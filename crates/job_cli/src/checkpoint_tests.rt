@@ -93,7 +93,7 @@ fn each_aggregate_task_has_its_table(rt: HostRuntime) -> Result<(), Fail> {
     Ok(())
 }
 
-// A run over a keeper whose put of this number fails, and how many images it then has.
+// In each row: which put of the keeper fails, the status and line that are then told, and how many images it has.
 #[test]
 fn a_put_that_fails_ends_the_run(rt: HostRuntime) -> Result<(), Fail> {
     let alloc = rt.alloc();

@@ -69,7 +69,8 @@ pub enum Fault {
     BigSource {
         source: u32,
     },
-    /// An image is too large for its format.
+    /// An image is too large for its format: a number of keys or runs in it, or the length of a saved piece in bytes, is above
+    /// 4,294,967,295.
     BigImage,
     /// The pool has fewer segments than the job's channels need, or those of the connection that the script opens.
     TooFewSegments {

@@ -1,5 +1,5 @@
 // Does the command that the words are.
-ghost use Rattle.std.specs.Prelude.{◌≡◌, ◌≤◌, ◌++◌, List, ℕ, IfOk, OnOk, length, Ok, Some, None, IfErr, IfSome};
+ghost use Rattle.std.specs.Prelude.{◌≡◌, ◌≤◌, ⊤, ◌++◌, List, ℕ, IfOk, OnOk, length, Ok, Some, None, IfErr, IfSome};
 ghost use Rattle.flow_defs.specs.Jobs.{IsJob};
 ghost use Rattle.flow_defs.specs.Tables.{table_text};
 ghost use Rattle.flow_defs.specs.declared.image.Image.{Image};
@@ -14,7 +14,7 @@ ghost use Rattle.job_text.specs.Words.{HasRanges, IsRun, IsCommand, usage_fault}
 ghost use Rattle.job_text.specs.JobText.{IsJobText};
 ghost use Rattle.job_text.specs.JobFaults.{first_fault};
 ghost use Rattle.job_cli.specs.Causes.{status_of, of_job_file};
-ghost use Rattle.job_cli.specs.Run.{RunsTo, Prints, HasChain, HasDone, HasDoneInPart, HasPool, EndsWith, IsFaultOf, NamesAnyRun, NamesCommand, TellsRun};
+ghost use Rattle.job_cli.specs.Run.{RunsTo, Prints, HasChain, HasDone, HasDoneInPart, HasPool, EndsWith, IsFaultOf, NamesCommand, StartsJob, TellsRun};
 ghost use Rattle.job_cli.specs.Sources.{TellsSources};
 ghost use Rattle.job_cli.specs.TextFaults.{IsWordFault, IsJobFileFault, IsSmallPoolFault, IsTextFault};
 
@@ -86,7 +86,7 @@ where
         TellsRun words.now.items (kinds functions.now) (F.contents files.old) options job → TellsSources job (F.contents files.old) bytes →
         EndsWith options job bytes (K.images keeper.old) (K.images keeper.new) (λ table. IfSome (O.got out.old) (λ had. O.got out.new ≡ Some (had ++ table_text table))) }
     ensures kept { (images : List Image) × HasKept (K.images keeper.old) (K.images keeper.new) images }
-    ensures kept_else { (NamesAnyRun words.now.items → ⊥) → K.images keeper.new ≡ K.images keeper.old }
+    ensures kept_else { (StartsJob words.now.items (kinds functions.now) (F.contents files.old) (K.images keeper.old) (λ job. ⊤) → ⊥) → K.images keeper.new ≡ K.images keeper.old }
     ensures given_back { F.lent files.new ≡ F.lent files.old }
 {
     let text = text_to_print(rt, alloc, words, functions, files, keeper)?;
@@ -119,7 +119,7 @@ where
         TellsRun words.now.items (kinds functions.now) (F.contents files.old) options job → TellsSources job (F.contents files.old) bytes →
         EndsWith options job bytes (K.images keeper.old) (K.images keeper.new) (λ table. text.items ≡ table_text table)) }
     ensures kept { (images : List Image) × HasKept (K.images keeper.old) (K.images keeper.new) images }
-    ensures kept_else { (NamesAnyRun words.now.items → ⊥) → K.images keeper.new ≡ K.images keeper.old }
+    ensures kept_else { (StartsJob words.now.items (kinds functions.now) (F.contents files.old) (K.images keeper.old) (λ job. ⊤) → ⊥) → K.images keeper.new ≡ K.images keeper.old }
     ensures given_back { F.lent files.new ≡ F.lent files.old }
 {
     let command = command_of(alloc, words)?;
@@ -164,6 +164,8 @@ where
         IsJobText (kinds functions.now) text job → TellsSources job (F.contents files.old) bytes →
         EndsWith options job bytes (K.images keeper.old) (K.images keeper.new) (λ table. printed.items ≡ table_text table)) }
     ensures kept { (images : List Image) × HasKept (K.images keeper.old) (K.images keeper.new) images }
+    ensures kept_else { (words : List (List ℕ)) → IsRun words name.now options →
+        (StartsJob words (kinds functions.now) (F.contents files.old) (K.images keeper.old) (λ job. ⊤) → ⊥) → K.images keeper.new ≡ K.images keeper.old }
     ensures given_back { F.lent files.new ≡ F.lent files.old }
 {
     job_texts_are_clear();

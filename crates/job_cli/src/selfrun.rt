@@ -22,7 +22,7 @@ use std::sync::Wait;
 use std::thread::Threads;
 
 /// What a run of the job of the words over so many lines of a seed comes to. Its file, its links and its keeper are in
-/// memory, and none of their calls is to fail.
+/// memory, and none of their calls is to fail. The lines are held twice, as they were made and as the file that is read.
 pub fn selfrun_text<R: Threads + Wait + Sync>(
     rt: &R,
     alloc: Global,
@@ -76,7 +76,8 @@ fn empty_keeper(alloc: Global) -> MemoryKeeper
     MemoryKeeper::new(ListOf::new(alloc), ListOf::new(alloc), ListOf::new(alloc))
 }
 
-// The fault that is told of such a run. Neither its file nor its keeper is at fault, nor is a limit passed, as far as memory goes.
+// The fault that is told of such a run. That none comes of its file or its keeper, and that no limit is passed, is not proved; each would be
+// told as want of memory.
 fn own_fault(fault: Fault) -> Fault
     ensures { result ≡ of_self fault }
 {

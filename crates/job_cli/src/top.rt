@@ -1,5 +1,5 @@
 // The program, over the world that it is handed.
-ghost use Rattle.std.specs.Prelude.{◌≡◌, ◌≢◌, ◌<◌, ◌⊎◌, List, ℕ, [], ◌∷◌, ◌++◌, length, Some, IfSome, Contains};
+ghost use Rattle.std.specs.Prelude.{◌≡◌, ◌≢◌, ◌<◌, ◌⊎◌, ⊤, List, ℕ, [], ◌∷◌, ◌++◌, length, Some, IfSome, Contains};
 ghost use Rattle.flow_defs.specs.Jobs.{segments_needed, tasks};
 ghost use Rattle.flow_defs.specs.Lines.{lines};
 ghost use Rattle.flow_defs.specs.Tables.{table_text};
@@ -14,7 +14,7 @@ ghost use Rattle.job_text.specs.Words.{IsGen, IsSelfRun, IsInspect};
 ghost use Rattle.job_text.specs.declared.words.RunOptions.{RunOptions};
 ghost use Rattle.job_cli.specs.Held.{TellsLast};
 ghost use Rattle.job_cli.specs.Inspects.{HasNoneToShow, IsKept};
-ghost use Rattle.job_cli.specs.Run.{NamesAnyRun, NamesCommand, NamesJob, HasChain, HasDone, HasDoneInPart, HasPool, HasToldOverCredit, EndsWith, IsHindered, IsNoJob, IsTold, PassesLimit, TellsJob, TellsRun, AreWithinLimits};
+ghost use Rattle.job_cli.specs.Run.{NamesCommand, NamesJob, StartsJob, HasChain, HasDone, HasDoneInPart, HasPool, HasToldOverCredit, EndsWith, IsHindered, IsNoJob, IsTold, PassesLimit, TellsJob, TellsRun, AreWithinLimits};
 ghost use Rattle.job_cli.specs.Sources.{TellsSources};
 ghost use Rattle.job_cli.specs.Scripts.{NamesScript, HasEnough, IsNoScript, IsScriptWith, PassesScriptLimit, TellsScript};
 ghost use Rattle.job_cli.specs.SelfRuns.{HasFunctions, LacksFunction};
@@ -32,17 +32,18 @@ use std::sync::Wait;
 use std::thread::Threads;
 
 /// Does the command that the words are, and answers the status with which the program ends: 0 done,
-/// 2 the words are no command, 3 the text is no job's or no script's, 4 a fault of an input, 5 one of the keeper, 6 one of a link, which
-/// never comes over links in memory, 7 one of the output, 8 the keeper holds an image where a job is to start, or none to show, 10 a limit is passed, 11 more came on a channel than its credit allows, 12 another fault of
-/// a connection's other end, 70 want of memory. With another status than 0, `err` gets one line that tells of the
+/// 2 the words are no command, 3 the text is no job's or no script's, or a function of the job of `selfrun` is lacking, 4 a fault of an
+/// input, 5 one of the keeper, 6 one of a link, which never comes over links in memory, 7 one of the output, 8 the keeper holds an image
+/// where a job is to start, or none to show, or bytes that are no image of its number, 10 a limit is passed, 11 more came on a channel than
+/// its credit allows, 12 another fault of a connection's other end, 70 want of memory. With another status than 0, `err` gets one line that tells of the
 /// fault.
 ///
 /// A run does all tasks of its job at once, each in a thread of its own where threads can be made, and reads its
-/// sources at once, in pieces. The tasks are joined by links in memory. Its memory grows with the keys, the longest
-/// line and what the stages give for it, and with the pool of segments; the order in which tasks come to their turns
-/// changes nothing in what is printed. Its checkpoints are taken in line, and their images go to the keeper, the last one with
-/// the whole table. A script is held whole, with all replies to it, and so are the lines that are
-/// made of a seed and the image that is shown.
+/// sources at once, in pieces. The tasks are joined by links in memory. Its memory grows with the pool of segments, the longest line and
+/// what the stages give for it, the keys, of which an image has a copy, and in each task with the changes of sender since the last
+/// checkpoint; the order in which tasks come to their turns changes nothing in what is printed. Its checkpoints are taken in line, and their
+/// images go to the keeper, the last one with the whole table. A script is held whole, with all replies to it, and so are the lines that
+/// are made of a seed, twice by `selfrun`, and the image that is shown.
 pub fn top<R: Threads + Wait + Sync, F: Files, K: Keeper + Send, O: Sink, E: Sink>(
     rt: &R,
     alloc: Global,
@@ -88,11 +89,11 @@ where
     ensures input { result ≡ 4 → HasRisen (F.faults files.old) (F.faults files.new) }
     ensures output { result ≡ 7 → HasRisen (O.faults out.old) (O.faults out.new) }
 
-    // A keeper's fault comes only where its count rose. Behind what it holds it keeps the spellings of some images, those of a run, and
-    // nothing else of it changes.
+    // A keeper's fault comes only where its count rose. Behind the images that it holds it gets the spellings of some, and none where no job
+    // may start.
     ensures keeper { result ≡ 5 → HasRisen (K.faults keeper.old) (K.faults keeper.new) }
     ensures kept { (images : List Image) × HasKept (K.images keeper.old) (K.images keeper.new) images }
-    ensures kept_else { (NamesAnyRun words.now.items → ⊥) → K.images keeper.new ≡ K.images keeper.old }
+    ensures kept_else { (StartsJob words.now.items (kinds functions.now) (F.contents files.old) (K.images keeper.old) (λ job. ⊤) → ⊥) → K.images keeper.new ≡ K.images keeper.old }
 
     // Whatever the status, and whatever the order in which tasks and loops came to their turns: the images that a run stored are a chain
     // from the start on, each the plain machine's successor of the one before it by the takes recorded in it, and nothing is in flight at

@@ -166,3 +166,39 @@ returns-in_err-table-clause-keeper g c =
     let risen : status_of passed.0 ≡ 5 → HasRisen (g.K.Keeper.faults c.args.keeper.now) (g.K.Keeper.faults c.table_by_exchange.new.keeper) =
     λ five. risen_since (g.K.Keeper.faults c.args.keeper.now) (g.K.Keeper.faults c.refuse_held.new.keeper) (g.K.Keeper.faults c.table_by_exchange.new.keeper) c.refuse_held.ensures.never_falls (c.in_err-table.ensures.keeper (ap status_of same ∙ five)) in
     subst (λ r. IfErr r (λ (f : Fault). status_of f ≡ 5 → HasRisen (g.K.Keeper.faults c.args.keeper.now) (g.K.Keeper.faults c.table_by_exchange.new.keeper))) (sym passed.1) risen
+
+pub returns-in_err-table-clause-kept_else : goal.returns-in_err-table-clause-kept_else
+returns-in_err-table-clause-kept_else g c = λ words is_run none.
+    let functions = kinds c.args.functions.now in
+    let contents = g.F.Files.contents c.args.files.now in
+    let held = g.K.Keeper.images c.args.keeper.now in
+    let job = c.in_ok-job.job in
+    absurd (none (
+      c.in_ok-refuse_held.ensures.none,
+      of_enough words functions contents held c.args.name.now c.args.options is_run c.in_ok-text.text.items job (λ j. ⊤)
+          c.in_ok-text.ensures.told c.in_ok-text.ensures.fits (subst (λ text. first_fault functions text ≡ None) c.as_slice.ensures c.in_ok-job.ensures.clear) (subst (λ text. IsJobText functions text job) c.as_slice.ensures c.in_ok-job.ensures.job) c.in_ok-check_pool.ensures.enough tt,
+    ))
+
+pub returns-in_err-table_text-clause-kept_else : goal.returns-in_err-table_text-clause-kept_else
+returns-in_err-table_text-clause-kept_else g c = λ words is_run none.
+    let functions = kinds c.args.functions.now in
+    let contents = g.F.Files.contents c.args.files.now in
+    let held = g.K.Keeper.images c.args.keeper.now in
+    let job = c.in_ok-job.job in
+    absurd (none (
+      c.in_ok-refuse_held.ensures.none,
+      of_enough words functions contents held c.args.name.now c.args.options is_run c.in_ok-text.text.items job (λ j. ⊤)
+          c.in_ok-text.ensures.told c.in_ok-text.ensures.fits (subst (λ text. first_fault functions text ≡ None) c.as_slice.ensures c.in_ok-job.ensures.clear) (subst (λ text. IsJobText functions text job) c.as_slice.ensures c.in_ok-job.ensures.job) c.in_ok-check_pool.ensures.enough tt,
+    ))
+
+pub returns-clause-kept_else : goal.returns-clause-kept_else
+returns-clause-kept_else g c = λ words is_run none.
+    let functions = kinds c.args.functions.now in
+    let contents = g.F.Files.contents c.args.files.now in
+    let held = g.K.Keeper.images c.args.keeper.now in
+    let job = c.in_ok-job.job in
+    absurd (none (
+      c.in_ok-refuse_held.ensures.none,
+      of_enough words functions contents held c.args.name.now c.args.options is_run c.in_ok-text.text.items job (λ j. ⊤)
+          c.in_ok-text.ensures.told c.in_ok-text.ensures.fits (subst (λ text. first_fault functions text ≡ None) c.as_slice.ensures c.in_ok-job.ensures.clear) (subst (λ text. IsJobText functions text job) c.as_slice.ensures c.in_ok-job.ensures.job) c.in_ok-check_pool.ensures.enough tt,
+    ))

@@ -84,7 +84,7 @@ pub returns-in-Run-clause-kept_else : goal.returns-in-Run-clause-kept_else
 returns-in-Run-clause-kept_else g c = λ none.
     let words = c.args.words.now.items in
     let is_run : IsRun words c.text.result.now c.in-Run.options = subst (λ (name : List ℕ). IsRun words name c.in-Run.options) (sym c.text.ensures) (subst (IsCommand words) c.in-Run.is c.in_ok-command.ensures.command) in
-    absurd (none (c.text.result.now, c.in-Run.options, is_run))
+    c.tally_text.ensures.kept_else words is_run none
 
 pub returns-in_err-command-clause-chain : goal.returns-in_err-command-clause-chain
 returns-in_err-command-clause-chain g c = λ options job bytes run tells. none_stored job (λ a. lines (bytes a)) options.every (g.K.Keeper.images c.args.keeper.now) (g.K.Keeper.images c.args.keeper.now) refl

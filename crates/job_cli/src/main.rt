@@ -4,36 +4,11 @@
 //! prints what is replied to each. Or runs a job over lines that are made of a seed, and prints what that comes
 //! to. Or shows the last image that a keeper holds.
 //!
-//! It stands on the crates of the machine, of the texts and of the exchange. `top` is the program over
-//! the world that it is handed; what it answers and writes is said by its contract, in the words of
-//! `specs/Run.antt`, `specs/Scripts.antt`, `specs/SelfRuns.antt` and `specs/Inspects.antt`. `main` hands it the real files, a
+//! It stands on `commands`, whose `top` is the program over the world that it is handed. `main` hands it the real files, a
 //! keeper in memory that holds nothing, the standard output and the output for errors.
 #![tactic(auto)]
 
-#[cfg(test)]
-mod checkpoint_tests;
-mod exchange;
-mod fault;
-mod held;
-#[cfg(test)]
-mod held_files;
-mod input;
-mod inputs;
-mod inspect;
-#[cfg(test)]
-mod inspect_tests;
-mod one_thread;
-mod output;
-mod program;
-mod run;
-mod script;
-mod selfrun;
-#[cfg(test)]
-mod slow_machine;
-#[cfg(test)]
-mod tests;
-mod top;
-
+use commands::program::run_program;
 use flow_defs::{ListOf, Word};
 use outside::{DirFiles, MemoryKeeper, StdSink};
 use std::process::ExitCode;
@@ -45,7 +20,7 @@ fn main(rt: HostRuntime) -> io::Result<ExitCode> {
     for word in env::args(&rt)?.skip(1) {
         words.push(Word::of(alloc, word.as_str())?)?;
     }
-    let status = program::run_program(
+    let status = run_program(
         &rt,
         alloc,
         &words,

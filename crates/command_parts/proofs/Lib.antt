@@ -1,0 +1,4 @@
+pub mod CountingLemmas
+pub mod Options
+pub mod SourceLemmas
+pub mod Written

@@ -1,0 +1,106 @@
+-- The sources of a job, one after another.
+use Rattle.std.proofs.Common.{◌≡◌, ℕ, zero, suc, ◌+◌, ◌<◌, ◌≤◌, List, [], ◌∷◌, ◌++◌, length, get_or, Option, Some, None, IfSome, refl, sym, ap, subst, ◌∙◌, arith, inl, inr, ◌⊎◌}
+use Rattle.std.proofs.lemmas.Bool.{cases_lt}
+use Rattle.std.specs.Prelude.{IsSome, slice_get}
+use Rattle.std.proofs.lemmas.Bool.{false≢true}
+use Rattle.std.proofs.lemmas.Option.{slice_get_within}
+use Rattle.std.specs.Option.{option_map_or}
+use Rattle.flow_defs.specs.Items.{Items}
+use Rattle.flow_defs.specs.declared.job.Job.{Job}
+use Rattle.flow_defs.specs.Lines.{lines}
+use Rattle.flow_defs.specs.Tables.{Values}
+use Rattle.plain_machine.specs.Worth.{concat_below}
+use Rattle.command_parts.specs.Counting.{add_lines}
+use Rattle.std.specs.Prelude.{⊤}
+use Rattle.job_plan.specs.declared.limits.TheConstants.{SOURCE_MAX}
+use Rattle.command_parts.specs.declared.input.InputFault.{InputFault}
+use Rattle.command_parts.specs.declared.input.InputFault.TheVariants.{Failed, TooBig, LongLine, Memory}
+use Rattle.command_parts.specs.Causes.{of_source}
+use Rattle.job_plan.specs.Limits.{HasLongLine, IsOverLimit}
+use Rattle.command_parts.specs.Sources.{source_name, IsSourceFault, AreInputsOf, HasFaulty}
+use Rattle.outside.specs.Faults.{HasRisen}
+use Rattle.command_parts.proofs.CountingLemmas.{lines_in_parts}
+
+found : {A : Type 0} (xs : List A) (i : ℕ) (x : A) → i < length xs → x ≡ get_or xs i x → slice_get xs i ≡ Some x
+found [] i x within is = absurd (omega (arith, within))
+found (y ∷ xs) zero x within is = ap Some (sym is)
+found (y ∷ xs) (suc i) x within is = found xs i x (omega (arith, within)) is
+
+-- the source at a place has the name that stands there
+pub name_at : (job : Job) (i : ℕ) (name : Items ℕ) → i < length job.sources.items → name ≡ get_or job.sources.items i name → source_name job i ≡ name.items
+name_at job i name within is = ap (λ f. option_map_or (λ (file : Items ℕ). file.items) f []) (found job.sources.items i name within is)
+
+module _ (contents : ℕ → Option (List ℕ)) where
+  -- one more source passes no limit
+  pub within_on : (i : ℕ) → ((b : ℕ) → b < i → IfSome (contents b) (λ bytes. IsOverLimit bytes → ⊥)) → IfSome (contents i) (λ bytes. IsOverLimit bytes → ⊥)
+      → (b : ℕ) → b < i + 1 → IfSome (contents b) (λ bytes. IsOverLimit bytes → ⊥)
+  within_on i before here b below = elim (cases_below b i below) [
+    | inl less ↦ before b less
+    | inr same ↦ subst (λ k. IfSome (contents k) (λ bytes. IsOverLimit bytes → ⊥)) (sym same) here
+  ]
+    where
+      cases_below : (b i : ℕ) → b < i + 1 → (b < i) ⊎ (b ≡ i)
+      cases_below b i below = elim (cases_lt b i) [ inl less ↦ inl less | inr more ↦ inr (omega arith) ]
+
+-- what comes of one more source's lines is counted
+pub counted_on : (job : Job) (start before after : Values) (bytes : ℕ → List ℕ) (i : ℕ)
+    → before ≡ add_lines job start (concat_below i (λ a. lines (bytes a))) → after ≡ add_lines job before (lines (bytes i))
+    → after ≡ add_lines job start (concat_below (i + 1) (λ a. lines (bytes a)))
+counted_on job start before after bytes i so_far here =
+    let next : suc i ≡ i + 1 = omega arith in
+    here ∙ ap (λ (t : Values). add_lines job t (lines (bytes i))) so_far
+    ∙ lines_in_parts job start (concat_below i (λ a. lines (bytes a))) (lines (bytes i))
+    ∙ ap (λ (k : ℕ). add_lines job start (concat_below k (λ a. lines (bytes a)))) next
+
+whatever : (o : Option (List ℕ)) → IfSome o (λ bytes. ⊤)
+whatever None = tt
+whatever (Some bytes) = tt
+
+-- the fault of a file is that of the source that names it
+pub fault_is : (job : Job) (contents : List ℕ → Option (List ℕ)) (a : ℕ) (fault : InputFault) → a < length job.sources.items
+    → (fault ≡ TooBig → IfSome (contents (source_name job a)) (λ bytes. SOURCE_MAX < length bytes))
+    → (fault ≡ LongLine → IfSome (contents (source_name job a)) (λ bytes. HasLongLine (lines bytes)))
+    → IsSourceFault job contents (of_source a fault)
+fault_is job contents a Failed inside big long = (inside, whatever (contents (source_name job a)))
+fault_is job contents a TooBig inside big long = (inside, big refl)
+fault_is job contents a LongLine inside big long = (inside, long refl)
+fault_is job contents a Memory inside big long = tt
+
+-- ---- the inputs of the sources
+
+-- what holds of the items of a list, each at its place, holds of those of the list with one more
+pub one_more : {S : Type 0} (P : ℕ → S → Type 0) (xs : List S) (x : S) → ((a : ℕ) (y : S) → slice_get xs a ≡ Some y → P a y) → P (length xs) x
+    → (a : ℕ) (y : S) → slice_get (xs ++ x ∷ []) a ≡ Some y → P a y
+one_more P [] x all here zero y is = subst (P 0) (same_some x y is) here
+  where
+    same_some : {S : Type 0} (x y : S) → Some x ≡ Some y → x ≡ y
+    same_some x y is = cc
+one_more P [] x all here (suc a) y is = absurd (cc)
+one_more P (z ∷ xs) x all here zero y is = all zero y is
+one_more P (z ∷ xs) x all here (suc a) y is = one_more (λ n. P (suc n)) xs x (λ n. all (suc n)) here a y is
+
+pub one_input_more : {S : Type 0} (left : S → Option (List ℕ)) (faults : S → ℕ) (job : Job) (contents : List ℕ → Option (List ℕ)) (inputs : List S) (input : S)
+    → AreInputsOf left faults job contents inputs → left input ≡ contents (source_name job (length inputs)) → faults input ≡ 0 → AreInputsOf left faults job contents (inputs ++ input ∷ [])
+one_input_more left faults job contents inputs input told tells fresh =
+    one_more (λ a (s : _). (left s ≡ contents (source_name job a)) × (faults s ≡ 0)) inputs input told (tells, fresh)
+
+-- a count that has risen has risen since before, and later
+pub risen_since : (a b c : ℕ) → a ≤ b → HasRisen b c → HasRisen a c
+risen_since a b c before risen = elim risen [ inl more ↦ inl (omega arith) | inr full ↦ inr full ]
+
+pub risen_still : (a b c : ℕ) → HasRisen a b → b ≤ c → HasRisen a c
+risen_still a b c risen later = elim risen [ inl more ↦ inl (omega arith) | inr full ↦ inr (omega arith) ]
+
+-- the faulty one of a list and one more is among the list, or is that one
+pub faulty_parts : {S : Type 0} (faults : S → ℕ) (xs : List S) (x : S) → HasFaulty faults (xs ++ x ∷ []) → HasFaulty faults xs ⊎ (0 < faults x)
+faulty_parts faults xs x faulty =
+    one_more (λ a (y : _). 0 < faults y → HasFaulty faults xs ⊎ (0 < faults x)) xs x (λ a y is above. inl (a, y, is, above)) (λ above. inr above) faulty.0 faulty.1 faulty.2 faulty.3
+
+-- an empty list has none that is faulty
+pub no_faulty : {S : Type 0} (faults : S → ℕ) (xs : List S) → (0 < length xs → ⊥) → HasFaulty faults xs → ⊥
+no_faulty faults xs none faulty = none (let inside = slice_get_within xs faulty.0 faulty.1 faulty.2 in omega (arith, inside))
+
+-- what is none is not some
+pub not_some : {A : Type 0} (o : Option A) → o ≡ None → IsSome o → ⊥
+not_some None is some = false≢true some
+not_some (Some x) is some = cc

@@ -1,0 +1,7 @@
+pub mod Causes
+pub mod Counting
+pub mod FaultTexts
+pub mod Faults
+pub mod Front
+pub mod Held
+pub mod Sources

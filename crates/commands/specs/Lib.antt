@@ -1,0 +1,3 @@
+pub mod Run
+pub mod SelfRuns
+pub mod TextFaults

@@ -1,0 +1,347 @@
+// The images that runs leave with a keeper.
+use crate::inspect_tests::{LAST, SHOWN};
+use crate::slow_machine::{Records, follows, lines_of};
+use crate::tests::{files, sink, words_of};
+use channel_state::read_image;
+use commands::program::run_program;
+use flow_defs::{Image, Job, ListOf};
+use job_text::read_grammar;
+use outside::{Kept, MemoryKeeper, MemorySink};
+use std::alloc::{AllocError, Global};
+use std::process::Abort;
+use std::sync::Wait;
+use std::test::Fail;
+use std::thread::Threads;
+
+const COUNT: &str = "source in\naggregate count 1\n";
+
+const TWO: &str = "source in\nsource in2\naggregate count 1\n";
+
+// A keeper of no image, whose put of this number fails, if it is not 0.
+fn empty_keeper(alloc: Global, failing: u64) -> Result<MemoryKeeper, AllocError> {
+    let mut puts = ListOf::new(alloc);
+    if failing > 0 {
+        puts.push(failing)?;
+    }
+    Ok(MemoryKeeper::new(ListOf::new(alloc), ListOf::new(alloc), puts))
+}
+
+// What a command leaves: its status, and what both outputs got.
+#[derive(Drop)]
+struct Left {
+    status: u8,
+    out: MemorySink,
+    err: MemorySink,
+}
+
+// Does a command over these files and this keeper.
+fn left_by<R: Threads + Wait + Sync>(
+    rt: &R,
+    alloc: Global,
+    command: &str,
+    job: &str,
+    first: &str,
+    second: &str,
+    keeper: &mut MemoryKeeper,
+) -> Result<Left, AllocError> {
+    let words = words_of(alloc, command)?;
+    let mut files = files(alloc, job, first.as_bytes(), second, 7, 0)?;
+    let mut out = sink(alloc, 10_000)?;
+    let mut err = sink(alloc, 100)?;
+    let status = run_program(rt, alloc, &words, &mut files, keeper, &mut out, &mut err);
+    Ok(Left { status, out, err })
+}
+
+#[test]
+fn a_run_keeps_the_image_of_the_formats_page(rt: HostRuntime) -> Result<(), Fail> {
+    let alloc = rt.alloc();
+    let mut keeper = empty_keeper(alloc, 0)?;
+    let left = left_by(&rt, alloc, "run job", COUNT, "a\nb\na\n", "", &mut keeper)?;
+    assert_eq!(rt; left.status, 0);
+    assert_eq!(rt; left.out.bytes(), b"a\t2\nb\t1\n".as_slice());
+    assert_eq!(rt; keeper.images().len(), 1);
+    for kept in keeper.images() {
+        assert_eq!(rt; kept.number, 1);
+        assert_eq!(rt; kept.bytes.as_slice(), LAST);
+    }
+    let left = left_by(&rt, alloc, "inspect", COUNT, "", "", &mut keeper)?;
+    assert_eq!(rt; left.status, 0);
+    assert_eq!(rt; left.out.bytes(), SHOWN.as_bytes());
+    let left = left_by(&rt, alloc, "run job", COUNT, "c\n", "", &mut keeper)?;
+    assert_eq!(rt; left.status, 8);
+    assert_eq!(rt; left.err.bytes(), b"keeper holds image 1\n".as_slice());
+    assert_eq!(rt; keeper.images().len(), 1);
+    Ok(())
+}
+
+// Whether one of the lines of the text is this.
+fn has_line(text: &[u8], line: &str) -> bool {
+    text.split(|b| *b == b'\n')
+        .any(|other| other == line.as_bytes())
+}
+
+#[test]
+fn each_aggregate_task_has_its_table(rt: HostRuntime) -> Result<(), Fail> {
+    let alloc = rt.alloc();
+    let mut keeper = empty_keeper(alloc, 0)?;
+    let job = "source in\naggregate count 2\n";
+    let left = left_by(&rt, alloc, "run job", job, "a\nb\na\n", "", &mut keeper)?;
+    assert_eq!(rt; left.status, 0);
+    let left = left_by(&rt, alloc, "inspect", job, "", "", &mut keeper)?;
+    assert!(rt; has_line(left.out.bytes(), "table 0 keys 1"));
+    assert!(rt; has_line(left.out.bytes(), "table 1 keys 1"));
+    Ok(())
+}
+
+// In each row: which put of the keeper fails, the status and line that are then told, and how many images it has.
+#[test]
+fn a_put_that_fails_ends_the_run(rt: HostRuntime) -> Result<(), Fail> {
+    let alloc = rt.alloc();
+    for (failing, status, told, images) in [
+        (0, 0, "", 3),
+        (1, 5, "keeper fault\n", 0),
+        (2, 5, "keeper fault\n", 1),
+        (3, 5, "keeper fault\n", 2),
+    ] {
+        let mut keeper = empty_keeper(alloc, failing)?;
+        let words = "run job --every 2";
+        let left = left_by(&rt, alloc, words, COUNT, "a\nb\na\n", "", &mut keeper)?;
+        assert_eq!(rt; left.status, status);
+        assert_eq!(rt; left.err.bytes(), told.as_bytes());
+        assert_eq!(rt; keeper.images().len(), images);
+    }
+    Ok(())
+}
+
+// The images that the keeper holds.
+fn images_of(alloc: Global, kept: &[Kept]) -> Result<ListOf<Image>, Fail> {
+    let mut images = ListOf::new(alloc);
+    for one in kept {
+        let Ok(image) = read_image(alloc, one.bytes.as_slice()) else {
+            return Err("no image".into());
+        };
+        images.push(image)?;
+    }
+    Ok(images)
+}
+
+#[test]
+fn checkpoints_stand_so_many_lines_apart(rt: HostRuntime) -> Result<(), Fail> {
+    let alloc = rt.alloc();
+    for (command, job, first, second, offsets, ended) in [
+        (
+            "run job",
+            COUNT,
+            "",
+            "",
+            [[0, 0]].as_slice(),
+            [[true, true]].as_slice(),
+        ),
+        (
+            "run job --every 5",
+            COUNT,
+            "",
+            "",
+            &[[0, 0], [0, 0]],
+            &[[true, true], [true, true]],
+        ),
+        (
+            "run job --every 2 --mode inline",
+            TWO,
+            "a\nb\nc\nd\n",
+            "e\n",
+            &[[2, 1], [4, 1], [4, 1], [4, 1]],
+            &[[false, true], [false, true], [true, true], [true, true]],
+        ),
+        (
+            "run job",
+            TWO,
+            "a\nb\nc\nd\n",
+            "e",
+            &[[4, 1]],
+            &[[true, true]],
+        ),
+    ] {
+        let mut keeper = empty_keeper(alloc, 0)?;
+        let left = left_by(&rt, alloc, command, job, first, second, &mut keeper)?;
+        assert_eq!(rt; left.status, 0, "{command}");
+        let images = images_of(alloc, keeper.images())?;
+        assert_eq!(rt; images.as_slice().len(), offsets.len(), "{command}");
+        let mut number: u64 = 0;
+        for (image, (offsets, ended)) in images.as_slice().iter().zip(offsets.iter().zip(ended)) {
+            number = number.saturating_add(1);
+            assert_eq!(rt; image.number, number, "{command}");
+            for (have, want) in image.offsets.as_slice().iter().zip(offsets) {
+                assert_eq!(rt; have, want, "{command}");
+            }
+            for (have, want) in image.ended.as_slice().iter().zip(ended) {
+                assert_eq!(rt; have, want, "{command}");
+            }
+            assert_eq!(rt;
+                image.final_one,
+                number == keeper.images().len() as u64,
+                "{command}"
+            );
+            for bytes in image.saved_in.as_slice() {
+                assert_eq!(rt; bytes.as_slice(), b"".as_slice(), "{command}");
+            }
+            for bytes in image.saved_out.as_slice() {
+                assert_eq!(rt; bytes.as_slice(), b"".as_slice(), "{command}");
+            }
+        }
+    }
+    Ok(())
+}
+
+// How many images a run over so many lines of each source stores.
+fn images_wanted(lines: &[Records], every: u64) -> u64 {
+    let mut wanted: u64 = 1;
+    if every > 0 {
+        for records in lines {
+            let ended = records.as_slice().len() as u64 / every;
+            wanted = wanted.max(ended.saturating_add(2));
+        }
+    }
+    wanted
+}
+
+// Runs a job with checkpoints behind so many lines, or with one where that is 0, and compares each image that was stored
+// with the plain machine's.
+fn compare_chain<R: Threads + Wait + Sync + Abort>(
+    rt: &R,
+    alloc: Global,
+    text: &str,
+    job: &Job,
+    lines: &[Records],
+    first: &str,
+    second: &str,
+    every: u64,
+) -> Result<(), Fail> {
+    let command = format!(in alloc; "run job --segment 64 --every {every}")?;
+    let words = if every == 0 {
+        "run job"
+    } else {
+        command.as_str()
+    };
+    let interval = if every == 0 { None } else { Some(every) };
+    let mut keeper = empty_keeper(alloc, 0)?;
+    let left = left_by(rt, alloc, words, text, first, second, &mut keeper)?;
+    assert_eq!(rt; left.status, 0, "`{text}` {every}");
+    let images = images_of(alloc, keeper.images())?;
+    let images = images.as_slice();
+    assert_eq!(rt;
+        images.len() as u64,
+        images_wanted(lines, every),
+        "`{text}` {every}"
+    );
+    let mut old = None;
+    for image in images {
+        assert!(rt;
+            follows(alloc, job, lines, interval, old, image)?,
+            "`{text}` {every}: {}",
+            image.number
+        );
+        old = Some(image);
+    }
+    assert!(rt;
+        images.iter().last().is_some_and(|image| image.final_one),
+        "`{text}` {every}"
+    );
+    Ok(())
+}
+
+// The same with each interval up to 3, and with none.
+fn compare_chains<R: Threads + Wait + Sync + Abort>(
+    rt: &R,
+    alloc: Global,
+    text: &str,
+    first: &str,
+    second: &str,
+) -> Result<(), Fail> {
+    let Ok(job) = read_grammar(alloc, text.as_bytes()) else {
+        return Err("no job".into());
+    };
+    let mut lines = ListOf::new(alloc);
+    for name in job.sources.as_slice() {
+        let bytes = if name.as_slice() == b"in".as_slice() {
+            first
+        } else {
+            second
+        };
+        lines.push(lines_of(alloc, bytes.as_bytes())?)?;
+    }
+    for every in 0..4 {
+        compare_chain(
+            rt,
+            alloc,
+            text,
+            &job,
+            lines.as_slice(),
+            first,
+            second,
+            every,
+        )?;
+    }
+    Ok(())
+}
+
+const FIRST: &str = "a b\nan,a a,c\n\nb a=7 b\na=18446744073709551615 a=2";
+
+const SECOND: &str = "a,t,o\nb\nab=3 a c d ab=1 a\n";
+
+#[test]
+fn images_of_jobs_without_stages_are_the_plain_machines(rt: HostRuntime) -> Result<(), Fail> {
+    let alloc = rt.alloc();
+    for (job, first, second) in [
+        (COUNT, "", ""),
+        (COUNT, FIRST, ""),
+        (TWO, "\n\n", "b"),
+        ("source in\naggregate sum 3\n", FIRST, ""),
+        (
+            "source in\nsource in2\nsource in\naggregate max 2\n",
+            FIRST,
+            SECOND,
+        ),
+    ] {
+        compare_chains(&rt, alloc, job, first, second)?;
+    }
+    Ok(())
+}
+
+#[test]
+fn images_of_jobs_with_a_stage_are_the_plain_machines(rt: HostRuntime) -> Result<(), Fail> {
+    let alloc = rt.alloc();
+    for (job, first, second) in [
+        (
+            "source in\nstage words 3 rebalance\naggregate count 2\n",
+            FIRST,
+            "",
+        ),
+        (
+            "source in2\nstage upper 2 rebalance\naggregate count 3\n",
+            "",
+            SECOND,
+        ),
+        (
+            "source in\nsource in2\nstage keep:a 2 forward\naggregate max 2\n",
+            FIRST,
+            SECOND,
+        ),
+    ] {
+        compare_chains(&rt, alloc, job, first, second)?;
+    }
+    Ok(())
+}
+
+#[test]
+fn images_of_jobs_with_stages_are_the_plain_machines(rt: HostRuntime) -> Result<(), Fail> {
+    let alloc = rt.alloc();
+    for job in [
+        "source in\nsource in2\nstage keep:a 2 rebalance\nstage field:2 2 hash\naggregate count 2\n",
+        "source in\nsource in2\nstage upper 2 forward\nstage words 3 hash\naggregate count 1\n",
+        "source in\nsource in2\nstage words 3 rebalance\nstage upper 3 forward\nstage keep:A 2 hash\naggregate sum 2\n",
+    ] {
+        compare_chains(&rt, alloc, job, FIRST, SECOND)?;
+    }
+    Ok(())
+}

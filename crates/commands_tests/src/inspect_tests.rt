@@ -1,0 +1,108 @@
+// Keepers that hold an image, or none, when the program begins.
+use crate::tests::{files, sink, words_of};
+use commands::program::run_program;
+use flow_defs::{Bytes, ListOf};
+use outside::{Kept, MemoryKeeper};
+use std::alloc::{AllocError, Global};
+use std::test::Fail;
+
+const JOB: &str = "source in\naggregate count 1\n";
+
+// The last image of a run of this job over `a`, `b` and `a`, 121 bytes.
+pub const LAST: &[u8] =
+    b"FLWI\x01\0\0\0\0\0\0\0\x01\x01\0\0\0\x1csource in\naggregate count 1\n\0\0\0\0\0\0\0\x03\x01\0\0\0\0\0\0\0\x03\0\0\0\x02\0\0\0\x01a\0\0\0\0\0\0\0\x02\0\0\0\x01b\0\0\0\0\0\0\0\x01\0\0\0\x01\0\0\0\0\0\0\0\0\0\0\0\x03\0\0\0\0\0\0\0\0IWLF";
+
+// What is shown of it.
+pub const SHOWN: &str =
+    "image 1\nlast yes\nsource 0 offset 3 ended yes\ntask 0 0 emitted 3\ntable 0 keys 2\ntake 1 0 runs 1 records 3\nchannel 0 0 0 in 0 out 0\n";
+
+// A keeper of the image of these bytes under this number, or of none where the number is 0. Its call of this number
+// fails, if that is not 0.
+fn keeper(
+    alloc: Global,
+    number: u64,
+    bytes: &[u8],
+    failing: u64,
+) -> Result<MemoryKeeper, AllocError> {
+    let mut calls = ListOf::new(alloc);
+    if failing > 0 {
+        calls.push(failing)?;
+    }
+    let mut images = ListOf::new(alloc);
+    if number == 0 {
+        return Ok(MemoryKeeper::new(images, calls, ListOf::new(alloc)));
+    }
+    let bytes = Bytes::of(alloc, bytes)?;
+    images.push(Kept { number, bytes })?;
+    Ok(MemoryKeeper::new(images, calls, ListOf::new(alloc)))
+}
+
+#[test]
+fn what_the_keeper_holds_is_shown_or_refused(rt: HostRuntime) -> Result<(), Fail> {
+    let alloc = rt.alloc();
+    for (words, number, bytes, failing, status, got, told) in [
+        ("inspect", 1, LAST, 0, 0, SHOWN, ""),
+        ("inspect", 0, LAST, 0, 8, "", "keeper holds no image\n"),
+        ("inspect", 1, LAST, 1, 5, "", "keeper fault\n"),
+        ("inspect", 1, LAST, 2, 0, SHOWN, ""),
+        (
+            "inspect",
+            1,
+            &LAST[..120],
+            0,
+            8,
+            "",
+            "image 1: not an image at 117\n",
+        ),
+        (
+            "inspect",
+            1,
+            &LAST[..4],
+            0,
+            8,
+            "",
+            "image 1: not an image at 4\n",
+        ),
+        ("inspect", 2, LAST, 0, 8, "", "image 2: not an image at 5\n"),
+        ("run job", 1, LAST, 0, 8, "", "keeper holds image 1\n"),
+        ("run job", 7, &LAST[..4], 0, 8, "", "keeper holds image 7\n"),
+        ("run job", 0, LAST, 1, 5, "", "keeper fault\n"),
+        ("run job", 0, LAST, 2, 0, "a\t2\nb\t1\n", ""),
+        (
+            "run job --pool 3",
+            1,
+            LAST,
+            0,
+            10,
+            "",
+            "pool has 3, needs 4\n",
+        ),
+        ("gen 1 0", 1, LAST, 1, 0, "w807 w25\n", ""),
+    ] {
+        let mut keeper = keeper(alloc, number, bytes, failing)?;
+        let held = keeper.images().len();
+        let line = words_of(alloc, words)?;
+        let mut files = files(alloc, JOB, b"a\nb\na\n", "", 9, 0)?;
+        let mut out = sink(alloc, 1000)?;
+        let mut err = sink(alloc, 100)?;
+        let left = run_program(
+            &rt,
+            alloc,
+            &line,
+            &mut files,
+            &mut keeper,
+            &mut out,
+            &mut err,
+        );
+        assert_eq!(rt; left, status, "`{words}`: {told}");
+        assert_eq!(rt; out.bytes(), got.as_bytes(), "`{words}`: {told}");
+        assert_eq!(rt; err.bytes(), told.as_bytes(), "`{words}`: {told}");
+        let more = if got.starts_with("a\t") { 1 } else { 0 };
+        assert_eq!(rt;
+            keeper.images().len(),
+            held.saturating_add(more),
+            "`{words}`: {told}"
+        );
+    }
+    Ok(())
+}

@@ -1,0 +1,3 @@
+pub mod ExchangeLemmas
+pub mod SameJobs
+pub mod StoringLemmas

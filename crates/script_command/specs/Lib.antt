@@ -1,0 +1,2 @@
+pub mod ScriptParts
+pub mod Scripts

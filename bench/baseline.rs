@@ -22,8 +22,11 @@ fn count(counts: &mut Counts, record: &[u8]) {
     }
 }
 
-fn each_line(path: &str, mut done_with: impl FnMut(&[u8])) -> io::Result<()> {
-    let mut reader = BufReader::with_capacity(65_536, File::open(path)?);
+fn open(path: &str) -> io::Result<BufReader<File>> {
+    Ok(BufReader::with_capacity(65_536, File::open(path)?))
+}
+
+fn each_line(mut reader: impl BufRead, mut done_with: impl FnMut(&[u8])) -> io::Result<()> {
     let mut line = Vec::new();
     while reader.read_until(b'\n', &mut line)? > 0 {
         if line.last() == Some(&b'\n') {
@@ -84,7 +87,7 @@ fn task_of(word: &[u8], tasks: usize) -> usize {
 }
 
 // One source, two tasks that cut words, and two that count, each in a thread of its own.
-fn count_in_threads(path: &str) -> io::Result<Counts> {
+fn count_in_threads(lines: impl BufRead) -> io::Result<Counts> {
     let (line_ends, word_tasks): (Vec<_>, Vec<_>) = (0..2).map(|_| sync_channel(BUFFERS)).unzip();
     let (word_ends, count_tasks): (Vec<_>, Vec<_>) = (0..2).map(|_| sync_channel(BUFFERS)).unzip();
     thread::scope(|scope| {
@@ -108,7 +111,7 @@ fn count_in_threads(path: &str) -> io::Result<Counts> {
             .collect();
         let mut writer = Writer::new(line_ends);
         let mut next = 0;
-        each_line(path, |line| {
+        each_line(lines, |line| {
             writer.write(next % 2, line);
             next += 1;
         })?;
@@ -117,19 +120,41 @@ fn count_in_threads(path: &str) -> io::Result<Counts> {
     })
 }
 
+// So many lines of a seed, as the command `gen` makes them.
+fn generated(lines: u64, mut seed: u64) -> Vec<u8> {
+    let mut text = Vec::new();
+    for _ in 0..lines {
+        seed = seed.wrapping_mul(6_364_136_223_846_793_005).wrapping_add(1_442_695_040_888_963_407);
+        writeln!(text, "w{} w{}", (seed >> 33) % 1_000, (seed >> 48) % 100).unwrap();
+    }
+    text
+}
+
 // `baseline lines FILE` counts lines, `baseline words FILE` the words between their spaces, and
-// `baseline exchange FILE` those words by five threads.
+// `baseline exchange FILE` those words by five threads. `baseline gen LINES SEED` prints lines of a seed,
+// and `baseline selfrun LINES SEED` counts the words of such lines by five threads and prints how many
+// lines, records and keys there were.
 fn main() -> io::Result<()> {
     let mut args = env::args().skip(1);
-    let what = args.next().ok_or(io::ErrorKind::InvalidInput)?;
-    let path = args.next().ok_or(io::ErrorKind::InvalidInput)?;
+    let mut word = || args.next().ok_or(io::Error::from(io::ErrorKind::InvalidInput));
+    let (what, path) = (word()?, word()?);
     let mut counts = Counts::new();
-    match what.as_str() {
-        "lines" => each_line(&path, |line| count(&mut counts, line))?,
-        "words" => each_line(&path, |line| words(line).for_each(|word| count(&mut counts, word)))?,
-        _ => counts = count_in_threads(&path)?,
-    }
     let mut out = BufWriter::new(io::stdout().lock());
+    match what.as_str() {
+        "lines" => each_line(open(&path)?, |line| count(&mut counts, line))?,
+        "words" => each_line(open(&path)?, |line| words(line).for_each(|word| count(&mut counts, word)))?,
+        "exchange" => counts = count_in_threads(open(&path)?)?,
+        made => {
+            let number = |word: &str| word.parse().map_err(io::Error::other);
+            let text = generated(number(&path)?, number(&word()?)?);
+            if made == "gen" {
+                return out.write_all(&text);
+            }
+            let counts = count_in_threads(&text[..])?;
+            writeln!(out, "lines {path}\nrecords {}\nkeys {}", counts.values().sum::<u64>(), counts.len())?;
+            return out.flush();
+        }
+    }
     for (key, count) in counts.into_iter().collect::<BTreeMap<_, _>>() {
         out.write_all(&key)?;
         writeln!(out, "\t{count}")?;

@@ -1,10 +1,8 @@
 // Counts what an aggregate task takes.
-ghost use Rattle.std.specs.Prelude.{◌≡◌, ◌≢◌, ◌⊎◌, ◌<◌, [], suc, OnOk};
+ghost use Rattle.std.specs.Prelude.{◌≡◌, ◌≢◌, ◌⊎◌, ◌<◌, [], suc};
 ghost use Rattle.turn_cell.specs.Passes.{seen};
 ghost use Rattle.flow_defs.specs.declared.cause.PeerFault.TheVariants.{Barrier};
 ghost use Rattle.flow_defs.specs.Jobs.{last_edge, tasks};
-ghost use Rattle.flow_defs.specs.Records.{IsShort};
-ghost use Rattle.flow_defs.specs.Tables.{add};
 ghost use Rattle.stage_fns.specs.Meets.{MeetsAgg};
 ghost use Rattle.record_writer.specs.Writers.{ways_into};
 ghost use Rattle.input_gate.specs.Gates.{IsNew};
@@ -15,11 +13,11 @@ ghost use Rattle.aggregate_task.specs.Aggregates.{HasAccount};
 
 use crate::acks::Acks;
 use crate::checkpoint::{Ending, take_checkpoint};
-use flow_defs::{AggKind, Bytes, Cause, ListOf, PeerFault};
+use flow_defs::{Cause, ListOf, PeerFault};
 use input_gate::Gate;
 use job_plan::Counts;
 use stage_fns::AggFn;
-use std::alloc::{AllocError, Global};
+use std::alloc::Global;
 use std::sync::Wait;
 use task_taking::laws::what_was_taken_was_given;
 use task_taking::{Taken, TaskTaking};
@@ -79,7 +77,7 @@ fn count_all<G: Gate, R: Wait>(
                 if last {
                     return out_of_order(taking);
                 }
-                match count_line(&mut counts, acks.job.agg, f, line) {
+                match counts.add(acks.job.agg, f, line) {
                     Ok(()) => {}
                     Err(_) => return ending(Cause::Memory, taking),
                 }
@@ -103,18 +101,6 @@ fn count_all<G: Gate, R: Wait>(
         }
     }
     unreachable!()
-}
-
-// Adds a record to the counts.
-fn count_line(counts: &mut Counts, agg: AggKind, f: &AggFn, line: Bytes) -> Result<(), AllocError>
-    requires meets { MeetsAgg agg (AggFn.pre f.now) (AggFn.post f.now) }
-    requires short { IsShort line.items }
-    ensures { OnOk result (counts.new ≡ add agg counts.old line.items) }
-{
-    match counts.add(agg, f, line.as_slice()) {
-        Ok(()) => Ok(()),
-        Err(AllocError) => Err(AllocError),
-    }
 }
 
 // Ends with what was taken behind the last snapshot.

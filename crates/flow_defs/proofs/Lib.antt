@@ -3,4 +3,5 @@ pub mod LineLemmas
 pub mod PartLemmas
 pub mod NumberLemmas
 pub mod TableLemmas
+pub mod RowLemmas
 pub mod Examples

@@ -1,5 +1,5 @@
 // Where records go, and what the segments of a job's channels come to.
-ghost use Rattle.std.specs.Prelude.{◌≡◌, ◌+◌, ◌*◌, ◌<◌, ◌≤◌};
+ghost use Rattle.std.specs.Prelude.{◌≡◌, ◌+◌, ◌*◌, ◌%◌, ◌<◌, ◌≤◌};
 ghost use Rattle.flow_defs.specs.Jobs.{IsJob, segments_needed, width};
 ghost use Rattle.flow_defs.specs.Routes.{fnv, receiver};
 
@@ -13,9 +13,24 @@ pub fn route(exchange: Exchange, key: &[u8], emitted: u64, from: u32, ways: u32)
     ensures { result ≡ receiver exchange key.now emitted from ways }
 {
     match exchange {
-        Exchange::Hash => (hash(key) % ways as u64) as u32,
-        Exchange::Rebalance => (emitted % ways as u64) as u32,
+        Exchange::Hash => remainder(hash(key), ways),
+        Exchange::Rebalance => remainder(emitted, ways),
         Exchange::Forward => from,
+    }
+}
+
+// What is left of a number when it is divided by so many. A division by a number that stands here takes a few
+// cycles, and by any other some forty.
+fn remainder(number: u64, ways: u32) -> u32
+    requires { 1 ≤ ways }
+    ensures { result ≡ number % ways }
+{
+    match ways {
+        1 => (number % 1) as u32,
+        2 => (number % 2) as u32,
+        4 => (number % 4) as u32,
+        8 => (number % 8) as u32,
+        _ => (number % ways as u64) as u32,
     }
 }
 

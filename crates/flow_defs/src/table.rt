@@ -43,7 +43,7 @@ impl Model for Table {
 }
 
 impl Table {
-    ghost use Rattle.flow_defs.specs.Rows.{row_pairs};
+    ghost use Rattle.flow_defs.specs.Rows.{row_pairs, HasDistinctKeys};
 
     /// A table of no keys, which takes no memory.
     pub fn new(alloc: Global) -> Self
@@ -53,6 +53,16 @@ impl Table {
             alloc,
             rows: Vec::new(alloc),
         }
+    }
+
+    /// The table of these rows, which may stand in any order. They are sorted in place, so it takes no
+    /// memory and copies no key. For n rows it compares some n log n times.
+    pub fn of_rows(alloc: Global, mut rows: Vec<Row>) -> Self
+        requires { HasDistinctKeys (row_pairs rows.items) }
+        ensures { result ≡ map.from_entries (row_pairs rows.items) }
+    {
+        rows.sort_unstable_by(|a, b| key_order(a, b.key.as_slice()));
+        Table { alloc, rows }
     }
 
     /// The rows, in the byte order of their keys.

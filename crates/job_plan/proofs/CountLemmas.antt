@@ -1,19 +1,17 @@
 -- A map's entries, seen as a finite map under the bytes of their keys.
-use Rattle.std.proofs.Common.{◌≡◌, ℕ, Bool, true, false, cond, List, [], ◌∷◌, Option, Some, None, Ordering, Less, Equal, Greater, refl, sym, ap, ◌∙◌}
+use Rattle.std.proofs.Common.{◌≡◌, ℕ, Bool, true, false, cond, List, [], ◌∷◌, ◌++◌, append_assoc, Some, Ordering, Less, Equal, Greater, refl, sym, ap, ◌∙◌}
 use Rattle.std.specs.Prelude.{nat_eq}
-use Rattle.std.specs.Option.{option_or}
 use Rattle.std.specs.Ordering.{is_eq, eq_by_cmp}
-use Rattle.std.specs.Cmp.{IsEquivalence}
-use Rattle.std.specs.Cmp.Lexicographic.{pointwise, slice_cmp, texts_ties, same_text, nat_list_eq_equiv}
-use Rattle.std.specs.Ordering.{nat_cmp}
-use Rattle.std.specs.FinMap.{find, get, insert, empty, from_entries, same_map, get-from_entries, get-insert, get-empty, slice_cmp-IsAntisymmetric, nat_cmp-IsAntisymmetric}
+use Rattle.std.specs.Cmp.Lexicographic.{pointwise, texts_ties, same_text, nat_list_eq_equiv}
+use Rattle.std.specs.FinMap.{find, get, insert, from_entries, same_map, get-from_entries, get-insert, slice_cmp-IsAntisymmetric, nat_cmp-IsAntisymmetric}
 use Rattle.std.specs.Map.{lookup, set_value, keys_of}
 use Rattle.std.specs.List.{AllByRecursion, IsDistinct}
-use Rattle.std.specs.List.Sorted.{IsStrictlySortedBy}
-use Rattle.std.proofs.lemmas.Cmp.{nat_list_cmp_total, eq_by_cmp_equiv, on_equiv}
-use Rattle.std.proofs.lemmas.Map.Keys.{sorted_head, sorted_tail, IsDistinct-head, IsDistinct-tail}
+use Rattle.std.proofs.lemmas.Cmp.{nat_list_cmp_total, eq_by_cmp_equiv}
+use Rattle.std.proofs.lemmas.List.{map-append}
 use Rattle.flow_defs.specs.Items.{Items}
-use Rattle.flow_defs.specs.Tables.{Values, key_cmp}
+use Rattle.flow_defs.specs.declared.table.Row.{Row}
+use Rattle.flow_defs.specs.Rows.{row_pair, row_pairs, HasDistinctKeys}
+use Rattle.flow_defs.specs.Tables.{key_cmp}
 use Rattle.job_plan.specs.Entries.{entry_pairs}
 
 abbrev pub Key : Type 0
@@ -22,14 +20,6 @@ Key = Items ℕ
 -- the key has these bytes
 abbrev pub has_bytes : List ℕ → Key → Bool
 has_bytes bytes key = pointwise nat_eq bytes key.items
-
--- how two keys stand to each other in a map in order
-abbrev pub in_order : Key → Key → Ordering
-in_order k l = slice_cmp nat_cmp k.items l.items
-
--- two keys are the same where their bytes are
-pub same_bytes : IsEquivalence (λ (k l : Key). pointwise nat_eq k.items l.items)
-same_bytes = on_equiv (λ (k : Key). k.items) nat_list_eq_equiv
 
 -- a look-up in the entries is one in their pairs
 pub lookup-entry_pairs : (entries : List (Key × ℕ)) (bytes : List ℕ) → lookup (has_bytes bytes) entries ≡ find key_cmp bytes (entry_pairs entries)
@@ -111,77 +101,23 @@ set_in entries bytes old n found =
 pub get-entries : (entries : List (Key × ℕ)) (bytes : List ℕ) → get (from_entries {R = key_cmp} (entry_pairs entries)) bytes ≡ lookup (has_bytes bytes) entries
 get-entries entries bytes = get-from_entries nat_list_cmp_total (entry_pairs entries) bytes ∙ sym (lookup-entry_pairs entries bytes)
 
--- ---- entries in order, put into a table one after another
+-- ---- entries, copied into rows one after another
 
--- the table with each entry put in, from the first on
-abbrev pub all_put : Values → List (List ℕ × ℕ) → Values
-all_put table [] = table
-all_put table (e ∷ entries) = all_put (insert table e.0 e.1) entries
-
--- a key below all others is none of them
-none_of : (key : Key) (bytes : List ℕ) (entries : List (Key × ℕ)) → bytes ≡ key.items → AllByRecursion (λ k. in_order key k ≡ Less) (keys_of entries) → find key_cmp bytes (entry_pairs entries) ≡ None
-none_of key bytes [] same below = refl
-none_of key bytes (e ∷ entries) same below =
-    ap (λ (o : Ordering). cond (is_eq o) (Some e.1) (find key_cmp bytes (entry_pairs entries))) (ap (λ (k : List ℕ). key_cmp k e.0.items) same ∙ below.0)
-    ∙ none_of key bytes entries same below.1
-
-or_none : (found : Option ℕ) → option_or found None ≡ found
-or_none None = refl
-or_none (Some n) = refl
-
-get-all_put : (entries : List (Key × ℕ)) (table : Values) → IsStrictlySortedBy in_order (keys_of entries) → (bytes : List ℕ)
-    → get (all_put table (entry_pairs entries)) bytes ≡ option_or (find key_cmp bytes (entry_pairs entries)) (get table bytes)
-get-all_put [] table sorted bytes = refl
-get-all_put (e ∷ entries) table sorted bytes =
-    get-all_put entries (insert table e.0.items e.1) (sorted_tail in_order e.0 (keys_of entries) sorted) bytes
-    ∙ ap (option_or (find key_cmp bytes (entry_pairs entries))) (get-insert nat_list_cmp_total table e.0.items e.1 bytes)
-    ∙ elim (eq_by_cmp key_cmp bytes e.0.items) as (λ b. eq_by_cmp key_cmp bytes e.0.items ≡ b → option_or (find key_cmp bytes (entry_pairs entries)) (cond b (Some e.1) (get table bytes)) ≡ option_or (cond b (Some e.1) (find key_cmp bytes (entry_pairs entries))) (get table bytes)) [
-      | true ↦ λ here. ap (λ (r : Option ℕ). option_or r (Some e.1)) (none_of e.0 bytes entries (exact bytes e.0.items here) (sorted_head in_order e.0 (keys_of entries) sorted))
-      | false ↦ λ _. refl
-    ] refl
-
--- entries in order that find what other entries do make the same map
-pub all_put_is : (sorted others : List (Key × ℕ)) → IsStrictlySortedBy in_order (keys_of sorted) → ((key : Key) → lookup (λ k. is_eq (in_order key k)) sorted ≡ lookup (has_bytes key.items) others)
-    → all_put empty (entry_pairs sorted) ≡ from_entries (entry_pairs others)
-all_put_is sorted others ordered same =
-    same_map nat_list_cmp_total (slice_cmp-IsAntisymmetric nat_cmp-IsAntisymmetric) _ _ (λ bytes.
-    get-all_put sorted empty ordered bytes
-    ∙ ap (option_or (find key_cmp bytes (entry_pairs sorted))) (get-empty key_cmp bytes)
-    ∙ or_none (find key_cmp bytes (entry_pairs sorted))
-    ∙ sym (by_order bytes sorted) ∙ same (key_of bytes) ∙ lookup-entry_pairs others bytes
-    ∙ sym (get-from_entries nat_list_cmp_total (entry_pairs others) bytes))
+-- entries whose keys are not the same are rows whose keys are distinct
+pub distinct_pairs : (entries : List (Key × ℕ)) → IsDistinct (λ (k l : Key). pointwise nat_eq k.items l.items) (keys_of entries) → HasDistinctKeys (entry_pairs entries)
+unfolding IsDistinct
+distinct_pairs [] distinct = tt
+distinct_pairs (e ∷ entries) distinct = (apart e.0 entries distinct.0, distinct_pairs entries distinct.1)
   where
-    by_order : (bytes : List ℕ) (entries : List (Key × ℕ)) → lookup (λ (k : Key). is_eq (slice_cmp nat_cmp bytes k.items)) entries ≡ find key_cmp bytes (entry_pairs entries)
-    by_order bytes [] = refl
-    by_order bytes (e ∷ entries) = ap (cond (eq_by_cmp key_cmp bytes e.0.items) (Some e.1)) (by_order bytes entries)
+    apart : (key : Key) (entries : List (Key × ℕ)) → AllByRecursion (λ (k : Key). pointwise nat_eq key.items k.items ≡ false) (keys_of entries) → AllByRecursion (λ (l : List ℕ). eq_by_cmp key_cmp key.items l ≡ false) (keys_of (entry_pairs entries))
+    apart key [] differ = tt
+    apart key (e ∷ entries) differ = (sym (texts_ties key.items e.0.items) ∙ differ.0, apart key entries differ.1)
 
--- ---- entries with distinct keys, put in one after another
-
-abbrev same_key : Key → Key → Bool
-same_key k l = pointwise nat_eq k.items l.items
-
-none_apart : (key : Key) (entries : List (Key × ℕ)) → AllByRecursion (λ k. same_key key k ≡ false) (keys_of entries) → find key_cmp key.items (entry_pairs entries) ≡ None
-none_apart key [] apart = refl
-none_apart key (e ∷ entries) apart =
-    ap (λ b. cond b (Some e.1) (find key_cmp key.items (entry_pairs entries))) (sym (texts_ties key.items e.0.items) ∙ apart.0)
-    ∙ none_apart key entries apart.1
-
-get-all_put_distinct : (entries : List (Key × ℕ)) (table : Values) → IsDistinct same_key (keys_of entries) → (bytes : List ℕ)
-    → get (all_put table (entry_pairs entries)) bytes ≡ option_or (find key_cmp bytes (entry_pairs entries)) (get table bytes)
-get-all_put_distinct [] table distinct bytes = refl
-get-all_put_distinct (e ∷ entries) table distinct bytes =
-    get-all_put_distinct entries (insert table e.0.items e.1) (IsDistinct-tail same_key e.0 (keys_of entries) distinct) bytes
-    ∙ ap (option_or (find key_cmp bytes (entry_pairs entries))) (get-insert nat_list_cmp_total table e.0.items e.1 bytes)
-    ∙ elim (eq_by_cmp key_cmp bytes e.0.items) as (λ b. eq_by_cmp key_cmp bytes e.0.items ≡ b → option_or (find key_cmp bytes (entry_pairs entries)) (cond b (Some e.1) (get table bytes)) ≡ option_or (cond b (Some e.1) (find key_cmp bytes (entry_pairs entries))) (get table bytes)) [
-      | true ↦ λ here. ap (λ (r : Option ℕ). option_or r (Some e.1)) (ap (λ l. find key_cmp l (entry_pairs entries)) (exact bytes e.0.items here) ∙ none_apart e.0 entries (IsDistinct-head same_key e.0 (keys_of entries) distinct))
-      | false ↦ λ _. refl
-    ] refl
-
--- put into an empty table they make the map of them all
-pub all_put_distinct : (entries : List (Key × ℕ)) → IsDistinct same_key (keys_of entries) → all_put empty (entry_pairs entries) ≡ from_entries (entry_pairs entries)
-all_put_distinct entries distinct =
-    same_map nat_list_cmp_total (slice_cmp-IsAntisymmetric nat_cmp-IsAntisymmetric) _ _ (λ bytes.
-    get-all_put_distinct entries empty distinct bytes
-    ∙ ap (option_or (find key_cmp bytes (entry_pairs entries))) (get-empty key_cmp bytes)
-    ∙ or_none (find key_cmp bytes (entry_pairs entries))
-    ∙ sym (get-from_entries nat_list_cmp_total (entry_pairs entries) bytes))
+-- one more entry is copied
+pub one_copied : (rows : List Row) (row : Row) (left more : List (Key × ℕ)) (key : Key) (n : ℕ) → left ≡ (key, n) ∷ more → row_pair row ≡ (key.items, n)
+    → row_pairs (rows ++ row ∷ []) ++ entry_pairs more ≡ row_pairs rows ++ entry_pairs left
+one_copied rows row left more key n steps is =
+    ap (λ (l : List (List ℕ × ℕ)). l ++ entry_pairs more) (map-append row_pair rows (row ∷ []))
+    ∙ append_assoc (row_pairs rows) (row_pair row ∷ []) (entry_pairs more)
+    ∙ ap (λ (e : List ℕ × ℕ). row_pairs rows ++ e ∷ entry_pairs more) is
+    ∙ ap (λ (es : List (Key × ℕ)). row_pairs rows ++ entry_pairs es) (sym steps)

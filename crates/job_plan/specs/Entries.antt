@@ -11,6 +11,6 @@ entry_pair entry = (entry.0.items, entry.1)
 abbrev pub entry_pairs : List (Items ℕ × ℕ) → List (List ℕ × ℕ)
 entry_pairs entries = map entry_pair entries
 
--- The entries as a finite map.
-abbrev pub map_of : List (Items ℕ × ℕ) → Values
-map_of entries = from_entries (entry_pairs entries)
+-- The finite map from the bytes of the keys to the counts.
+abbrev pub entry_values : List (Items ℕ × ℕ) → Values
+entry_values entries = from_entries (entry_pairs entries)

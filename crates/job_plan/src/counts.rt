@@ -1,16 +1,16 @@
 // The running count of records, by the function of the aggregate.
-ghost use Rattle.std.specs.Prelude.{◌≡◌, ◌≤◌, length, take, IfOk, OnOk, OnErr};
+ghost use Rattle.std.specs.Prelude.{◌≡◌, ◌≤◌, true, false, length, take, None, IfOk, OnOk, OnErr};
 ghost use Rattle.std.specs.FinMap as map;
 ghost use Rattle.flow_defs.specs.Aggregates.{key_of, value_of, folded};
 ghost use Rattle.flow_defs.specs.Records.{IsShort};
 ghost use Rattle.flow_defs.specs.Tables.{add};
+ghost use Rattle.job_plan.specs.Entries.{entry_values};
 ghost use Rattle.stage_fns.specs.Meets.{MeetsAgg};
-ghost use Rattle.job_plan.specs.Entries.{map_of};
 
-use flow_defs::{AggKind, Bytes, Table};
+use flow_defs::{AggKind, Bytes, Row, Table};
 use stage_fns::AggFn;
 use std::alloc::{AllocError, Global};
-use std::collections::{BTreeMap, HashMap};
+use std::collections::HashMap;
 use std::marker::Model;
 
 /// The values of keys so far. Contracts see a finite map.
@@ -18,7 +18,7 @@ use std::marker::Model;
 pub struct Counts {
     alloc: Global,
     numbers: HashMap<Bytes, u64>,
-    // The key that was looked up last. It is kept so that a look-up takes no memory.
+    // The front of a record that was looked up last. It is kept so that a look-up takes no memory.
     key: Bytes,
 }
 
@@ -27,13 +27,13 @@ impl Model for Counts {
     ghost use Rattle.std.specs.Coded.{coded_ℕ, coded_list};
     ghost use Rattle.std.specs.FinMap as map;
     ghost use Rattle.flow_defs.specs.Tables.{Values};
-    ghost use Rattle.job_plan.specs.Entries.{entry_pairs};
+    ghost use Rattle.job_plan.specs.Entries.{entry_values};
 
     ghost Value = { Values };
 
     ghost coded = { map.code (coded_list coded_ℕ) coded_ℕ };
 
-    ghost view = { λ c. map.from_entries (entry_pairs c.numbers.entries) };
+    ghost view = { λ c. entry_values c.numbers.entries };
 }
 
 impl Counts {
@@ -48,65 +48,116 @@ impl Counts {
         }
     }
 
-    /// Adds one more record by the function of the aggregate. A key that came before takes no memory,
-    /// once a longer one was looked up.
-    pub fn add(&mut self, agg: AggKind, f: &AggFn, record: &[u8]) -> Result<(), AllocError>
+    /// Adds one more record by the function of the aggregate. A record that is its own key, as in a count, is
+    /// kept as that key where it is new, so that only the map takes memory. Where the key is but a front of
+    /// the record, a new one is copied, and one that came before takes no memory, once a longer one was
+    /// looked up.
+    pub fn add(&mut self, agg: AggKind, f: &AggFn, record: Bytes) -> Result<(), AllocError>
+        requires meets { MeetsAgg agg (AggFn.pre f.now) (AggFn.post f.now) }
+        requires short { IsShort «record».items }
+        ensures ok { OnOk result (self.new ≡ add agg self.old «record».items) }
+        ensures err { OnErr result (self.new ≡ self.old) }
+    {
+        let (len, first) = answer(agg, f, record.as_slice(), 0);
+        if len == record.as_slice().len() {
+            return self.add_whole(agg, f, record, first);
+        }
+        self.add_front(agg, f, record.as_slice(), len, first)
+    }
+
+    // Adds a record that is its own key. The key's value is `first` where it is new.
+    fn add_whole(
+        &mut self,
+        agg: AggKind,
+        f: &AggFn,
+        record: Bytes,
+        first: u64,
+    ) -> Result<(), AllocError>
+        requires meets { MeetsAgg agg (AggFn.pre f.now) (AggFn.post f.now) }
+        requires short { IsShort «record».items }
+        requires key { «record».items ≡ key_of agg «record».items }
+        requires first { first ≡ folded agg 0 (value_of agg «record».items) }
+        ensures ok { OnOk result (self.new ≡ add agg self.old «record».items) }
+        ensures err { OnErr result (self.new ≡ self.old) }
+    {
+        if add_known(&mut self.numbers, &record, agg, f, record.as_slice()) {
+            return Ok(());
+        }
+        put_new(&mut self.numbers, record, first)
+    }
+
+    // Adds a record whose key is its front of this length. The key's value is `first` where it is new.
+    fn add_front(
+        &mut self,
+        agg: AggKind,
+        f: &AggFn,
+        record: &[u8],
+        len: usize,
+        first: u64,
+    ) -> Result<(), AllocError>
         requires meets { MeetsAgg agg (AggFn.pre f.now) (AggFn.post f.now) }
         requires short { IsShort «record».now }
+        requires within { len ≤ length «record».now }
+        requires key { take len «record».now ≡ key_of agg «record».now }
+        requires first { first ≡ folded agg 0 (value_of agg «record».now) }
         ensures ok { OnOk result (self.new ≡ add agg self.old «record».now) }
         ensures err { OnErr result (self.new ≡ self.old) }
     {
-        let (len, first) = answer(agg, f, record, 0);
         self.key.clear();
         self.key.extend(&record[..len])?;
-        match self.numbers.get_mut(&self.key) {
-            Some(number) => {
-                *number = answer(agg, f, record, *number).1;
-                Ok(())
-            }
-            None => {
-                let key = Bytes::of(self.alloc, self.key.as_slice())?;
-                self.numbers.insert(key, first)?;
-                Ok(())
-            }
+        if add_known(&mut self.numbers, &self.key, agg, f, record) {
+            return Ok(());
         }
+        let key = Bytes::of(self.alloc, self.key.as_slice())?;
+        put_new(&mut self.numbers, key, first)
     }
 
-    /// A copy of the counts as a table, as a snapshot holds it. It costs what copying the counts and
-    /// `into_table` do.
+    /// The counts as a table, as a snapshot holds it. Each key is copied once, and the rows are sorted
+    /// in place: for n keys it compares some n log n times.
     pub fn to_table(&self) -> Result<Table, AllocError>
         ensures { IfOk result (λ table. table ≡ self.now) }
     {
-        let copy = Counts {
-            alloc: self.alloc,
-            numbers: copy_of(self.alloc, &self.numbers)?,
-            key: Bytes::new(self.alloc),
-        };
-        copy.into_table()
-    }
-
-    /// The counts as a table, whose rows are made in one pass over std's ordered map.
-    pub fn into_table(self) -> Result<Table, AllocError>
-        ensures { IfOk result (λ table. table ≡ self) }
-    {
-        let sorted: BTreeMap<Bytes, u64> = self.numbers.into_iter().collect(self.alloc)?;
-        let mut table = Table::new(self.alloc);
-        for (key, number) in sorted {
-            table.set(key.as_slice(), number)?;
+        let mut rows = Vec::with_capacity(self.alloc, self.numbers.len())?;
+        for (key, number) in self.numbers.iter() {
+            let key = Bytes::of(self.alloc, key.as_slice())?;
+            let value = *number;
+            rows.push(Row { key, value })?;
         }
-        Ok(table)
+        Ok(Table::of_rows(self.alloc, rows))
     }
 }
 
-// A copy of the values of keys.
-fn copy_of(alloc: Global, numbers: &HashMap<Bytes, u64>) -> Result<HashMap<Bytes, u64>, AllocError>
-    ensures { IfOk result (λ copy. map_of copy.entries ≡ map_of numbers.now.entries) }
+// Folds the record onto the value that its key has, and answers whether it has one.
+fn add_known(
+    numbers: &mut HashMap<Bytes, u64>,
+    key: &Bytes,
+    agg: AggKind,
+    f: &AggFn,
+    record: &[u8],
+) -> bool
+    requires meets { MeetsAgg agg (AggFn.pre f.now) (AggFn.post f.now) }
+    requires short { IsShort «record».now }
+    requires key { key.now.items ≡ key_of agg «record».now }
+    ensures known { result ≡ true → entry_values numbers.new.entries ≡ add agg (entry_values numbers.old.entries) «record».now }
+    ensures new { result ≡ false → map.get (entry_values numbers.old.entries) key.now.items ≡ None }
+    ensures unchanged { result ≡ false → numbers.new.entries ≡ numbers.old.entries }
 {
-    let mut copy = HashMap::new(alloc);
-    for (key, number) in numbers.iter() {
-        copy.insert(Bytes::of(alloc, key.as_slice())?, *number)?;
+    match numbers.get_mut(key) {
+        Some(number) => {
+            *number = answer(agg, f, record, *number).1;
+            true
+        }
+        None => false,
     }
-    Ok(copy)
+}
+
+// Gives a key this value.
+fn put_new(numbers: &mut HashMap<Bytes, u64>, key: Bytes, value: u64) -> Result<(), AllocError>
+    ensures ok { OnOk result (entry_values numbers.new.entries ≡ map.insert (entry_values numbers.old.entries) key.items value) }
+    ensures err { OnErr result (numbers.new.entries ≡ numbers.old.entries) }
+{
+    numbers.insert(key, value)?;
+    Ok(())
 }
 
 // What the function of an aggregate of this kind answers.

@@ -63,7 +63,7 @@ pub fn tally_on_one_thread<F: Files>(
         functions,
     };
     let counts = count_sources(files, &plan)?;
-    let table = counts.into_table()?;
+    let table = counts.to_table()?;
     Ok(table)
 }
 

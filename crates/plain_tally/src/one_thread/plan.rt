@@ -72,7 +72,7 @@ impl Plan<'_> {
         Ok(given)
     }
 
-    // Counts a record that comes to the aggregate.
+    // Counts a copy of a record that comes to the aggregate.
     fn count(&self, counts: &mut Counts, record: &[u8]) -> Result<(), AllocError>
         requires function { HasAgg (kinds self.now.functions.now) self.now.job.now.agg }
         requires short { IsShort «record».now }
@@ -81,6 +81,7 @@ impl Plan<'_> {
         let Some(f) = self.functions.agg(self.job.agg) else {
             unreachable!()
         };
-        counts.add(self.job.agg, f, record)
+        let copy = Bytes::of(self.alloc, record)?;
+        counts.add(self.job.agg, f, copy)
     }
 }

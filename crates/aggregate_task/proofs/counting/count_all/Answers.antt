@@ -23,8 +23,8 @@ returns-then-last-clause-account g c =
     let job = acks.job.now in
     line_ended gate gate' c.loop-item.taking taking' c.loop-item.counts acks c.loop-item.last v.way c.what_was_taken_was_given.ensures.taken c.in-Ok-Line.line c.out_of_order.result.takes.items c.out_of_order.result.cause c.out_of_order.ensures.1 (took_here gate gate' c.loop-item.taking taking' c.loop-item.counts acks c.loop-item.last v.way c.in-Ok-Line.field-0 (taken.Line c.in-Ok-Line.line) c.in-Ok-Line.field-0-is (c.in-Ok-Line.ensures.took job (last_edge job) acks.index v.way.groups v.way.took v.way.taken)) (inr (c.if-last.true, c.out_of_order.ensures.0))
 
-pub returns-in-Err-count_line-clause-account : goal.returns-in-Err-count_line-clause-account
-returns-in-Err-count_line-clause-account g c =
+pub returns-in-Err-add-clause-account : goal.returns-in-Err-add-clause-account
+returns-in-Err-add-clause-account g c =
     let v = c.loop-item.invariant in
     let gate = g.G.Gate.account c.loop-item.gate in
     let gate' = g.G.Gate.account c.next-in-loop-item.new.gate in
@@ -45,7 +45,7 @@ loop-item-preserved-in-Ok g c =
       gate = (c.next-in-loop-item.ensures.gate.0 ∙ v.gate.0, c.next-in-loop-item.ensures.gate.1 ∙ v.gate.1);
       own = v.own;
       same = v.same;
-      way = counts_line gate gate' c.loop-item.taking taking' c.loop-item.counts acks c.loop-item.last v.way c.in-Ok-Line.line c.count_line.new.counts (took_here gate gate' c.loop-item.taking taking' c.loop-item.counts acks c.loop-item.last v.way c.in-Ok-Line.field-0 (taken.Line c.in-Ok-Line.line) c.in-Ok-Line.field-0-is (c.in-Ok-Line.ensures.took job (last_edge job) acks.index v.way.groups v.way.took v.way.taken)) (goes_here gate gate' c.loop-item.taking taking' c.loop-item.counts acks c.loop-item.last v.way c.in-Ok-Line.field-0 (taken.Line c.in-Ok-Line.line) c.in-Ok-Line.field-0-is c.in-Ok-Line.ensures.goes_on).0 c.if-last.false c.in-Ok.ensures;
+      way = counts_line gate gate' c.loop-item.taking taking' c.loop-item.counts acks c.loop-item.last v.way c.in-Ok-Line.line c.add.new.self (took_here gate gate' c.loop-item.taking taking' c.loop-item.counts acks c.loop-item.last v.way c.in-Ok-Line.field-0 (taken.Line c.in-Ok-Line.line) c.in-Ok-Line.field-0-is (c.in-Ok-Line.ensures.took job (last_edge job) acks.index v.way.groups v.way.took v.way.taken)) (goes_here gate gate' c.loop-item.taking taking' c.loop-item.counts acks c.loop-item.last v.way c.in-Ok-Line.field-0 (taken.Line c.in-Ok-Line.line) c.in-Ok-Line.field-0-is c.in-Ok-Line.ensures.goes_on).0 c.if-last.false c.in-Ok.ensures.ok;
     }
 
 pub returns-then-last-2-clause-account : goal.returns-then-last-2-clause-account

@@ -54,7 +54,7 @@ decimal_whole most (suc n) small within =
       | inr other ↦ cond-false _ (Some 0) (number_of most (decimal (suc n))) other ∙ read
     ]
 
-digits_operand : (word : List ℕ) (n : ℕ) → all_ascii_digits word ≡ true → digits_value 10 word ≡ n → 1 ≤ n → is_operand word ≡ true
+pub digits_operand : (word : List ℕ) (n : ℕ) → all_ascii_digits word ≡ true → digits_value 10 word ≡ n → 1 ≤ n → is_operand word ≡ true
 digits_operand [] n digits value low = absurd (omega (arith, value, low))
 digits_operand (b ∷ word) n digits value low =
     let here = and_parts _ _ (and_parts _ _ digits).0 in

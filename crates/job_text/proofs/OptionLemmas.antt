@@ -79,7 +79,7 @@ taken given more word value words is = by_option (option_behind given word) refl
     by_option (Err kind) option_is is = absurd (cc)
     by_option (Ok option) option_is is = by_value option option_is (with_value given option value) refl is
 
-no_value : (given more : Given) (word : List ℕ) → given_from given (word ∷ []) ≡ Ok more → ⊥
+pub no_value : (given more : Given) (word : List ℕ) → given_from given (word ∷ []) ≡ Ok more → ⊥
 no_value given more word is = by_option (option_behind given word) is
   where
     by_option : (o : Result RunOption UsageKind) → and_then {B = Given} o (λ option. Err MissingValue) ≡ Ok more → ⊥

@@ -1,8 +1,9 @@
 //! What the program is told in texts: the words of its command line, and the text of a job.
 //!
-//! It stands on flow_defs for the types of a job, and on stage_fns for the kinds that have a
-//! function. Contracts say of each text whether it is in its grammar and what it then means, and else
-//! which fault is its first; the program decides nothing else by a text.
+//! It stands on flow_defs for the types of a job, on stage_fns for the kinds that have a function, and
+//! on the crate `clap`, which takes the values out of the words of an accepted command. Contracts say
+//! of each text whether it is in its grammar and what it then means, and else which fault is its
+//! first; the program decides nothing else by a text.
 #![tactic(auto)]
 
 mod fault;
@@ -11,6 +12,7 @@ mod known;
 pub mod laws;
 mod lines;
 mod options;
+mod parser;
 mod shape;
 mod spelling;
 #[cfg(test)]

@@ -1,12 +1,16 @@
-// The options of `run`, read from the left.
-ghost use Rattle.std.specs.Prelude.{◌≡◌, ok_or};
+// The options of `run`: which words are its options, and the values that are found of them.
+ghost use Rattle.std.specs.Prelude.{◌≡◌, ok_or, option_and_then};
+ghost use Rattle.std.specs.Result.{result_err};
+ghost use Rattle.clap.specs.Words.{first_value, found_of};
 ghost use Rattle.job_text.specs.declared.words.UsageKind.TheVariants.{BadValue};
 ghost use Rattle.job_text.specs.JobFaults.{number_of};
-ghost use Rattle.job_text.specs.Words.{stray_fault, option_of, number_within, nothing, was_given, with_value, option_behind, with_defaults, run_options};
+ghost use Rattle.job_text.specs.Words.{stray_fault, option_of, number_within, nothing, was_given, with_value, option_behind, run_fault};
+ghost use Rattle.job_text.specs.Matches.{options_by};
 
 use crate::spelling::{long_number_of, number_of};
 use crate::words::has_dash;
 use crate::{RunOptions, UsageKind};
+use clap::ArgMatches;
 use flow_defs::Word;
 
 // An option of `run`.
@@ -83,22 +87,11 @@ impl Given {
         }
         Ok(given)
     }
-
-    // The options of a run to which this was given.
-    fn with_defaults(&self) -> RunOptions
-        ensures { result ≡ with_defaults self.now }
-    {
-        RunOptions {
-            every: self.every,
-            segment: self.segment.unwrap_or(32_768),
-            pool: self.pool.unwrap_or(2_048),
-        }
-    }
 }
 
-// The options of a run that these words behind its operand give.
-pub(crate) fn run_options(words: &[Word]) -> Result<RunOptions, UsageKind>
-    ensures { result ≡ run_options words.now }
+// Whether the words behind the operand of `run` are its options.
+pub(crate) fn check_options(words: &[Word]) -> Result<(), UsageKind>
+    ensures { result_err result ≡ run_fault words.now }
 {
     let mut given = Given::nothing();
     let mut rest = words;
@@ -110,7 +103,32 @@ pub(crate) fn run_options(words: &[Word]) -> Result<RunOptions, UsageKind>
         given = given.with(option, value.text())?;
         rest = behind;
     }
-    Ok(given.with_defaults())
+    Ok(())
+}
+
+// The options of a run, of which these values were found.
+pub(crate) fn options_in(found: &ArgMatches<'_>) -> RunOptions
+    ensures { result ≡ options_by (first_value (found_of found.now)) }
+{
+    RunOptions {
+        every: number_in(found, "every", 1_099_511_627_776),
+        segment: size_in(found, "segment", 64, 65_536).unwrap_or(32_768),
+        pool: size_in(found, "pool", 1, 16_384).unwrap_or(2_048),
+    }
+}
+
+// The number from 1 to the most that was found by the name.
+fn number_in(found: &ArgMatches<'_>, name: &str, most: u64) -> Option<u64>
+    ensures { result ≡ option_and_then (number_of most) (first_value (found_of found.now) name.now) }
+{
+    long_number_of(found.get_str(name)?.as_bytes(), most)
+}
+
+// The number from the least, which is not 0, to the most that was found by the name.
+fn size_in(found: &ArgMatches<'_>, name: &str, least: u32, most: u32) -> Option<u32>
+    ensures { result ≡ option_and_then (number_within least most) (first_value (found_of found.now) name.now) }
+{
+    number_within(found.get_str(name)?, least, most).ok()
 }
 
 // The option that the word names.

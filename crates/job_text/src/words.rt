@@ -1,11 +1,14 @@
 // Reads the words of a command line.
-ghost use Rattle.std.specs.Prelude.{◌≡◌, ◌↔◌, ◌⊎◌, ◌≤◌, ℕ, List, ◌∷◌, Option, Some, None, Err, IsTrue, IfOk, IfErr, MatchResult, codes, decimal};
+ghost use Rattle.std.specs.Prelude.{◌≡◌, ◌↔◌, ◌⊎◌, ◌≤◌, ℕ, List, ◌∷◌, Option, Some, None, Err, IsTrue, IfOk, IfErr, MatchResult, codes, decimal, option_and_then};
 ghost use Rattle.std.specs.Result.{result_err};
+ghost use Rattle.clap.specs.Words.{first_value, found_of};
 ghost use Rattle.job_text.specs.declared.words.WordFault.TheVariants.{Memory, Usage};
-ghost use Rattle.job_text.specs.Words.{IsRun, IsScript, NameLines, IsGen, IsSelfRun, IsInspect, IsCommand, HasRanges, IsUsage, has_dash, is_operand, operand_fault, number_fault, run_fault, no_options_fault, lines_fault, usage_fault};
+ghost use Rattle.job_text.specs.Words.{IsRun, IsScript, NameLines, IsGen, IsSelfRun, IsInspect, IsCommand, HasRanges, IsUsage, has_dash, is_operand, operand_fault, number_fault, run_fault, no_options_fault, lines_fault, usage_fault, whole_number};
 
-use crate::options::{run_options, stray_fault};
+use crate::options::{check_options, options_in, stray_fault};
+use crate::parser;
 use crate::spelling::whole_number;
+use clap::ArgMatches;
 use flow_defs::{ListOf, Word};
 use std::alloc::{AllocError, Global};
 use thiserror::Error;
@@ -85,6 +88,15 @@ impl From<AllocError> for WordFault {
     }
 }
 
+// What `clap` refuses of words that are accepted is told as want of memory.
+impl From<clap::Error> for WordFault {
+    ghost from_gives = { λ _ e. e ≡ Memory };
+
+    fn from(_: clap::Error) -> Self {
+        WordFault::Memory
+    }
+}
+
 impl From<UsageKind> for WordFault {
     ghost from_gives = { λ kind e. e ≡ Usage kind };
 
@@ -116,11 +128,11 @@ pub fn read_words(alloc: Global, words: &ListOf<Word>) -> Result<Command, WordFa
     } else if command.text() == "script" {
         read_script(alloc, words)
     } else if command.text() == "gen" {
-        read_gen(words)
+        read_gen(alloc, words)
     } else if command.text() == "selfrun" {
-        read_selfrun(words)
+        read_selfrun(alloc, words)
     } else if command.text() == "inspect" {
-        read_inspect(words)
+        read_inspect(alloc, words)
     } else {
         Err(UsageKind::UnknownCommand.into())
     }
@@ -131,9 +143,15 @@ fn read_run(alloc: Global, words: &[Word]) -> Result<Command, WordFault>
     ensures command { IfOk result (IsCommand (codes "run" ∷ words.now)) }
     ensures fault { IfErr result (λ told. IsUsage told (operand_fault run_fault words.now)) }
 {
-    let (job, behind) = operand(words)?;
-    let options = run_options(behind)?;
-    let job = Word::of(alloc, job.text())?;
+    let (_, behind) = operand(words)?;
+    check_options(behind)?;
+    let texts = parser::texts_of(alloc, words)?;
+    let found = parser::run(alloc, texts.as_slice())?;
+    let Some(job) = found.get_str("job") else {
+        unreachable!();
+    };
+    let job = Word::of(alloc, job)?;
+    let options = options_in(&found);
     Ok(Command::Run { job, options })
 }
 
@@ -142,55 +160,78 @@ fn read_script(alloc: Global, words: &[Word]) -> Result<Command, WordFault>
     ensures command { IfOk result (IsCommand (codes "script" ∷ words.now)) }
     ensures fault { IfErr result (λ told. IsUsage told (operand_fault no_options_fault words.now)) }
 {
-    let (file, behind) = operand(words)?;
+    let (_, behind) = operand(words)?;
     no_options(behind)?;
-    let file = Word::of(alloc, file.text())?;
+    let texts = parser::texts_of(alloc, words)?;
+    let found = parser::script(alloc, texts.as_slice())?;
+    let Some(file) = found.get_str("file") else {
+        unreachable!();
+    };
+    let file = Word::of(alloc, file)?;
     Ok(Command::Script { file })
 }
 
 // Reads the words behind `gen`.
-fn read_gen(words: &[Word]) -> Result<Command, WordFault>
+fn read_gen(alloc: Global, words: &[Word]) -> Result<Command, WordFault>
     ensures command { IfOk result (IsCommand (codes "gen" ∷ words.now)) }
     ensures fault { IfErr result (λ told. IsUsage told (lines_fault words.now)) }
 {
-    let (lines, seed) = lines_and_seed(words)?;
+    let (lines, seed) = lines_and_seed(alloc, "gen", words)?;
     Ok(Command::Gen { lines, seed })
 }
 
 // Reads the words behind `selfrun`.
-fn read_selfrun(words: &[Word]) -> Result<Command, WordFault>
+fn read_selfrun(alloc: Global, words: &[Word]) -> Result<Command, WordFault>
     ensures command { IfOk result (IsCommand (codes "selfrun" ∷ words.now)) }
     ensures fault { IfErr result (λ told. IsUsage told (lines_fault words.now)) }
 {
-    let (lines, seed) = lines_and_seed(words)?;
+    let (lines, seed) = lines_and_seed(alloc, "selfrun", words)?;
     Ok(Command::SelfRun { lines, seed })
 }
 
 // Reads the words behind `inspect`.
-fn read_inspect(words: &[Word]) -> Result<Command, WordFault>
+fn read_inspect(alloc: Global, words: &[Word]) -> Result<Command, WordFault>
     ensures command { IfOk result (IsCommand (codes "inspect" ∷ words.now)) }
     ensures fault { IfErr result (λ told. IsUsage told (no_options_fault words.now)) }
 {
     no_options(words)?;
+    let texts = parser::texts_of(alloc, words)?;
+    parser::inspect(alloc, texts.as_slice())?;
     Ok(Command::Inspect)
 }
 
 // How many lines are to be made, and of which seed, where the words behind a command say no more.
-fn lines_and_seed(words: &[Word]) -> Result<(u64, u64), UsageKind>
+fn lines_and_seed(alloc: Global, name: &str, words: &[Word]) -> Result<(u64, u64), WordFault>
     ensures { MatchResult result
         (λ made. (command : List ℕ) → NameLines command (command ∷ words.now) made.0 made.1)
-        (λ kind. lines_fault words.now ≡ Some kind) }
+        (λ told. IsUsage told (lines_fault words.now)) }
 {
-    let (lines, behind) = number_operand(words, LINES_MAX)?;
-    let (seed, behind) = number_operand(behind, u64::MAX)?;
+    let behind = number_operand(words, LINES_MAX)?;
+    let behind = number_operand(behind, u64::MAX)?;
     no_options(behind)?;
+    let texts = parser::texts_of(alloc, words)?;
+    let found = parser::lines(alloc, name, texts.as_slice())?;
+    let Some(lines) = number_in(&found, "lines", LINES_MAX) else {
+        unreachable!();
+    };
+    let Some(seed) = number_in(&found, "seed", u64::MAX) else {
+        unreachable!();
+    };
     Ok((lines, seed))
 }
 
-// The number up to the most that stands first, and the words behind it.
-fn number_operand(words: &[Word], most: u64) -> Result<(u64, &[Word]), UsageKind>
+// The number up to the most that was found by the name.
+fn number_in(found: &ArgMatches<'_>, name: &str, most: u64) -> Option<u64>
+    ensures { result
+        ≡ option_and_then (whole_number most) (first_value (found_of found.now) name.now) }
+{
+    whole_number(found.get_str(name)?.as_bytes(), most)
+}
+
+// The words behind a number up to the most, which stands first.
+fn number_operand(words: &[Word], most: u64) -> Result<&[Word], UsageKind>
     ensures { MatchResult result
-        (λ found. (words.now ≡ decimal found.0 ∷ found.1.now) × (found.0 ≤ most) × ((fault : List (List ℕ) → Option UsageKind) → number_fault most fault words.now ≡ fault found.1.now))
+        (λ behind. (n : ℕ) × (words.now ≡ decimal n ∷ behind.now) × (n ≤ most) × ((fault : List (List ℕ) → Option UsageKind) → number_fault most fault words.now ≡ fault behind.now))
         (λ kind. (fault : List (List ℕ) → Option UsageKind) → number_fault most fault words.now ≡ Some kind) }
 {
     let (word, behind) = match operand(words) {
@@ -198,7 +239,7 @@ fn number_operand(words: &[Word], most: u64) -> Result<(u64, &[Word]), UsageKind
         Err(kind) => return Err(kind),
     };
     match whole_number(word.text().as_bytes(), most) {
-        Some(number) => Ok((number, behind)),
+        Some(_) => Ok(behind),
         None => Err(UsageKind::BadValue),
     }
 }

@@ -1,6 +1,6 @@
 use Rattle.std.proofs.Common.{◌≡◌, length}
 use Rattle.job_text.specs.Words.{nothing, given_from}
-use Rattle.job_text.proofs.options.run_options.Given as goal
+use Rattle.job_text.proofs.options.check_options.Given as goal
 
 -- the options left stand behind those that were given
 abbrev pub invariant-options : goal.invariant-options

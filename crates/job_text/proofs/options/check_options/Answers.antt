@@ -3,7 +3,7 @@ use Rattle.std.specs.Prelude.{ok_or}
 use Rattle.job_text.specs.declared.words.UsageKind.TheVariants.{BadValue}
 use Rattle.job_text.specs.Words.{with_value, option_behind}
 use Rattle.job_text.proofs.OptionLemmas.{goes_on}
-use Rattle.job_text.proofs.options.run_options.Goals as goal
+use Rattle.job_text.proofs.options.check_options.Goals as goal
 
 pub options-preserved : goal.options-preserved
 options-preserved c =

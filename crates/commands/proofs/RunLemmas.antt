@@ -186,28 +186,28 @@ module _ (words : List (List ℕ)) (functions : Functions) (contents : List ℕ 
   of_ready text job P told fits none is enough p = of_job_read text job (λ o j. HasPool o j × P o j) told fits none is (enough, p)
 
   -- a fault of a source, of the exchange, of an image or of the keeper
-  pub of_run : (text : List ℕ) (job : Job) (fault : Fault) → HoldsNone held → ((P : RunOptions → Job → Type 0) → P options job → NamesGoodJob words functions contents (λ o j. HasPool o j × P o j)) → IsRunFault job options.every contents fault → IsFaultOf words functions contents held fault
-  of_run text job (SourceInput a) none ready is = (none, ready (λ o j. IsSourceFault j contents (SourceInput a)) is)
-  of_run text job (LongLine a) none ready is = (none, ready (λ o j. IsSourceFault j contents (LongLine a)) is)
-  of_run text job (BigSource a) none ready is = (none, ready (λ o j. IsSourceFault j contents (BigSource a)) is)
-  of_run text job BigImage none ready is = (none, ready (λ o j. HasLargeImage j o.every contents) is)
-  of_run text job (OverCredit channel received announced) none ready is = (inl (none, ready (λ o j. ⊤) tt), is)
-  of_run text job (Peer peer) none ready is = inl (none, ready (λ o j. ⊤) tt)
-  of_run text job Keeper none ready is = inl (ready (λ o j. ⊤) tt)
-  of_run text job Memory none ready is = inl (name, options, is_run)
-  of_run text job (Usage kind) none ready is = absurd is
-  of_run text job (JobLine line kind) none ready is = absurd is
-  of_run text job (ScriptLine line) none ready is = absurd is
-  of_run text job JobInput none ready is = absurd is
-  of_run text job ScriptInput none ready is = absurd is
-  of_run text job Output none ready is = absurd is
-  of_run text job (HoldsImage number) none ready is = absurd is
-  of_run text job HoldsNoImage none ready is = absurd is
-  of_run text job (NotImage number place) none ready is = absurd is
-  of_run text job LongJob none ready is = absurd is
-  of_run text job LongScript none ready is = absurd is
-  of_run text job (TooFewSegments have need) none ready is = absurd is
-  of_run text job Link none ready is = absurd is
+  pub of_run : (text : List ℕ) (job : Job) (after : Option (List KeptImage)) (fault : Fault) → HoldsNone held → ((P : RunOptions → Job → Type 0) → P options job → NamesGoodJob words functions contents (λ o j. HasPool o j × P o j)) → IsRunFault job options.every contents held after fault → IsFaultOf words functions contents held fault
+  of_run text job after (SourceInput a) none ready is = (none, ready (λ o j. IsSourceFault j contents (SourceInput a)) is)
+  of_run text job after (LongLine a) none ready is = (none, ready (λ o j. IsSourceFault j contents (LongLine a)) is)
+  of_run text job after (BigSource a) none ready is = (none, ready (λ o j. IsSourceFault j contents (BigSource a)) is)
+  of_run text job after BigImage none ready is = (none, ready (λ o j. (later : Option (List KeptImage)) × HasLargeImage j o.every contents held later) (after, is))
+  of_run text job after (OverCredit channel received announced) none ready is = (inl (none, ready (λ o j. ⊤) tt), is)
+  of_run text job after (Peer peer) none ready is = inl (none, ready (λ o j. ⊤) tt)
+  of_run text job after Keeper none ready is = inl (ready (λ o j. ⊤) tt)
+  of_run text job after Memory none ready is = inl (name, options, is_run)
+  of_run text job after (Usage kind) none ready is = absurd is
+  of_run text job after (JobLine line kind) none ready is = absurd is
+  of_run text job after (ScriptLine line) none ready is = absurd is
+  of_run text job after JobInput none ready is = absurd is
+  of_run text job after ScriptInput none ready is = absurd is
+  of_run text job after Output none ready is = absurd is
+  of_run text job after (HoldsImage number) none ready is = absurd is
+  of_run text job after HoldsNoImage none ready is = absurd is
+  of_run text job after (NotImage number place) none ready is = absurd is
+  of_run text job after LongJob none ready is = absurd is
+  of_run text job after LongScript none ready is = absurd is
+  of_run text job after (TooFewSegments have need) none ready is = absurd is
+  of_run text job after Link none ready is = absurd is
 
 -- what a run to a text leads to
 pub runs_on : (words : List (List ℕ)) (functions : Functions) (contents : List ℕ → Option (List ℕ)) (held : Option (List KeptImage)) (P Q : List ℕ → Type 0) → ((text : List ℕ) → P text → Q text) → RunsTo words functions contents held P → RunsTo words functions contents held Q

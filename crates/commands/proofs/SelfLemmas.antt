@@ -126,10 +126,10 @@ self_ran functions job is many seed before after table text none table_is ends t
 
 -- ---- its faults
 
-pub of_self_run : (functions : Functions) (job : Job) (interval : Option ℕ) (contents : List ℕ → Option (List ℕ)) (fault : Fault) → first_fault functions self_text ≡ None → IsRunFault job interval contents fault → IsSelfFault functions (of_self fault)
-of_self_run functions job interval contents (OverCredit channel received announced) clear is = (clear, is)
-of_self_run functions job interval contents (Peer fault) clear is = clear
-of_self_run functions job interval contents fault clear is = tt
+pub of_self_run : (functions : Functions) (job : Job) (interval : Option ℕ) (contents : List ℕ → Option (List ℕ)) (kept keeps : Option (List KeptImage)) (fault : Fault) → first_fault functions self_text ≡ None → IsRunFault job interval contents kept keeps fault → IsSelfFault functions (of_self fault)
+of_self_run functions job interval contents kept keeps (OverCredit channel received announced) clear is = (clear, is)
+of_self_run functions job interval contents kept keeps (Peer fault) clear is = clear
+of_self_run functions job interval contents kept keeps fault clear is = tt
 
 -- its status is none of an input, of a keeper or of an output
 pub not_input : (functions : Functions) (fault : Fault) → IsSelfFault functions fault → status_of fault ≡ 4 → ⊥

@@ -234,10 +234,10 @@ module _ (words : List (List ℕ)) (functions : Functions) (contents : List ℕ 
       inr (is.2.0, is.2.1, inr (inl (a, (is.2.2.1.0, over (contents (source_name is.2.0 a)) P leads is.2.2.1.1))))
 
   large_image : (options : RunOptions) (o : Option (List ℕ))
-      → IfSome o (λ text. IsGoodText functions (λ job. HasPool options job × HasLargeImage job options.every contents) text)
+      → IfSome o (λ text. IsGoodText functions (λ job. HasPool options job × ((after : Option (List KeptImage)) × HasLargeImage job options.every contents held after)) text)
       → IfSome o (IsOverLimits functions contents options)
   large_image options None is = tt
-  large_image options (Some text) is = inr (is.2.0, is.2.1, inr (inr is.2.2.1))
+  large_image options (Some text) is = inr (is.2.0, is.2.1, inr (inr (held, is.2.2.1.0, is.2.2.1.1)))
 
   small_pool : (options : RunOptions) (o : Option (List ℕ)) (have need : ℕ)
       → IfSome o (λ text. IsGoodText functions (λ job. HasSmallPool options job have need) text)

@@ -331,12 +331,12 @@ module _ (words : List (List ℕ)) (functions : Functions) (contents : List ℕ 
           within b (omega (arith, many, inside)) (leads (bytes b) (is_told it.2.0 it.2.1 b inside P it.2.2.1.1))
 
       -- no image of a job of the text is too large
-      no_large : ((other : Job) → IsJobText functions run.text other → IsTooLarge other (λ a. lines (bytes a)) options.every → ⊥) → NamesGoodJob words functions contents (λ o j. HasPool o j × HasLargeImage j o.every contents) → ⊥
+      no_large : ((other : Job) → IsJobText functions run.text other → (after : Option (List KeptImage)) → IsTooLarge other (λ a. lines (bytes a)) options.every held after → ⊥) → NamesGoodJob words functions contents (λ o j. HasPool o j × ((after : Option (List KeptImage)) × HasLargeImage j o.every contents held after)) → ⊥
       no_large small named =
-          let it = good options run.text run.tells (λ o j. HasPool o j × HasLargeImage j o.every contents) named in
-          small it.2.0 it.2.1 (it.2.2.1 bytes (tells_too it.2.0 it.2.1))
+          let it = good options run.text run.tells (λ o j. HasPool o j × ((after : Option (List KeptImage)) × HasLargeImage j o.every contents held after)) named in
+          small it.2.0 it.2.1 it.2.2.1.0 (it.2.2.1.1 bytes (tells_too it.2.0 it.2.1))
 
-      pub completes : HasPool options job → AreWithinLimits job bytes → ((other : Job) → IsJobText functions run.text other → IsTooLarge other (λ a. lines (bytes a)) options.every → ⊥) → held ≡ Some [] → (fault : Fault) → (status_of fault ≡ 4 → ⊥) → (status_of fault ≡ 5 → ⊥) → (status_of fault ≡ 7 → ⊥) → IsFaultOf words functions contents held fault → Contains (0 ∷ 11 ∷ 12 ∷ 70 ∷ []) (status_of fault)
+      pub completes : HasPool options job → AreWithinLimits job bytes → ((other : Job) → IsJobText functions run.text other → (after : Option (List KeptImage)) → IsTooLarge other (λ a. lines (bytes a)) options.every held after → ⊥) → held ≡ Some [] → (fault : Fault) → (status_of fault ≡ 4 → ⊥) → (status_of fault ≡ 5 → ⊥) → (status_of fault ≡ 7 → ⊥) → IsFaultOf words functions contents held fault → Contains (0 ∷ 11 ∷ 12 ∷ 70 ∷ []) (status_of fault)
       completes enough within small empty (Usage kind) input keeper output is = absurd (usage_no kind is)
       completes enough within small empty (JobLine line kind) input keeper output is = absurd (no_line line kind is)
       completes enough within small empty JobInput input keeper output is = absurd (input refl)

@@ -113,7 +113,7 @@ IsFaultOf words functions contents held (JobLine line kind) =
 IsFaultOf words functions contents held (SourceInput a) = StartsJob words functions contents held (λ job. IsSourceFault job contents (SourceInput a))
 IsFaultOf words functions contents held (LongLine a) = StartsJob words functions contents held (λ job. IsSourceFault job contents (LongLine a))
 IsFaultOf words functions contents held (BigSource a) = StartsJob words functions contents held (λ job. IsSourceFault job contents (BigSource a))
-IsFaultOf words functions contents held BigImage = StartsRun words functions contents held (λ options job. HasLargeImage job options.every contents)
+IsFaultOf words functions contents held BigImage = StartsRun words functions contents held (λ options job. (after : Option (List KeptImage)) × HasLargeImage job options.every contents held after)
 IsFaultOf words functions contents held Link = ⊥
 IsFaultOf words functions contents held (OverCredit channel received announced) = (StartsJob words functions contents held (λ job. ⊤) ⊎ StartsSelfRun words functions) × IsOverByOne received announced
 IsFaultOf words functions contents held (Peer fault) = StartsJob words functions contents held (λ job. ⊤) ⊎ StartsSelfRun words functions
@@ -156,12 +156,12 @@ abbrev pub IsNoJob : Functions → List ℕ → Type 0
 IsNoJob functions text = (length text ≤ JOB_MAX) × ((fault : ℕ × JobFault) × (first_fault functions text ≡ Some fault))
 
 -- The text is over its limit, or that of a job that needs more segments than the pool has, or of one with a source over a limit or an
--- image that is too large.
+-- image that is too large, whatever a keeper got before it.
 abbrev pub IsOverLimits : Functions → (List ℕ → Option (List ℕ)) → RunOptions → List ℕ → Type 0
 IsOverLimits functions contents options text =
     (JOB_MAX < length text)
     ⊎ ((job : Job) × IsJobText functions text job
-    × ((options.pool < segments_needed job) ⊎ ((a : ℕ) × IsOfSource job contents a IsOverLimit) ⊎ HasLargeImage job options.every contents))
+    × ((options.pool < segments_needed job) ⊎ ((a : ℕ) × IsOfSource job contents a IsOverLimit) ⊎ ((before after : Option (List KeptImage)) × HasLargeImage job options.every contents before after)))
 
 -- The words name a job, and a limit of its text, its pool, its sources or its images is passed.
 abbrev pub PassesLimit : List (List ℕ) → Functions → (List ℕ → Option (List ℕ)) → Type 0

@@ -1,5 +1,5 @@
 // The program, over the world that it is handed.
-ghost use Rattle.std.specs.Prelude.{◌≡◌, ◌≢◌, ◌<◌, ◌⊎◌, ⊤, List, ℕ, [], ◌∷◌, ◌++◌, length, Some, IfSome, Contains};
+ghost use Rattle.std.specs.Prelude.{◌≡◌, ◌≢◌, ◌<◌, ◌⊎◌, ⊤, List, ℕ, [], ◌∷◌, ◌++◌, length, Option, Some, IfSome, Contains};
 ghost use Rattle.flow_defs.specs.Jobs.{segments_needed, tasks};
 ghost use Rattle.flow_defs.specs.Lines.{lines};
 ghost use Rattle.flow_defs.specs.Tables.{table_text};
@@ -124,7 +124,8 @@ where
     // runs out. That no other end of a connection has a fault is not said here.
     ensures complete { (options : RunOptions) (job : Job) (bytes : ℕ → List ℕ) →
         TellsRun words.now.items (kinds functions.now) (F.contents files.old) options job → TellsSources job (F.contents files.old) bytes →
-        HasPool options job → AreWithinLimits job bytes → (IsTooLarge job (λ a. lines (bytes a)) options.every → ⊥) → K.images keeper.old ≡ Some [] →
+        HasPool options job → AreWithinLimits job bytes →
+        ((after : Option (List KeptImage)) → IsTooLarge job (λ a. lines (bytes a)) options.every (K.images keeper.old) after → ⊥) → K.images keeper.old ≡ Some [] →
         (HasRisen (F.faults files.old) (F.faults files.new) → ⊥) → (HasRisen (K.faults keeper.old) (K.faults keeper.new) → ⊥) →
         (HasRisen (O.faults out.old) (O.faults out.new) → ⊥) →
         Contains (0 ∷ 11 ∷ 12 ∷ 70 ∷ []) result }

@@ -9,6 +9,7 @@ use Rattle.flow_defs.specs.declared.job.Job.{Job}
 use Rattle.flow_defs.specs.Jobs.{tasks}
 use Rattle.flow_defs.specs.Lines.{lines}
 use Rattle.outside.specs.Faults.{HasRisen}
+use Rattle.outside.specs.Keepers.{KeptImage}
 use Rattle.job_plan.specs.declared.limits.TheConstants.{SOURCE_MAX}
 use Rattle.job_plan.specs.Limits.{HasLongLine}
 use Rattle.job_outcome.specs.Outcomes.{AreTold, IsRunCause, IsOfInput}
@@ -53,18 +54,18 @@ module _ {S : Type 0} (left : S → Option (List ℕ)) (faults : S → ℕ) (bef
     is_source a P is = (let inside = slice_get_within before a is.old is.was in omega (arith, many, inside), subst (λ o. IfSome o P) (told a is.old is.was).0 is.holds)
 
     -- the cause of a run is a fault of its job
-    pub fault_of_run : (every : Option ℕ) (keeper : Type 0) (cause : Cause) → IsRunCause left faults before after ⊥ (λ _. ⊤) keeper ((bytes : ℕ → List ℕ) → AreTold left before bytes → IsTooLarge job (λ a. lines (bytes a)) every) cause → IsRunFault job every contents (of_cause cause)
-    fault_of_run every keeper causes.Done is = absurd is
-    fault_of_run every keeper causes.Stopped is = absurd is
-    fault_of_run every keeper (causes.Input a) is = (let inside = slice_get_within before a is.old is.was in omega (arith, many, inside), whatever (contents (source_name job a)))
-    fault_of_run every keeper causes.Keeper is = tt
-    fault_of_run every keeper causes.Link is = absurd is
-    fault_of_run every keeper (causes.LongLine a) is = is_source a (λ bytes. HasLongLine (lines bytes)) is
-    fault_of_run every keeper (causes.BigSource a) is = is_source a (λ bytes. SOURCE_MAX < length bytes) is
-    fault_of_run every keeper causes.BigImage is = λ bytes tells. is bytes (tells_inputs bytes tells)
-    fault_of_run every keeper (causes.OverCredit channel received announced) is = is
-    fault_of_run every keeper (causes.Peer fault) is = tt
-    fault_of_run every keeper causes.Memory is = tt
+    pub fault_of_run : (every : Option ℕ) (kept keeps : Option (List KeptImage)) (keeper : Type 0) (cause : Cause) → IsRunCause left faults before after ⊥ (λ _. ⊤) keeper ((bytes : ℕ → List ℕ) → AreTold left before bytes → IsTooLarge job (λ a. lines (bytes a)) every kept keeps) cause → IsRunFault job every contents kept keeps (of_cause cause)
+    fault_of_run every kept keeps keeper causes.Done is = absurd is
+    fault_of_run every kept keeps keeper causes.Stopped is = absurd is
+    fault_of_run every kept keeps keeper (causes.Input a) is = (let inside = slice_get_within before a is.old is.was in omega (arith, many, inside), whatever (contents (source_name job a)))
+    fault_of_run every kept keeps keeper causes.Keeper is = tt
+    fault_of_run every kept keeps keeper causes.Link is = absurd is
+    fault_of_run every kept keeps keeper (causes.LongLine a) is = is_source a (λ bytes. HasLongLine (lines bytes)) is
+    fault_of_run every kept keeps keeper (causes.BigSource a) is = is_source a (λ bytes. SOURCE_MAX < length bytes) is
+    fault_of_run every kept keeps keeper causes.BigImage is = λ bytes tells. is bytes (tells_inputs bytes tells)
+    fault_of_run every kept keeps keeper (causes.OverCredit channel received announced) is = is
+    fault_of_run every kept keeps keeper (causes.Peer fault) is = tt
+    fault_of_run every kept keeps keeper causes.Memory is = tt
 
     -- with an input fault one of the inputs that come back has a fault
     pub faulty_input : (keeper big : Type 0) (cause : Cause) → IsRunCause left faults before after ⊥ (λ _. ⊤) keeper big cause → status_of (of_cause cause) ≡ 4 → HasFaulty faults after
@@ -109,25 +110,25 @@ no_output (causes.Peer fault) seven = cc
 no_output causes.Memory seven = cc
 
 -- a fault of a source is one of the run
-pub of_sources : (job : Job) (every : Option ℕ) (contents : List ℕ → Option (List ℕ)) (fault : Fault) → IsSourceFault job contents fault → IsRunFault job every contents fault
-of_sources job every contents (variants.SourceInput a) is = is
-of_sources job every contents (variants.LongLine a) is = is
-of_sources job every contents (variants.BigSource a) is = is
-of_sources job every contents variants.Memory is = tt
-of_sources job every contents (variants.Usage kind) is = absurd is
-of_sources job every contents (variants.JobLine line kind) is = absurd is
-of_sources job every contents (variants.ScriptLine line) is = absurd is
-of_sources job every contents variants.JobInput is = absurd is
-of_sources job every contents variants.ScriptInput is = absurd is
-of_sources job every contents variants.Keeper is = tt
-of_sources job every contents variants.Output is = absurd is
-of_sources job every contents (variants.HoldsImage number) is = absurd is
-of_sources job every contents variants.HoldsNoImage is = absurd is
-of_sources job every contents (variants.NotImage number place) is = absurd is
-of_sources job every contents variants.LongJob is = absurd is
-of_sources job every contents variants.LongScript is = absurd is
-of_sources job every contents variants.BigImage is = absurd is
-of_sources job every contents (variants.TooFewSegments have need) is = absurd is
-of_sources job every contents variants.Link is = absurd is
-of_sources job every contents (variants.OverCredit channel received announced) is = absurd is
-of_sources job every contents (variants.Peer fault) is = absurd is
+pub of_sources : (job : Job) (every : Option ℕ) (contents : List ℕ → Option (List ℕ)) (kept keeps : Option (List KeptImage)) (fault : Fault) → IsSourceFault job contents fault → IsRunFault job every contents kept keeps fault
+of_sources job every contents kept keeps (variants.SourceInput a) is = is
+of_sources job every contents kept keeps (variants.LongLine a) is = is
+of_sources job every contents kept keeps (variants.BigSource a) is = is
+of_sources job every contents kept keeps variants.Memory is = tt
+of_sources job every contents kept keeps (variants.Usage kind) is = absurd is
+of_sources job every contents kept keeps (variants.JobLine line kind) is = absurd is
+of_sources job every contents kept keeps (variants.ScriptLine line) is = absurd is
+of_sources job every contents kept keeps variants.JobInput is = absurd is
+of_sources job every contents kept keeps variants.ScriptInput is = absurd is
+of_sources job every contents kept keeps variants.Keeper is = tt
+of_sources job every contents kept keeps variants.Output is = absurd is
+of_sources job every contents kept keeps (variants.HoldsImage number) is = absurd is
+of_sources job every contents kept keeps variants.HoldsNoImage is = absurd is
+of_sources job every contents kept keeps (variants.NotImage number place) is = absurd is
+of_sources job every contents kept keeps variants.LongJob is = absurd is
+of_sources job every contents kept keeps variants.LongScript is = absurd is
+of_sources job every contents kept keeps variants.BigImage is = absurd is
+of_sources job every contents kept keeps (variants.TooFewSegments have need) is = absurd is
+of_sources job every contents kept keeps variants.Link is = absurd is
+of_sources job every contents kept keeps (variants.OverCredit channel received announced) is = absurd is
+of_sources job every contents kept keeps (variants.Peer fault) is = absurd is

@@ -44,6 +44,11 @@ module _ (job other : Job) (same : work_of job ≡ work_of other) where
     table_is = subst (λ (w : Work). table ≡ join w.agg e.last.tables.items) same e.table_is;
   }
 
-  pub large_too : (lines : ℕ → List (List ℕ)) (every : Option ℕ) → IsTooLarge job lines every → IsTooLarge other lines every
-  large_too lines every (images, image, chain, large) =
-      (images, image, λ base start. chain_too job other same lines every base (images ++ image ∷ []) (chain base (start_too other job (sym same) base start)), large)
+  pub large_too : (lines : ℕ → List (List ℕ)) (every : Option ℕ) (before after : Option (List KeptImage)) → IsTooLarge job lines every before after → IsTooLarge other lines every before after
+  large_too lines every before after l = record {
+    images = l.images;
+    kept = l.kept;
+    image = l.image;
+    chain = λ base start. chain_too job other same lines every base (l.images ++ l.image ∷ []) (l.chain base (start_too other job (sym same) base start));
+    large = l.large;
+  }

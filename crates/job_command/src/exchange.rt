@@ -60,7 +60,7 @@ where
     ensures last { IfOk result (λ table. (bytes : ℕ → List ℕ) → TellsSources job.now (F.contents files.old) bytes →
         EndsIn job.now (λ a. lines (bytes a)) options.every (K.images keeper.old) (K.images keeper.new) table) }
     ensures kept { (images : List Image) × HasKept (K.images keeper.old) (K.images keeper.new) images }
-    ensures fault { IfErr result (IsRunFault job.now options.every (F.contents files.old)) }
+    ensures fault { IfErr result (IsRunFault job.now options.every (F.contents files.old) (K.images keeper.old) (K.images keeper.new)) }
     ensures input { IfErr result (λ fault. status_of fault ≡ 4 → HasRisen (F.faults files.old) (F.faults files.new)) }
     ensures no_output { IfErr result (λ fault. status_of fault ≡ 7 → ⊥) }
     ensures keeper { IfErr result (λ fault. status_of fault ≡ 5 → HasRisen (K.faults keeper.old) (K.faults keeper.new)) }
@@ -113,7 +113,7 @@ where
     ensures last { IfOk result (λ table. (bytes : ℕ → List ℕ) → TellsSources job.now (F.contents files.old) bytes →
         EndsIn job.now (λ a. lines (bytes a)) options.every (K.images keeper.old) (K.images keeper.new) table) }
     ensures kept { (images : List Image) × HasKept (K.images keeper.old) (K.images keeper.new) images }
-    ensures fault { IfErr result (IsRunFault job.now options.every (F.contents files.old)) }
+    ensures fault { IfErr result (IsRunFault job.now options.every (F.contents files.old) (K.images keeper.old) (K.images keeper.new)) }
     ensures input { IfErr result (λ fault. status_of fault ≡ 4 → HasRisen (F.faults files.old) (F.faults files.new) ⊎ HasFaulty F.Input.faults inputs.new.items) }
     ensures no_output { IfErr result (λ fault. status_of fault ≡ 7 → ⊥) }
     ensures keeper { IfErr result (λ fault. status_of fault ≡ 5 → HasRisen (K.faults keeper.old) (K.faults keeper.new)) }
@@ -153,7 +153,8 @@ fn table_of_inputs<R: Threads + Wait + Sync, S: Source + Send + Drop, K: Keeper 
         EndsIn job.now (λ a. lines (bytes a)) options.every (K.images keeper.old) (K.images keeper.new) table) }
     ensures kept { (images : List Image) × HasKept (K.images keeper.old) (K.images keeper.new) images }
     ensures keeper_never_falls { K.faults keeper.old ≤ K.faults keeper.new }
-    ensures cause { IfErr result (IsRunCause S.left S.faults inputs.old.items inputs.new.items ⊥ (λ _. ⊤) (HasRisen (K.faults keeper.old) (K.faults keeper.new)) ((bytes : ℕ → List ℕ) → AreTold S.left inputs.old.items bytes → IsTooLarge job.now (λ a. lines (bytes a)) options.every)) }
+    ensures cause { IfErr result (IsRunCause S.left S.faults inputs.old.items inputs.new.items ⊥ (λ _. ⊤) (HasRisen (K.faults keeper.old) (K.faults keeper.new))
+        ((bytes : ℕ → List ℕ) → AreTold S.left inputs.old.items bytes → IsTooLarge job.now (λ a. lines (bytes a)) options.every (K.images keeper.old) (K.images keeper.new))) }
     ensures inputs { ComeBack S.faults inputs.old.items inputs.new.items }
 {
     let mut net = MemoryLinks::new(

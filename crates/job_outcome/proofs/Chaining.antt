@@ -130,7 +130,7 @@ module _ {S O I L N : Type 0} {left : S → Option (List ℕ)} {faults : S → �
       run.collector.account))
 
   module _ (bytes : ℕ → List ℕ) (told : AreTold left inputs bytes)
-      (settled : AreSettledWith left faults line sent finished of_out end_line got ended of_in belong job rows end) where
+      (settled : AreSettledWith job rows end) where
     -- The snapshots of each task that were received are a beginning of those that it sent.
     beginnings : (i a : ℕ) → i ≤ suc (last_edge job) → a < tasks job i → IsBeginning (snapshots_of (task_at i a) (received_by end.collecting)) (snapshots_at rows i a)
     beginnings i a stage low = settled.received i a (omega (arith, stage)) low
@@ -191,15 +191,16 @@ module _ {S O I L N : Type 0} {left : S → Option (List ℕ)} {faults : S → �
             (linked_more (Collected job every) base image account_of.images (account_of.stored.collected base start)
             (next.collected (λ final. nothing_saved base start) base start)) beginnings
 
-        pub too_large : RanIsChain → (CanSpell image → ⊥) → IsTooLarge job (λ a. lines (bytes a)) every
-        too_large chains large = (
-          account_of.images,
-          image,
-          λ base start.
+        pub too_large : RanIsChain → (CanSpell image → ⊥) → IsTooLarge job (λ a. lines (bytes a)) every before after
+        too_large chains large = record {
+          images = account_of.images;
+          kept = account_of.stored.kept;
+          image = image;
+          chain = λ base start.
               chains job size every bytes base (own_at rows) (gate_at rows) (snapshots_at rows) (account_of.images ++ image ∷ [])
-              (interval_of every run.interval) start (ran_behind base (account_of.images ++ image ∷ []) (next_collected base start)),
-          large,
-        )
+              (interval_of every run.interval) start (ran_behind base (account_of.images ++ image ∷ []) (next_collected base start));
+          large = large;
+        }
 
 -- ---- the laws
 

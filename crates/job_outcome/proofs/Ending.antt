@@ -101,7 +101,7 @@ module _ {S O I L N : Type 0} (left : S → Option (List ℕ)) (faults : S → �
   Meet out input = belong (line out) (end_line input)
 
   module _ (job : Job) (e : ℕ) (edge : Edge) (wire : Wire O I) (row : List (LoopPlace O I))
-      (new : IsNewWire left faults line sent finished of_out end_line got ended of_in belong wire)
+      (new : IsNewWire line sent finished of_out end_line got ended of_in belong wire)
       (ends : EndsAt line sent of_out end_line got ended of_in job e edge wire row) where
     meets : belong (line ends.send.half) (end_line ends.items.half)
     meets =
@@ -217,7 +217,7 @@ module _ {S O I L N : Type 0} (left : S → Option (List ℕ)) (faults : S → �
       loops_are = λ e edge row at_edge at_row.
           let l = loops_at run e edge row at_edge at_row in
           loops_ended job e edge l.wire row.items
-          (all_at (IsNewWire left faults line sent finished of_out end_line got ended of_in belong) wires e l.wire run.new_wires l.wire_is) l.ends law;
+          (all_at (IsNewWire line sent finished of_out end_line got ended of_in belong) wires e l.wire run.new_wires l.wire_is) l.ends law;
     }
 
     pub have_acknowledged : HaveAcknowledged job snapshots rows

@@ -210,7 +210,7 @@ module _ {S O I L N : Type 0} (left : S → Option (List ℕ)) (faults : S → �
     -- An image is too large, as far as the inputs tell their bytes.
     abbrev Large : Type 0
     Large = (end : CollectEnd) (bytes : ℕ → List ℕ) → collected ≡ Ended end → AreTold left inputs bytes →
-        AreSettledWith left faults line sent finished of_out end_line got ended of_in belong job rows end → IsTooLarge job (λ a. lines (bytes a)) every
+        AreSettledWith job rows end → IsTooLarge job (λ a. lines (bytes a)) every told told_after
 
     abbrev Has : Cause → Type 0
     Has = Ground left faults inputs after (HasLinkFault of_out of_in loops) (HasPeerFault sent got ended job loops) (HasRisen fell rose) Large
@@ -263,7 +263,7 @@ module _ {S O I L N : Type 0} (left : S → Option (List ℕ)) (faults : S → �
     -- The four loops of an edge.
     module _ (e i : ℕ) (edge : Edge) (row : Items (LoopPlace O I)) (at_row : slice_get loops e ≡ Some row)
         (l : LoopsEnd run e edge row)
-        (new : IsNewWire left faults line sent finished of_out end_line got ended of_in belong l.wire) (cause : Cause) where
+        (new : IsNewWire line sent finished of_out end_line got ended of_in belong l.wire) (cause : Cause) where
       -- What stands at the place has its grounds.
       abbrev Grounded : LoopPlace O I → Type 0
       Grounded place = slice_get row.items i ≡ Some place → cause_of_loop place ≡ Some cause → Has cause
@@ -350,7 +350,7 @@ module _ {S O I L N : Type 0} (left : S → Option (List ℕ)) (faults : S → �
         let low = place_low loops e stands.row stands.row_is in
         let edge = at_place edges e (omega (arith, low, run.loops_many, run.deployed.loops_many, run.edges_are.many)) in
         let l = loops_at run e edge.0 stands.row edge.1 stands.row_is in
-        let new = all_at (IsNewWire left faults line sent finished of_out end_line got ended of_in belong) wires e l.wire run.new_wires l.wire_is in
+        let new = all_at (IsNewWire line sent finished of_out end_line got ended of_in belong) wires e l.wire run.new_wires l.wire_is in
         of_place e i edge.0 stands.row stands.row_is l new cause place stands.place_is is
 
     module _ (collects : StoredAreCollected) (chains : RanIsChain) where
@@ -358,7 +358,7 @@ module _ {S O I L N : Type 0} (left : S → Option (List ℕ)) (faults : S → �
       of_chain : (image : Image) → IsNext job every (received_by run.end.collecting) (account_of run run.end run.end_is).images image → (CanSpell image → ⊥) → Large
       of_chain image next large end bytes is told_are settled =
           too_large run run.end run.end_is bytes told_are
-          (subst (λ (x : CollectEnd). AreSettledWith left faults line sent finished of_out end_line got ended of_in belong job rows x)
+          (subst (λ (x : CollectEnd). AreSettledWith job rows x)
           (same_end collected end run.end is run.end_is) settled)
           collects image next chains large
 

@@ -100,7 +100,7 @@ module _ {S O I L N : Type 0} {left : S → Option (List ℕ)} {faults : S → �
       last_stored base = last_is base image (account_of run end is).images (sym (account_of run end is).last_is ∙ last)
 
       pub tally_is : (bytes : ℕ → List ℕ) → AreTold left inputs bytes →
-          AreSettledWith left faults line sent finished of_out end_line got ended of_in belong job rows end →
+          AreSettledWith job rows end →
           StartExists → StoredAreCollected → RanEndsInTally → join job.agg image.tables.items ≡ tally job (λ a. lines (bytes a))
       tally_is bytes told settled starts collects tallies =
           let first = starts job in

@@ -57,7 +57,8 @@ ControlBegins peers.Resume left = ⊤
 ControlBegins peers.Cut left = ⊤
 ControlBegins other left = ⊥
 
--- The bytes that came over a link are messages of its direction and then what is left, which begins so. A link that is cut has ended.
+-- The bytes that came over a link are messages of its direction and then what is left, which begins so. A link that is cut has ended. The
+-- place at which the reading stopped is not told.
 pub record HasMetFault {O I : Type 0} (sent : O → Option (List ℕ)) (got : I → Option (List ℕ)) (ended : I → Option Bool)
     (is_from : Frame → Bool) (begins : PeerFault → List ℕ → Type 0) (half : I) (fault : PeerFault) : Type 0 where
   pub messages : List Message
@@ -68,7 +69,8 @@ pub record HasMetFault {O I : Type 0} (sent : O → Option (List ℕ)) (got : I 
   pub met : begins fault left
   pub cut : ((one : I) → (b : Bool) × (ended one ≡ Some b)) → fault ≡ peers.Cut → ended half ≡ Some true
 
--- Faults that a task finds in the bytes of its channels, or the worker that collects in an image.
+-- Faults that a task finds in the bytes of its channels, or the worker that collects in an image. Of `Left` and `Barrier` nothing is said of
+-- when.
 abbrev pub IsTaskFault : PeerFault → Type 0
 IsTaskFault peers.Left = ⊤
 IsTaskFault peers.Barrier = ⊤

@@ -16,12 +16,13 @@ use Rattle.collecting_worker.specs.Images.{with_images}
 abbrev pub HasNoneInFlight : Job → Image → Type 0
 HasNoneInFlight job image = (e a b : ℕ) → is_channel job e a b ≡ true → saved job image e a b ≡ []
 
--- The images that a keeper has behind those that it had, as far as it tells them, are these, and nothing else of it changed.
+-- The images that a keeper told before stay, and these come behind them. Where it doesn't tell its images this holds of every list.
 abbrev pub HasKept : Option (List KeptImage) → Option (List KeptImage) → List Image → Type 0
 HasKept before after images = after ≡ with_images before images
 
 -- The images that the keeper got are a chain from the start on, each the successor of the one before it by the takes recorded in it, and
--- nothing is in flight at any of them.
+-- nothing is in flight at any of them. Where the keeper doesn't tell its images nothing is said: HasKept holds of no images then, and those
+-- are a chain.
 pub record HasStored (job : Job) (lines : ℕ → List (List ℕ)) (every : Option ℕ) (before after : Option (List KeptImage)) : Type 0 where
   pub images : List Image
   pub kept : HasKept before after images
@@ -36,8 +37,12 @@ pub record EndsIn (job : Job) (lines : ℕ → List (List ℕ)) (every : Option 
   pub final : last.final_one ≡ true
   pub table_is : table ≡ join job.agg last.tables.items
 
--- An image of the chain from the start on over these lines is too large to be spelled: a number of keys or runs in it, or the length of a
--- saved piece, is above 4,294,967,295.
-abbrev pub IsTooLarge : Job → (ℕ → List (List ℕ)) → Option ℕ → Type 0
-IsTooLarge job lines every = (images : List Image) × (image : Image) ×
-    ((base : Image) → IsStart job base → Chain job lines every base (images ++ image ∷ [])) × (CanSpell image → ⊥)
+-- Behind the images that the keeper got the chain from the start on over these lines goes on with one that is too large to be spelled: a
+-- number of keys or runs in it, or the length of a saved piece, is above 4,294,967,295. Where the keeper doesn't tell its images, such an
+-- image stands behind some.
+pub record IsTooLarge (job : Job) (lines : ℕ → List (List ℕ)) (every : Option ℕ) (before after : Option (List KeptImage)) : Type 0 where
+  pub images : List Image
+  pub kept : HasKept before after images
+  pub image : Image
+  pub chain : (base : Image) → IsStart job base → Chain job lines every base (images ++ image ∷ [])
+  pub large : CanSpell image → ⊥

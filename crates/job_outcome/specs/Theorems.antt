@@ -47,18 +47,25 @@ AreLeftIn {S} rows after = (a : ℕ) (end : TaskLeft S) (input : S) → left_at 
 abbrev pub AreFaultless : {H L : Type 0} → (H → L) → (H → ℕ) → (H → Type 0) → Type 0
 AreFaultless {H} line faults never_fails = (old new : H) → never_fails old → line new ≡ line old → faults new ≡ 0
 
-module _ {S O I L N : Type 0} (left : S → Option (List ℕ)) (faults : S → ℕ)
-    (line : O → L) (sent : O → Option (List ℕ)) (finished : O → Option Bool) (of_out : O → ℕ)
-    (end_line : I → N) (got : I → Option (List ℕ)) (ended : I → Option Bool) (of_in : I → ℕ) (belong : L → N → Type 0) where
-  -- ---- what ran
+-- What is settled once workers have ended: each edge carries, and of each task's snapshots the first ones were received.
+pub record AreSettledWith {S : Type 0} (job : Job) (rows : List (Items (TaskPlace S))) (end : CollectEnd) : Type 0 where
+  pub edges : (e : ℕ) → e ≤ last_edge job → EdgeCarries job e (own_at rows e) (gate_at rows e)
+  pub received : AreReceived job (received_by end.collecting) rows
 
-  -- A wire was new, and the ends of each of its links belonged together.
+module _ {O I L N : Type 0} (line : O → L) (sent : O → Option (List ℕ)) (finished : O → Option Bool) (of_out : O → ℕ)
+    (end_line : I → N) (got : I → Option (List ℕ)) (ended : I → Option Bool) (of_in : I → ℕ) (belong : L → N → Type 0) where
+  -- Nothing went over a wire yet, and the ends of its link for data belong together. Of those of its link for control nothing is said.
   pub record IsNewWire (wire : Wire O I) : Type 0 where
     pub belonged : belong (line wire.data_out) (end_line wire.data_in)
     pub data_out : IsNewOut (sent wire.data_out) (finished wire.data_out) (of_out wire.data_out)
     pub data_in : IsNewIn (got wire.data_in) (ended wire.data_in) (of_in wire.data_in)
     pub control_out : IsNewOut (sent wire.control_out) (finished wire.control_out) (of_out wire.control_out)
     pub control_in : IsNewIn (got wire.control_in) (ended wire.control_in) (of_in wire.control_in)
+
+module _ {S O I L N : Type 0} (left : S → Option (List ℕ)) (faults : S → ℕ)
+    (line : O → L) (sent : O → Option (List ℕ)) (finished : O → Option Bool) (of_out : O → ℕ)
+    (end_line : I → N) (got : I → Option (List ℕ)) (ended : I → Option Bool) (of_in : I → ℕ) (belong : L → N → Type 0) where
+  -- ---- what ran
 
   -- The workers of a job were deployed over new wires, with checkpoints behind so many lines and this channel of snapshots, and what each
   -- left stands in its place. The keeper told these images before and those after, and had counted so many faults.
@@ -68,7 +75,7 @@ module _ {S O I L N : Type 0} (left : S → Option (List ℕ)) (faults : S → �
     pub edges_are : AreEdgesOf job size edges
     pub inputs_many : length inputs ≡ tasks job 0
     pub wires_many : length wires ≡ suc (last_edge job)
-    pub new_wires : All IsNewWire wires
+    pub new_wires : All (IsNewWire line sent finished of_out end_line got ended of_in belong) wires
     pub rows_before : List (Items (TaskPlace S))
     pub loops_before : List (Items (LoopPlace O I))
     pub deployed : AreDeployed job size every snapshots edges inputs wires rows_before loops_before
@@ -93,11 +100,6 @@ module _ {S O I L N : Type 0} (left : S → Option (List ℕ)) (faults : S → �
       HaveRun job size every snapshots edges inputs wires before after fell rose rows loops collected →
       AreEnded (λ out input. belong (line out) (end_line input)) sent got job size edges rows loops × HaveAcknowledged job snapshots rows
 
-  -- What is settled once they have ended: each edge carries, and of each task's snapshots the first ones were received.
-  pub record AreSettledWith (job : Job) (rows : List (Items (TaskPlace S))) (end : CollectEnd) : Type 0 where
-    pub edges : (e : ℕ) → e ≤ last_edge job → EdgeCarries job e (own_at rows e) (gate_at rows e)
-    pub received : AreReceived job (received_by end.collecting) rows
-
   -- Whatever the causes with which they ended, the images that were stored are a chain, and the one that was handed back is the last of them.
   abbrev pub StoredImagesAreChain : Type 0
   StoredImagesAreChain =
@@ -108,7 +110,7 @@ module _ {S O I L N : Type 0} (left : S → Option (List ℕ)) (faults : S → �
       AreTold left inputs bytes → AreSettledWith job rows end →
       (stored : HasStored job (λ a. lines (bytes a)) every before after) × (end.last ≡ last_or None stored.images)
 
-  -- Without what is told: the keeper got some images and nothing else of it changed.
+  -- Without what is told: the images that the keeper told before stay, some come behind them, and its count of faults never falls.
   abbrev pub KeeperGotImages : Type 0
   KeeperGotImages =
       (job : Job) (size : ℕ) (every : Option ℕ) (snapshots : SnapshotChannel) (edges : List Edge) (inputs : List S) (wires : List (Wire O I))
@@ -142,7 +144,8 @@ module _ {S O I L N : Type 0} (left : S → Option (List ℕ)) (faults : S → �
       (before after : Option (List KeptImage)) (fell rose : ℕ) (rows : List (Items (TaskPlace S))) (loops : List (Items (LoopPlace O I))) (collected : Place CollectTask CollectEnd) →
       HaveRun job size every snapshots edges inputs wires before after fell rose rows loops collected → AreInputsLeft faults inputs rows
 
-  -- A cause with which one of them ended has its grounds. What stands behind an image that is too large is told of the inputs.
+  -- A cause with which one of them ended has its grounds. Of an image that is too large they are told of the inputs and of what the keeper
+  -- got.
   abbrev pub CausesHaveGrounds : Type 0
   CausesHaveGrounds =
       (job : Job) (size : ℕ) (every : Option ℕ) (snapshots : SnapshotChannel) (edges : List Edge) (inputs after_run : List S) (wires : List (Wire O I))
@@ -150,7 +153,7 @@ module _ {S O I L N : Type 0} (left : S → Option (List ℕ)) (faults : S → �
       HaveRun job size every snapshots edges inputs wires before after fell rose rows loops collected → AreLeftIn rows after_run → length after_run ≡ length inputs →
       HasEnded rows loops collected cause → cause ≢ Done → cause ≢ Stopped →
       IsRunCause left faults inputs after_run (HasLinkFault of_out of_in loops) (HasPeerFault sent got ended job loops) (HasRisen fell rose)
-      ((end : CollectEnd) (bytes : ℕ → List ℕ) → collected ≡ Ended end → AreTold left inputs bytes → AreSettledWith job rows end → IsTooLarge job (λ a. lines (bytes a)) every) cause
+      ((end : CollectEnd) (bytes : ℕ → List ℕ) → collected ≡ Ended end → AreTold left inputs bytes → AreSettledWith job rows end → IsTooLarge job (λ a. lines (bytes a)) every before after) cause
 
   -- Over wires of which no end is to fail, no loop has counted a fault.
   abbrev pub SureWiresHaveNoFault : (O → Type 0) → (I → Type 0) → Type 0

@@ -24,7 +24,7 @@ pub fn stored_images_are_chain<S: Source, N: Links>()
     runs_are_chains();
 }
 
-/// The keeper got some images, and nothing else of it changed.
+/// The images that the keeper told before stay, and some come behind them; its count of faults never falls.
 pub fn keeper_got_images<S: Source, N: Links>()
     ensures { KeeperGotImages S.left S.faults N.Out.line N.Out.sent N.Out.finished N.Out.faults N.In.line N.In.got N.In.ended N.In.faults N.belong }
 {}
@@ -44,7 +44,8 @@ pub fn done_collector_has_last<S: Source, N: Links>()
     ensures { DoneCollectorHasLast S.left S.faults N.Out.line N.Out.sent N.Out.finished N.Out.faults N.In.line N.In.got N.In.ended N.In.faults N.belong }
 {}
 
-/// A cause with which a worker ended has its grounds in an input, a link, the keeper or an image.
+/// A cause with which a worker ended has its grounds in an input, a link, the credit of a channel, the other end
+/// of a connection, the keeper or an image. Of want of memory nothing is said.
 pub fn causes_have_grounds<S: Source, N: Links>()
     ensures { CausesHaveGrounds S.left S.faults N.Out.line N.Out.sent N.Out.finished N.Out.faults N.In.line N.In.got N.In.ended N.In.faults N.belong }
 {

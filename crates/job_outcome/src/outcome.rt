@@ -1,5 +1,5 @@
 // Why the workers of a job ended.
-ghost use Rattle.std.specs.Prelude.{◌≡◌, ◌≢◌, IsTrue, Option};
+ghost use Rattle.std.specs.Prelude.{◌≡◌, ◌≢◌, ◌↔◌, IsTrue, Option, Some};
 ghost use Rattle.flow_defs.specs.declared.cause.Cause.{Cause};
 ghost use Rattle.flow_defs.specs.declared.cause.Cause.TheVariants.{Done, Memory, Stopped};
 ghost use Rattle.job_outcome.specs.Outcomes.{AllDone, HasEnded, cause_of_collector, cause_of_loop, cause_of_task};
@@ -58,14 +58,14 @@ impl<'a> Ends for CollectPlace<'a> {
 
 // Whether the worker of a place is done.
 fn is_done<P: Ends>(place: &P) -> bool
-    ensures { IsTrue result → P.cause_in place.now ≡ Some Done }
+    ensures { IsTrue result ↔ (P.cause_in place.now ≡ Some Done) }
 {
     matches!(place.cause(), Some(Cause::Done))
 }
 
 // Whether all workers of a row are done.
 fn all_done_in<P: Ends>(row: &[P]) -> bool
-    ensures { IsTrue result → RowIsDone P.cause_in row.now }
+    ensures { IsTrue result ↔ RowIsDone P.cause_in row.now }
 {
     for place in row {
         if !is_done(place) {
@@ -77,7 +77,7 @@ fn all_done_in<P: Ends>(row: &[P]) -> bool
 
 // Whether those of all rows are.
 fn all_done<P: Ends>(rows: &[ListOf<P>]) -> bool
-    ensures { IsTrue result → AreDone P.cause_in rows.now }
+    ensures { IsTrue result ↔ AreDone P.cause_in rows.now }
 {
     for row in rows {
         if !all_done_in(row.as_slice()) {
@@ -118,17 +118,18 @@ fn has_ended<P: Ends>(rows: &[ListOf<P>], cause: Cause) -> bool
     false
 }
 
-/// What all workers of a job came to, where `told` is the cause of the first fault of which the stop cell
-/// tells: done where all are done, and else that cause, with which one of them ended. Where none ended with it
-/// the answer is want of memory; that never comes, which is not proved.
+/// What all workers of a job came to, where `told` is what the stop cell tells: done exactly where all of them
+/// are done. Another answer is the cause that was told, with which one of them ended, or want of memory. Of want
+/// of memory nothing is said: it is also the answer where no fault was told, or none ended with the one that was.
 pub fn outcome_of<'a, 'p, S, O, I>(
     rows: &[TaskRow<'a, 'p, S>],
     loops: &[LoopRow<'a, 'p, O, I>],
     collected: &CollectPlace<'a>,
     told: Option<Cause>,
 ) -> Cause
-    ensures done { result ≡ Done → AllDone rows.now loops.now collected.now }
+    ensures done { (result ≡ Done) ↔ AllDone rows.now loops.now collected.now }
     ensures ended { result ≢ Done → result ≢ Memory → HasEnded rows.now loops.now collected.now result }
+    ensures told { result ≢ Done → result ≢ Memory → told ≡ Some result }
     ensures stopped { result ≢ Stopped }
 {
     if all_done(rows) && all_done(loops) && is_done(collected) {

@@ -3,7 +3,6 @@ use Rattle.std.proofs.Common.{◌≡◌, ℕ, ◌≤◌, zero, suc, Bool, List, 
 use Rattle.std.specs.Prelude.{slice_get, Option, All, IfSome}
 use Rattle.std.specs.List.{refill}
 use Rattle.std.proofs.lemmas.Bool.{cases_lt}
-use Rattle.std.proofs.lemmas.List.Elements.{All-weaker}
 use Rattle.flow_defs.specs.Items.{Items}
 use Rattle.flow_defs.specs.declared.job.Job.{Job}
 use Rattle.flow_defs.specs.Jobs.{IsJob, last_edge, tasks}
@@ -25,7 +24,6 @@ use Rattle.job_workers.specs.Tasks.{LeftByTask, MayRunTask}
 use Rattle.job_deploy.specs.Deployed.{AreDeployed}
 use Rattle.job_ends.specs.Ended.{TaskPlace, LoopPlace}
 use Rattle.job_outcome.specs.Theorems.{IsNewWire, HaveRun}
-use Rattle.job_run.specs.Wires.{IsUnused}
 use Rattle.job_run.proofs.ListLaws.{get_there, place_low, all_at, each_of_four}
 
 -- ---- they may run
@@ -53,7 +51,7 @@ module _ {O I L N : Type 0} (line : O → L) (sent : O → Option (List ℕ)) (f
     {S : Type 0} (job : Job) (size : ℕ) (every : Option ℕ) (snapshots : SnapshotChannel) (edges : List Edge) (inputs : List S) (wires : List (Wire O I))
     (rows : List (Items (TaskPlace S))) (loops : List (Items (LoopPlace O I)))
     (edges_are : AreEdgesOf job size edges) (wires_many : length wires ≡ suc (last_edge job))
-    (unused : All (λ (wire : Wire O I). IsUnused line sent finished of_out end_line got ended of_in belong wire) wires)
+    (unused : All (λ (wire : Wire O I). IsNewWire line sent finished of_out end_line got ended of_in belong wire) wires)
     (d : AreDeployed job size every snapshots edges inputs wires rows loops) where
   pub loops_may_run : Each (λ (row : Items (LoopPlace O I)). Each (MayRun (MayRunLoop finished)) row.items) loops
   loops_may_run e row at i place here =
@@ -62,7 +60,7 @@ module _ {O I L N : Type 0} (line : O → L) (sent : O → Option (List ℕ)) (f
       let edges_many = edges_are.many in
       let edge = get_there edges e (omega (arith, low, many, edges_many)) in
       let wire = get_there wires e (omega (arith, low, many, wires_many)) in
-      let new = all_at (λ (w : Wire O I). IsUnused line sent finished of_out end_line got ended of_in belong w) wires e wire.0 unused wire.1 in
+      let new = all_at (λ (w : Wire O I). IsNewWire line sent finished of_out end_line got ended of_in belong w) wires e wire.0 unused wire.1 in
       let four = d.loops e edge.0 wire.0 row edge.1 wire.1 at in
       each_of_four (λ (p : LoopPlace O I). MayRun (MayRunLoop finished) p) _ _ _ _
       (four.may_send.0, subst (λ (half : O). IsUnfinished (finished half)) (sym four.sending.0) new.data_out.unfinished)
@@ -96,13 +94,7 @@ module _ {O I L N : Type 0} (line : O → L) (sent : O → Option (List ℕ)) (f
           edges_are = edges_are;
           inputs_many = inputs_many;
           wires_many = wires_many;
-          new_wires = All-weaker (λ (w : Wire O I). IsUnused line sent finished of_out end_line got ended of_in belong w) (λ (w : Wire O I). IsNewWire left faults line sent finished of_out end_line got ended of_in belong w) (λ wire new. record {
-            belonged = new.belonged;
-            data_out = new.data_out;
-            data_in = new.data_in;
-            control_out = new.control_out;
-            control_in = new.control_in;
-          }) wires unused;
+          new_wires = unused;
           rows_before = rows;
           loops_before = loops;
           deployed = d;

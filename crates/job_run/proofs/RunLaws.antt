@@ -27,7 +27,7 @@ use Rattle.job_outcome.specs.Grounds.{HasPeerFault}
 use Rattle.job_outcome.specs.Outcomes.{AllDone, AreTold, ComeBack, HasEnded, IsRunCause, cause_of_collector}
 use Rattle.job_outcome.specs.Storing.{EndsIn, HasKept, HasStored, IsTooLarge}
 use Rattle.job_outcome.specs.Theorems.{HaveRun, AreLeftIn, AreSettledWith, CausesHaveGrounds, DoneCollectorHasLast, DoneWorkersTally, InputsComeBack, KeeperGotImages, StoredImagesAreChain}
-use Rattle.job_run.specs.Runs.{AreAllSettled, HasCollected, HaveInputs, IsAnswer, IsFaultOf, IsJoined, IsRun, IsTableOf}
+use Rattle.job_run.specs.Runs.{HasCollected, HaveInputs, IsAnswer, IsFaultOf, IsJoined, IsRun, IsTableOf}
 use Rattle.job_run.specs.Wires.{IsLinkGround, IsPeerGround, IsWireCause}
 use Rattle.job_run.proofs.WireLaws.{risen_over}
 use Rattle.job_run.proofs.ListLaws.{some_is, get_there}
@@ -42,9 +42,10 @@ stay_back {S} faults before after same = record {
       omega (arith, f);
 }
 
--- Where links and inputs tell their bytes, an image is too large.
-abbrev TellLarge : {S O I : Type 0} (left : S → Option (List ℕ)) (sent : O → Option (List ℕ)) (got : I → Option (List ℕ)) (job : Job) (every : Option ℕ) (before : List S) → Type 0
-TellLarge left sent got job every before = LinksTell sent got → (bytes : ℕ → List ℕ) → AreTold left before bytes → IsTooLarge job (λ a. lines (bytes a)) every
+-- Where links and inputs tell their bytes, an image behind those that the keeper got is too large.
+abbrev TellLarge : {S O I : Type 0} (left : S → Option (List ℕ)) (sent : O → Option (List ℕ)) (got : I → Option (List ℕ)) (job : Job) (every : Option ℕ) (before : List S)
+    (kept keeps : Option (List KeptImage)) → Type 0
+TellLarge left sent got job every before kept keeps = LinksTell sent got → (bytes : ℕ → List ℕ) → AreTold left before bytes → IsTooLarge job (λ a. lines (bytes a)) every kept keeps
 
 -- A cause has its grounds whatever else follows from a fault of a link.
 cause_with : {S : Type 0} (left : S → Option (List ℕ)) (faults : S → ℕ) (before after : List S) (L M : Type 0) (P Q : PeerFault → Type 0) (keeper big large : Type 0) →
@@ -87,7 +88,7 @@ is_final last image is final = subst (λ (m : Option Image). IsSomeAnd m (λ (x 
 module _ {S O I : Type 0} (left : S → Option (List ℕ)) (faults : S → ℕ) (sent : O → Option (List ℕ)) (got : I → Option (List ℕ)) where
   -- A run that ended with a cause before its workers were at work.
   pub not_run : (job : Job) (every : Option ℕ) (before after : List S) (kept keeps : Option (List KeptImage)) (fell rose : ℕ) (link : Type 0) (peer : PeerFault → Type 0) (cause : Cause) →
-      after ≡ before → keeps ≡ kept → rose ≡ fell → IsRunCause left faults before after link peer (HasRisen fell rose) (TellLarge left sent got job every before) cause →
+      after ≡ before → keeps ≡ kept → rose ≡ fell → IsRunCause left faults before after link peer (HasRisen fell rose) (TellLarge left sent got job every before kept keeps) cause →
       IsRun left faults sent got job every before after kept keeps fell rose link peer (Err cause)
   not_run job every before after kept keeps fell rose link peer cause same still calm grounds = record {
     tally = tt;
@@ -114,7 +115,7 @@ module _ {S O I : Type 0} (left : S → Option (List ℕ)) (faults : S → ℕ) 
   }
   run_with job every before after kept keeps fell rose L M P Q f h (Err cause) run = record {
     tally = tt;
-    cause = cause_with left faults before after L M P Q (HasRisen fell rose) (TellLarge left sent got job every before) (TellLarge left sent got job every before) f h (λ x. x) cause run.cause;
+    cause = cause_with left faults before after L M P Q (HasRisen fell rose) (TellLarge left sent got job every before kept keeps) (TellLarge left sent got job every before kept keeps) f h (λ x. x) cause run.cause;
     inputs = run.inputs;
     chain = run.chain;
     kept_some = run.kept_some;
@@ -130,10 +131,10 @@ module _ {S O I : Type 0} (left : S → Option (List ℕ)) (faults : S → ℕ) 
     pub no_wire : (cause : Cause) → IsWireCause link cause → IsRun left faults sent got job every inputs inputs kept kept faults_kept faults_kept link peer (Err cause)
     no_wire cause (inl memory) =
         not_run job every inputs inputs kept kept faults_kept faults_kept link peer cause refl refl refl
-        (subst (IsRunCause left faults inputs inputs link peer (HasRisen faults_kept faults_kept) (TellLarge left sent got job every inputs)) (sym memory) tt)
+        (subst (IsRunCause left faults inputs inputs link peer (HasRisen faults_kept faults_kept) (TellLarge left sent got job every inputs kept kept)) (sym memory) tt)
     no_wire cause (inr fault) =
         not_run job every inputs inputs kept kept faults_kept faults_kept link peer cause refl refl refl
-        (subst (IsRunCause left faults inputs inputs link peer (HasRisen faults_kept faults_kept) (TellLarge left sent got job every inputs)) (sym fault.0) fault.1)
+        (subst (IsRunCause left faults inputs inputs link peer (HasRisen faults_kept faults_kept) (TellLarge left sent got job every inputs kept kept)) (sym fault.0) fault.1)
 
 -- What stands behind a fault stands behind it over a longer time.
 pub link_before : (sure never_fails : Type 0) (a b c : ℕ) → (never_fails → sure) → a ≤ b → IsLinkGround sure b c → IsLinkGround never_fails a c
@@ -186,7 +187,7 @@ module _ {S O I L N : Type 0} (left : S → Option (List ℕ)) (faults : S → �
         (are_chain : StoredImagesAreChain left faults line sent finished of_out end_line got ended of_in belong)
         (got_images : KeeperGotImages left faults line sent finished of_out end_line got ended of_in belong)
         (are_left : AreLeftIn rows after) (many : length after ≡ tasks job 0)
-        (settled : LinksTell sent got → (end : CollectEnd) → collected ≡ Ended end → AreAllSettled job rows end)
+        (settled : LinksTell sent got → (end : CollectEnd) → collected ≡ Ended end → AreSettledWith job rows end)
         (risen : HasLinkFault of_out of_in loops → link) (met : (fault : PeerFault) → HasPeerFault sent got ended job loops fault → peer fault) where
       come : ComeBack faults inputs after
       come = record {
@@ -202,7 +203,7 @@ module _ {S O I L N : Type 0} (left : S → Option (List ℕ)) (faults : S → �
       chained : (end : CollectEnd) → collected ≡ Ended end → LinksTell sent got → (bytes : ℕ → List ℕ) → AreTold left inputs bytes →
           (stored : HasStored job (λ a. lines (bytes a)) every kept keeps) × (end.last ≡ last_or None stored.images)
       chained end is tell bytes told =
-          are_chain job size every snapshots edges inputs wires kept keeps fell rose rows loops collected end bytes ran is told (let all = settled tell end is in record { edges = all.edges; received = all.received })
+          are_chain job size every snapshots edges inputs wires kept keeps fell rose rows loops collected end bytes ran is told (settled tell end is)
 
       -- A worker that was done has marked it so.
       done_final : (end : CollectEnd) (image : Image) → collected ≡ Ended end → end.last ≡ Some image → AllDone rows loops collected → image.final_one ≡ true
@@ -231,7 +232,7 @@ module _ {S O I L N : Type 0} (left : S → Option (List ℕ)) (faults : S → �
             tally = λ tell bytes told.
                 let joined = answer.table.1 in
                 let both = done_tally job size every snapshots edges inputs wires kept keeps fell rose rows loops collected joined.end bytes joined.table_of.image ran joined.end_is joined.table_of.image_is
-                answer.table.0 told (let all = settled tell joined.end joined.end_is in record { edges = all.edges; received = all.received }) in
+                answer.table.0 told (settled tell joined.end joined.end_is) in
                 (both.1, joined.table_of.table_is ∙ both.0);
             cause = tt;
             inputs = come;
@@ -245,11 +246,11 @@ module _ {S O I L N : Type 0} (left : S → Option (List ℕ)) (faults : S → �
           record {
             tally = tt;
             cause = elim answer.cause [
-              | inl memory ↦ subst (IsRunCause left faults inputs after link peer (HasRisen fell rose) (TellLarge left sent got job every inputs)) (sym memory) tt
+              | inl memory ↦ subst (IsRunCause left faults inputs after link peer (HasRisen fell rose) (TellLarge left sent got job every inputs kept keeps)) (sym memory) tt
               | inr fault ↦ cause_with left faults inputs after (HasLinkFault of_out of_in loops) link (HasPeerFault sent got ended job loops) peer (HasRisen fell rose)
-                  ((end : CollectEnd) (bytes : ℕ → List ℕ) → collected ≡ Ended end → AreTold left inputs bytes → AreSettledWith left faults line sent finished of_out end_line got ended of_in belong job rows end → IsTooLarge job (λ a. lines (bytes a)) every)
-                  (TellLarge left sent got job every inputs) risen met
-                  (λ big tell bytes told. let all = settled tell ran.end ran.end_is in big ran.end bytes ran.end_is told (record { edges = all.edges; received = all.received }))
+                  ((end : CollectEnd) (bytes : ℕ → List ℕ) → collected ≡ Ended end → AreTold left inputs bytes → AreSettledWith job rows end → IsTooLarge job (λ a. lines (bytes a)) every kept keeps)
+                  (TellLarge left sent got job every inputs kept keeps) risen met
+                  (λ big tell bytes told. big ran.end bytes ran.end_is told (settled tell ran.end ran.end_is))
                   cause
                   (grounds job size every snapshots edges inputs after wires kept keeps fell rose rows loops collected cause ran are_left (many ∙ sym ran.inputs_many) fault.0 fault.1 fault.2)
             ];

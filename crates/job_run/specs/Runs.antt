@@ -6,21 +6,20 @@ use Rattle.flow_defs.specs.declared.cause.Cause.TheVariants.{Done, Stopped, Memo
 use Rattle.flow_defs.specs.declared.cause.PeerFault.{PeerFault}
 use Rattle.flow_defs.specs.declared.image.Image.{Image}
 use Rattle.flow_defs.specs.declared.job.Job.{Job}
-use Rattle.flow_defs.specs.Jobs.{last_edge, tasks}
+use Rattle.flow_defs.specs.Jobs.{tasks}
 use Rattle.flow_defs.specs.Lines.{lines}
 use Rattle.flow_defs.specs.Tables.{Values, join}
 use Rattle.plain_machine.specs.Worth.{tally}
 use Rattle.outside.specs.Faults.{HasRisen}
 use Rattle.outside.specs.Keepers.{KeptImage}
 use Rattle.snapshot_channel.specs.declared.opened.SnapshotChannel.{SnapshotChannel}
-use Rattle.snapshot_channel.specs.Passes.{IsCollecting, received_by}
+use Rattle.snapshot_channel.specs.Passes.{IsCollecting}
 use Rattle.collecting_worker.specs.declared.world.CollectEnd.{CollectEnd}
 use Rattle.job_workers.specs.declared.collecting.CollectTask.{CollectTask}
 use Rattle.job_workers.specs.declared.place.Place.{Place}
 use Rattle.job_workers.specs.declared.place.Place.TheVariants.{Ended}
 use Rattle.job_workers.specs.declared.task.TaskLeft.{TaskLeft}
-use Rattle.job_ends.specs.Edges.{EdgeCarries}
-use Rattle.job_ends.specs.Ended.{TaskPlace, LoopPlace, AreReceived, LinksTell, left_in, left_at, own_at, gate_at}
+use Rattle.job_ends.specs.Ended.{TaskPlace, LoopPlace, LinksTell, left_in, left_at}
 use Rattle.job_outcome.specs.Outcomes.{AllDone, HasEnded, AreTold, AreWithin, ComeBack, IsRunCause}
 use Rattle.job_outcome.specs.Storing.{EndsIn, HasKept, HasStored, IsTooLarge}
 
@@ -34,11 +33,6 @@ module _ {S : Type 0} where
   -- Each task of the sources left an input.
   abbrev pub HaveInputs : Job → List (Items (TaskPlace S)) → Type 0
   HaveInputs job rows = (a : ℕ) → a < tasks job 0 → (end : TaskLeft S) × ((input : S) × (left_at rows 0 a ≡ Some end) × (end.input ≡ Some input))
-
-  -- What is settled once all workers have ended: each edge carries, and of each task's snapshots the first ones were received.
-  pub record AreAllSettled (job : Job) (rows : List (Items (TaskPlace S))) (end : CollectEnd) : Type 0 where
-    pub edges : (e : ℕ) → e ≤ last_edge job → EdgeCarries job e (own_at rows e) (gate_at rows e)
-    pub received : AreReceived job (received_by end.collecting) rows
 
 -- The worker that collects has ended with its pass of the channel of snapshots, and where it is done with a last image.
 pub record HasCollected (channel : SnapshotChannel) (collected : Place CollectTask CollectEnd) : Type 0 where
@@ -84,7 +78,7 @@ module _ {S O I : Type 0} (left : S → Option (List ℕ)) (faults : S → ℕ) 
   -- the last one.
   pub record IsRun (job : Job) (every : Option ℕ) (before after : List S) (kept keeps : Option (List KeptImage)) (fell rose : ℕ) (link : Type 0) (peer : PeerFault → Type 0) (result : Result Values Cause) : Type 0 where
     pub tally : IfOk result (λ table. WhereTold before (λ bytes. AreWithin job bytes × (table ≡ tally job (λ a. lines (bytes a)))))
-    pub cause : IfErr result (IsRunCause left faults before after link peer (HasRisen fell rose) (WhereTold before (λ bytes. IsTooLarge job (λ a. lines (bytes a)) every)))
+    pub cause : IfErr result (IsRunCause left faults before after link peer (HasRisen fell rose) (WhereTold before (λ bytes. IsTooLarge job (λ a. lines (bytes a)) every kept keeps)))
     pub inputs : ComeBack faults before after
     pub chain : WhereTold before (λ bytes. HasStored job (λ a. lines (bytes a)) every kept keeps)
     pub kept_some : (images : List Image) × HasKept kept keeps images

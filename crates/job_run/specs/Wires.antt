@@ -1,4 +1,4 @@
--- The wires of a job before anything went over them. This is this project's own choice.
+-- Why a wire can't be had, and what stands behind a fault of one. This is this project's own choice.
 use Rattle.std.specs.Prelude.{◌≡◌, ◌⊎◌, ℕ, Bool, List, ◌++◌, slice_get, Option, Some, IfSome}
 use Rattle.flow_defs.specs.declared.cause.Cause.{Cause}
 use Rattle.flow_defs.specs.declared.cause.Cause.TheVariants.{Link, Memory}
@@ -6,20 +6,9 @@ use Rattle.flow_defs.specs.declared.cause.PeerFault.{PeerFault}
 use Rattle.flow_defs.specs.declared.job.Job.{Job}
 use Rattle.outside.specs.declared.wires.Wire.{Wire}
 use Rattle.outside.specs.Faults.{HasRisen}
-use Rattle.outside.specs.Links.{IsNewOut, IsNewIn}
 use Rattle.conn_parts.specs.Messages.{is_from_sender, is_from_receiver}
 use Rattle.job_cells.specs.Edges.{channels_on}
 use Rattle.job_outcome.specs.Grounds.{HasMetFault, IsTaskFault, ItemsBegin, ControlBegins}
-
-module _ {O I L M : Type 0} (line : O → L) (sent : O → Option (List ℕ)) (finished : O → Option Bool) (of_out : O → ℕ)
-    (end_line : I → M) (got : I → Option (List ℕ)) (ended : I → Option Bool) (of_in : I → ℕ) (belong : L → M → Type 0) where
-  -- Nothing went over a wire yet, and the ends of its link for data belong together.
-  pub record IsUnused (wire : Wire O I) : Type 0 where
-    pub belonged : belong (line wire.data_out) (end_line wire.data_in)
-    pub data_out : IsNewOut (sent wire.data_out) (finished wire.data_out) (of_out wire.data_out)
-    pub data_in : IsNewIn (got wire.data_in) (ended wire.data_in) (of_in wire.data_in)
-    pub control_out : IsNewOut (sent wire.control_out) (finished wire.control_out) (of_out wire.control_out)
-    pub control_in : IsNewIn (got wire.control_in) (ended wire.control_in) (of_in wire.control_in)
 
 -- What stands behind a fault of a link: the count of faults rose, and some call was to fail.
 pub record IsLinkGround (never_fails : Type 0) (before after : ℕ) : Type 0 where

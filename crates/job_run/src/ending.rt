@@ -9,8 +9,8 @@ ghost use Rattle.collecting_worker.specs.declared.world.CollectEnd.{CollectEnd};
 ghost use Rattle.job_workers.specs.declared.place.Place.TheVariants.{Ended};
 ghost use Rattle.job_ends.specs.Ended.{AreEnded, AreSettled, HasLinkFault, HaveAcknowledged, LinksTell};
 ghost use Rattle.job_ends.specs.Returning.{RowsCameBack};
-ghost use Rattle.job_outcome.specs.Theorems.{AreLeftIn};
-ghost use Rattle.job_run.specs.Runs.{AreAllSettled, HasCollected, HaveInputs, IsAnswer};
+ghost use Rattle.job_outcome.specs.Theorems.{AreLeftIn, AreSettledWith};
+ghost use Rattle.job_run.specs.Runs.{HasCollected, HaveInputs, IsAnswer};
 
 use crate::cells::RunCells;
 use crate::inputs::take_inputs;
@@ -57,7 +57,7 @@ fn settle_all<'a, 'p, S, N: Links, R: Wait>(
     requires collecting { IsCollecting channel.now collecting }
     requires room { (room.items ≡ []) × (length (all_tasks job.now) ≤ room.room) }
     requires lent { suc (last_edge job.now) ≤ N.lent net.old }
-    ensures settled { LinksTell N.Out.sent N.In.got → (end : CollectEnd) → end.collecting ≡ collecting → AreAllSettled job.now rows.old end }
+    ensures settled { LinksTell N.Out.sent N.In.got → (end : CollectEnd) → end.collecting ≡ collecting → AreSettledWith job.now rows.old end }
     ensures rest { AreSettled rows.old rows.new }
     ensures wires { RowsCameBack N.In.got N.In.ended (N.wires net.old) (N.wires net.new) loops.old (suc (last_edge job.now)) }
     ensures fault { HasLinkFault N.Out.faults N.In.faults loops.old → HasRisen (N.faults net.old) (N.faults net.new) }
@@ -68,9 +68,10 @@ fn settle_all<'a, 'p, S, N: Links, R: Wait>(
     settle_snapshots(job, channel, collecting, rows, room);
 }
 
-/// What the workers of a job came to. Their snapshots and their edges are settled, the wires are given back, and
-/// the inputs of the sources come back in order, for which there is room, as there is for the passes of the channel
-/// of snapshots.
+/// What the workers of a job came to: the tables of the last image, joined, where all are done, and else the cause.
+/// Their edges are settled, each of which gives its wire back to `net`, and then their snapshots. The inputs of the
+/// sources come back in `inputs`, in order, for which there is room, as there is for the passes of the channel of
+/// snapshots.
 pub fn wind_up<'a, 'p, S: Drop, N: Links, R: Wait>(
     rt: &R,
     alloc: Global,
@@ -94,7 +95,7 @@ pub fn wind_up<'a, 'p, S: Drop, N: Links, R: Wait>(
     requires lent { suc (last_edge job.now) ≤ N.lent net.old }
     ensures answer { IsAnswer job.now ran.entry.rows.items ran.entry.loops.items ran.entry.collected result }
     ensures inputs { AreLeftIn ran.entry.rows.items inputs.new.items × (length inputs.new.items ≡ tasks job.now 0) }
-    ensures settled { LinksTell N.Out.sent N.In.got → (end : CollectEnd) → ran.entry.collected ≡ Ended end → AreAllSettled job.now ran.entry.rows.items end }
+    ensures settled { LinksTell N.Out.sent N.In.got → (end : CollectEnd) → ran.entry.collected ≡ Ended end → AreSettledWith job.now ran.entry.rows.items end }
     ensures wires { RowsCameBack N.In.got N.In.ended (N.wires net.old) (N.wires net.new) ran.entry.loops.items (suc (last_edge job.now)) }
     ensures fault { HasLinkFault N.Out.faults N.In.faults ran.entry.loops.items → HasRisen (N.faults net.old) (N.faults net.new) }
     ensures lent { N.lent net.new + suc (last_edge job.now) ≡ N.lent net.old }

@@ -1,7 +1,8 @@
 //! A run of a job: its pool, its cells and its wires are made, its workers run at once, and what they left is
 //! settled and counted.
 //!
-//! It stands on job_cells, job_deploy, job_workers, job_ends and job_outcome, each of which does one of these;
+//! It stands on job_cells, job_deploy, job_workers, job_ends and job_outcome, each of which does one of these, on
+//! snapshot_channel and collecting_worker for what the workers share, and on job_plan for the joined table;
 //! `job_cli` stands on it.
 #![tactic(auto)]
 

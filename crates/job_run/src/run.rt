@@ -17,9 +17,10 @@ ghost use Rattle.job_workers.specs.Collecting.{TakesImages};
 ghost use Rattle.job_ends.specs.Ended.{LinksTell};
 ghost use Rattle.job_outcome.specs.Outcomes.{AreTold, AreWithin, ComeBack, IsRunCause};
 ghost use Rattle.job_outcome.specs.Storing.{EndsIn, HasKept, HasStored, IsTooLarge};
+ghost use Rattle.job_outcome.specs.Theorems.{IsNewWire};
 ghost use Rattle.job_run.specs.Cells.{AreCellsOf, CanCheckpoint};
 ghost use Rattle.job_run.specs.Runs.{IsRun};
-ghost use Rattle.job_run.specs.Wires.{IsLinkGround, IsPeerGround, IsUnused};
+ghost use Rattle.job_run.specs.Wires.{IsLinkGround, IsPeerGround};
 
 use crate::cells::{OpenedCells, open_cells};
 use crate::ending::wind_up;
@@ -66,7 +67,7 @@ where
     requires opened { AreCellsOf job.now every opened }
     requires inputs { length inputs.old.items ≡ tasks job.now 0 }
     requires wires { length wires.items ≡ suc (last_edge job.now) }
-    requires unused { All (λ wire. IsUnused N.Out.line N.Out.sent N.Out.finished N.Out.faults N.In.line N.In.got N.In.ended N.In.faults N.belong wire) wires.items }
+    requires unused { All (λ wire. IsNewWire N.Out.line N.Out.sent N.Out.finished N.Out.faults N.In.line N.In.got N.In.ended N.In.faults N.belong wire) wires.items }
     requires lent { suc (last_edge job.now) ≤ N.lent net.old }
     ensures run { IsRun S.left S.faults N.Out.sent N.In.got job.now every inputs.old.items inputs.new.items
         (K.images keeper.old) (K.images keeper.new) (K.faults keeper.old) (K.faults keeper.new)
@@ -169,13 +170,15 @@ fn opened(job: &Job, segments: u32) -> u32
 /// counted, which is that of the last image, or the cause of the first fault that a worker met.
 ///
 /// `every` is how many lines a source reads between two checkpoints, from 1; with None there is one checkpoint, at the
-/// end. The images are stored in the keeper, from number 1 on; it has none with a higher number. With aligned barriers
-/// as in Flink nothing is in flight at any of them.
+/// end. The images are stored in the keeper, from number 1 on; it must hold no image yet with a number from 1 on. With
+/// aligned barriers as in Flink nothing is in flight at any of them.
 ///
 /// `segments` and `size` are those of the pool of network memory, in segments and in bytes a segment. Of the
 /// segments at most six for each that the job needs are opened; more are never lent. There is
 /// an input for each source, in order; they come back in the same order. Memory: the pool, the tables, two images,
-/// 131,072 bytes for each link and the stacks of the threads, whatever the size of the inputs.
+/// 131,072 bytes for each link and the stacks of the threads. A task of several senders also keeps a run for each
+/// change of sender since its last checkpoint, with no interval for the whole run, and an image has those of all
+/// tasks: so much may grow with the inputs.
 pub fn run_job<S, N, K, R>(
     rt: &R,
     alloc: Global,
@@ -209,7 +212,7 @@ where
         (IsLinkGround (N.never_fails net.old) (N.faults net.old) (N.faults net.new))
         (IsPeerGround N.Out.sent N.In.got N.In.ended job.now (N.wires net.old) (N.wires net.new))
         (HasRisen (K.faults keeper.old) (K.faults keeper.new))
-        (LinksTell N.Out.sent N.In.got → (bytes : ℕ → List ℕ) → AreTold S.left inputs.old.items bytes → IsTooLarge job.now (λ a. lines (bytes a)) every)) }
+        (LinksTell N.Out.sent N.In.got → (bytes : ℕ → List ℕ) → AreTold S.left inputs.old.items bytes → IsTooLarge job.now (λ a. lines (bytes a)) every (K.images keeper.old) (K.images keeper.new))) }
     ensures inputs { ComeBack S.faults inputs.old.items inputs.new.items }
     ensures lent { N.lent net.new ≡ N.lent net.old }
     ensures never_falls { N.faults net.old ≤ N.faults net.new }

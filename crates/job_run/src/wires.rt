@@ -1,7 +1,8 @@
 // The wires of a job.
 ghost use Rattle.std.specs.Prelude.{◌≡◌, ◌+◌, ◌≤◌, length, All, Err, IfErr, IfOk, OnErr, OnOk};
 ghost use Rattle.outside.specs.Links.{NeverFails};
-ghost use Rattle.job_run.specs.Wires.{IsLinkGround, IsUnused, IsWireCause};
+ghost use Rattle.job_outcome.specs.Theorems.{IsNewWire};
+ghost use Rattle.job_run.specs.Wires.{IsLinkGround, IsWireCause};
 
 use flow_defs::{Cause, ListOf};
 use outside::{Links, PairFault, Wire};
@@ -29,7 +30,7 @@ fn add_wires<N: Links>(
 ) -> Result<(), PairFault>
     requires none { length wires.old.items ≡ 0 }
     requires room { many ≤ wires.old.room }
-    ensures unused { All (λ wire. IsUnused N.Out.line N.Out.sent N.Out.finished N.Out.faults N.In.line N.In.got N.In.ended N.In.faults N.belong wire) wires.new.items }
+    ensures unused { All (λ wire. IsNewWire N.Out.line N.Out.sent N.Out.finished N.Out.faults N.In.line N.In.got N.In.ended N.In.faults N.belong wire) wires.new.items }
     ensures many { OnOk result (length wires.new.items ≡ many) }
     ensures lent { N.lent net.new ≡ N.lent net.old + length wires.new.items }
     ensures same { N.wires net.new ≡ N.wires net.old }
@@ -52,7 +53,7 @@ pub fn open_wires<N: Links>(
     net: &mut N,
     many: usize,
 ) -> Result<ListOf<Wire<N::Out, N::In>>, Cause>
-    ensures unused { IfOk result (λ wires. All (λ wire. IsUnused N.Out.line N.Out.sent N.Out.finished N.Out.faults N.In.line N.In.got N.In.ended N.In.faults N.belong wire) wires.items) }
+    ensures unused { IfOk result (λ wires. All (λ wire. IsNewWire N.Out.line N.Out.sent N.Out.finished N.Out.faults N.In.line N.In.got N.In.ended N.In.faults N.belong wire) wires.items) }
     ensures many { IfOk result (λ wires. length wires.items ≡ many) }
     ensures lent { OnOk result (N.lent net.new ≡ N.lent net.old + many) }
     ensures same { OnOk result (N.wires net.new ≡ N.wires net.old) }

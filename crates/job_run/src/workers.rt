@@ -4,9 +4,8 @@ ghost use Rattle.flow_defs.specs.Jobs.{IsJob, last_edge, tasks};
 ghost use Rattle.stage_fns.specs.Kinds.{kinds};
 ghost use Rattle.job_plan.specs.Plans.{CanRun};
 ghost use Rattle.job_cells.specs.Edges.{AreAllPassesOf, AreEdgesOf};
-ghost use Rattle.job_outcome.specs.Theorems.{HaveRun};
+ghost use Rattle.job_outcome.specs.Theorems.{HaveRun, IsNewWire};
 ghost use Rattle.job_run.specs.Cells.{AreDealt, CanCheckpoint};
-ghost use Rattle.job_run.specs.Wires.{IsUnused};
 
 use crate::cells::{CellPasses, RunCells};
 use collecting_worker::CollectWorld;
@@ -57,7 +56,7 @@ where
     requires dealt { AreDealt job.now every cells.now dealt }
     requires inputs { length inputs.old.items ≡ tasks job.now 0 }
     requires wires { length wires.old.items ≡ suc (last_edge job.now) }
-    requires unused { All (λ wire. IsUnused N.Out.line N.Out.sent N.Out.finished N.Out.faults N.In.line N.In.got N.In.ended N.In.faults N.belong wire) wires.old.items }
+    requires unused { All (λ wire. IsNewWire N.Out.line N.Out.sent N.Out.finished N.Out.faults N.In.line N.In.got N.In.ended N.In.faults N.belong wire) wires.old.items }
     ensures ran { IfOk result (λ d. HaveRun S.left S.faults N.Out.line N.Out.sent N.Out.finished N.Out.faults N.In.line N.In.got N.In.ended N.In.faults N.belong
         job.now size every cells.now.channel edges.now inputs.old.items wires.old.items
         (K.images keeper.old) (K.images keeper.new) (K.faults keeper.old) (K.faults keeper.new) d.rows.items d.loops.items d.collected) }

@@ -80,9 +80,14 @@ returns-in_err-table-clause-fault g c =
     let options = c.args.options in
     let passed = err_from_is_err_and c.from_residual-in_err-table.result c.from_residual-in_err-table.ensures.1 in
     let same : c.in_err-table.field-0.0 ≡ passed.0 = (let gives = passed.2 in cc) in
-    let fault : IsRunFault job options.every contents passed.0 = subst (IsRunFault job options.every contents) same (subst (λ (f : List ℕ → Option (List ℕ)). IsRunFault job options.every f c.in_err-table.field-0.0) c.read_job_text.ensures.same c.in_err-table.ensures.fault) in
+    let kept = g.K.Keeper.images c.refuse_held.new.keeper in
+    let after = g.K.Keeper.images c.table_by_exchange.new.keeper in
+    let fault : IsRunFault job options.every contents held after passed.0 =
+    subst (IsRunFault job options.every contents held after) same
+    (subst (λ (o : Option (List KeptImage)). IsRunFault job options.every contents o after c.in_err-table.field-0.0) c.refuse_held.ensures.same
+    (subst (λ (f : List ℕ → Option (List ℕ)). IsRunFault job options.every f kept after c.in_err-table.field-0.0) c.read_job_text.ensures.same c.in_err-table.ensures.fault)) in
     subst (λ r. IfErr r (λ (f : Fault). (words : List (List ℕ)) → IsRun words c.args.name.now options → IsFaultOf words functions contents held f)) (sym passed.1)
-    (λ words is_run. of_run words functions contents held c.args.name.now options is_run c.in_ok-text.text.items job passed.0 c.in_ok-refuse_held.ensures.none
+    (λ words is_run. of_run words functions contents held c.args.name.now options is_run c.in_ok-text.text.items job after passed.0 c.in_ok-refuse_held.ensures.none
     (λ P. of_ready words functions contents held c.args.name.now options is_run c.in_ok-text.text.items job P
     c.in_ok-text.ensures.told c.in_ok-text.ensures.fits (subst (λ text. first_fault functions text ≡ None) c.as_slice.ensures c.in_ok-job.ensures.clear) (subst (λ text. IsJobText functions text job) c.as_slice.ensures c.in_ok-job.ensures.job) c.in_ok-check_pool.ensures.enough)
     fault)

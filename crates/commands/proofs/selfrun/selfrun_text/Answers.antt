@@ -46,4 +46,4 @@ returns-clause-fault g c =
     let functions = kinds c.args.functions.now in
     let clear : first_fault functions self_text ≡ None = subst (λ t. first_fault functions t ≡ None) c.self_text.ensures c.in_ok-job.ensures.clear in
     subst (IsSelfFault functions) (sym c.own_fault.ensures)
-    (of_self_run functions c.in_ok-job.job (Some 100000) (contents_in c.in_ok-files.files.files) c.in-Err.fault clear c.in-Err.ensures.fault)
+    (of_self_run functions c.in_ok-job.job (Some 100000) (contents_in c.in_ok-files.files.files) (Some c.empty_keeper-keeper.result.images) (Some c.table_by_exchange.new.keeper.images) c.in-Err.fault clear c.in-Err.ensures.fault)

@@ -36,7 +36,7 @@ pub returns-in-Err-clause-complete : goal.returns-in-Err-clause-complete
 returns-in-Err-clause-complete g c = λ options job bytes run sources enough within small empty no_input no_keeper no_output.
     subst (Contains (0 ∷ 11 ∷ 12 ∷ 70 ∷ [])) (sym c.status.ensures)
     (completes c.args.words.now.items (kinds c.args.functions.now) (g.F.Files.contents c.args.files.now) (g.K.Keeper.images c.args.keeper.now) c.words_are_clear.ensures.no_fault c.words_are_clear.ensures.one options job run c.job_texts_are_clear.ensures.no_fault c.job_texts_are_clear.ensures.files bytes sources enough within
-    (λ other is large. small (large_too other job (one_work c.job_texts_are_clear.ensures.tasks c.job_texts_are_clear.ensures.work (kinds c.args.functions.now) run.text other job is run.is_job) (λ a. lines (bytes a)) options.every large))
+    (λ other is after large. small after (large_too other job (one_work c.job_texts_are_clear.ensures.tasks c.job_texts_are_clear.ensures.work (kinds c.args.functions.now) run.text other job is run.is_job) (λ a. lines (bytes a)) options.every (g.K.Keeper.images c.args.keeper.now) after large))
     empty c.in-Err.fault
     (λ four. no_input (c.in-Err.ensures.input four)) (λ five. no_keeper (c.in-Err.ensures.keeper five)) (λ seven. no_output (c.in-Err.ensures.output seven)) c.in-Err.ensures.fault)
 

@@ -19,14 +19,14 @@ returns-in-Ok-clause-told g c = λ bytes tells.
 
 pub returns-in-Err-clause-fault : goal.returns-in-Err-clause-fault
 returns-in-Err-clause-fault g c =
-    subst (IsRunFault c.args.job.now c.args.options.every (g.F.Files.contents c.args.files.now)) (sym c.fault_of.ensures)
+    subst (IsRunFault c.args.job.now c.args.options.every (g.F.Files.contents c.args.files.now) (g.K.Keeper.images c.args.keeper.now) (g.K.Keeper.images c.table_of_inputs.new.keeper)) (sym c.fault_of.ensures)
     (fault_of_run g.F.Input.Source.left g.F.Input.Source.faults c.find_inputs.new.inputs.items c.table_of_inputs.new.inputs.items c.args.job.now (g.F.Files.contents c.args.files.now)
-    c.find_inputs.ensures.told c.in_ok-find_inputs.ensures.found c.args.options.every (HasRisen (g.K.Keeper.faults c.args.keeper.now) (g.K.Keeper.faults c.table_of_inputs.new.keeper)) c.in-Err.cause c.in-Err.ensures.cause)
+    c.find_inputs.ensures.told c.in_ok-find_inputs.ensures.found c.args.options.every (g.K.Keeper.images c.args.keeper.now) (g.K.Keeper.images c.table_of_inputs.new.keeper) (HasRisen (g.K.Keeper.faults c.args.keeper.now) (g.K.Keeper.faults c.table_of_inputs.new.keeper)) c.in-Err.cause c.in-Err.ensures.cause)
 
 pub returns-in-Err-clause-input : goal.returns-in-Err-clause-input
 returns-in-Err-clause-input g c = λ four.
     inr (faulty_input g.F.Input.Source.left g.F.Input.Source.faults c.find_inputs.new.inputs.items c.table_of_inputs.new.inputs.items c.args.job.now (g.F.Files.contents c.args.files.now)
-    c.find_inputs.ensures.told c.in_ok-find_inputs.ensures.found (HasRisen (g.K.Keeper.faults c.args.keeper.now) (g.K.Keeper.faults c.table_of_inputs.new.keeper)) ((bytes : ℕ → List ℕ) → AreTold g.F.Input.Source.left c.find_inputs.new.inputs.items bytes → IsTooLarge c.args.job.now (λ a. lines (bytes a)) c.args.options.every)
+    c.find_inputs.ensures.told c.in_ok-find_inputs.ensures.found (HasRisen (g.K.Keeper.faults c.args.keeper.now) (g.K.Keeper.faults c.table_of_inputs.new.keeper)) ((bytes : ℕ → List ℕ) → AreTold g.F.Input.Source.left c.find_inputs.new.inputs.items bytes → IsTooLarge c.args.job.now (λ a. lines (bytes a)) c.args.options.every (g.K.Keeper.images c.args.keeper.now) (g.K.Keeper.images c.table_of_inputs.new.keeper))
     c.in-Err.cause c.in-Err.ensures.cause (ap status_of (sym c.fault_of.ensures) ∙ four))
 
 pub returns-in-Err-clause-no_output : goal.returns-in-Err-clause-no_output
@@ -59,7 +59,7 @@ returns-in_err-find_inputs-clause-kept g c = kept_still (g.K.Keeper.images c.arg
 pub returns-in-Err-clause-keeper : goal.returns-in-Err-clause-keeper
 returns-in-Err-clause-keeper g c = λ five.
     keeper_failed g.F.Input.Source.left g.F.Input.Source.faults c.find_inputs.new.inputs.items c.table_of_inputs.new.inputs.items
-    (HasRisen (g.K.Keeper.faults c.args.keeper.now) (g.K.Keeper.faults c.table_of_inputs.new.keeper)) ((bytes : ℕ → List ℕ) → AreTold g.F.Input.Source.left c.find_inputs.new.inputs.items bytes → IsTooLarge c.args.job.now (λ a. lines (bytes a)) c.args.options.every)
+    (HasRisen (g.K.Keeper.faults c.args.keeper.now) (g.K.Keeper.faults c.table_of_inputs.new.keeper)) ((bytes : ℕ → List ℕ) → AreTold g.F.Input.Source.left c.find_inputs.new.inputs.items bytes → IsTooLarge c.args.job.now (λ a. lines (bytes a)) c.args.options.every (g.K.Keeper.images c.args.keeper.now) (g.K.Keeper.images c.table_of_inputs.new.keeper))
     c.in-Err.cause c.in-Err.ensures.cause (ap status_of (sym c.fault_of.ensures) ∙ five)
 
 pub returns-in_err-find_inputs-clause-fault : goal.returns-in_err-find_inputs-clause-fault
@@ -67,7 +67,8 @@ returns-in_err-find_inputs-clause-fault g c =
     let job = c.args.job.now in
     let contents = g.F.Files.contents c.args.files.now in
     let every = c.args.options.every in
+    let held = g.K.Keeper.images c.args.keeper.now in
     let passed = err_from_is_err_and c.from_residual.result c.from_residual.ensures.1 in
     let same : c.in_err-find_inputs.field-0.0 ≡ passed.0 = (let gives = passed.2 in cc) in
-    subst (λ r. IfErr r (IsRunFault job every contents)) (sym passed.1)
-    (of_sources job every contents passed.0 (subst (IsSourceFault job contents) same c.in_err-find_inputs.ensures.fault))
+    subst (λ r. IfErr r (IsRunFault job every contents held held)) (sym passed.1)
+    (of_sources job every contents held held passed.0 (subst (IsSourceFault job contents) same c.in_err-find_inputs.ensures.fault))

@@ -42,7 +42,7 @@ returns-clause-cause g c =
     let net = c.new-net.result in
     let peer = (IsPeerGround (λ (s : OutState). Some s.sent) (λ (s : InState). Some s.got) (λ (s : InState). Some s.ended) c.args.job.now (Some net.wires) (Some c.run_job.new.net.wires)) in
     let keeper = HasRisen (g.K.Keeper.faults c.args.keeper.now) (g.K.Keeper.faults c.run_job.new.keeper) in
-    let large = ((bytes : ℕ → List ℕ) → AreTold g.S.Source.left c.args.inputs.now.items bytes → IsTooLarge c.args.job.now (λ a. lines (bytes a)) c.args.options.every) in
+    let large = ((bytes : ℕ → List ℕ) → AreTold g.S.Source.left c.args.inputs.now.items bytes → IsTooLarge c.args.job.now (λ a. lines (bytes a)) c.args.options.every (g.K.Keeper.images c.args.keeper.now) (g.K.Keeper.images c.run_job.new.keeper)) in
     let big = (LinksTell (λ (s : OutState). Some s.sent) (λ (s : InState). Some s.got) → large) in
     let never : NoneFails net = subst NoneFails (sym c.new-net.ensures) (none_fails c.new.result.items c.new-2.result.items c.new-3.result.items c.new.ensures c.new-2.ensures c.new-3.ensures) in
     IfErr-weaker c.run_job.result

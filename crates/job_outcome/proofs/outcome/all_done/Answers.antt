@@ -1,4 +1,4 @@
-use Rattle.std.proofs.Common.{◌≡◌, ◌<◌, ℕ, Some, slice_get, get_or, List, length, subst, sym, arith, inl, inr}
+use Rattle.std.proofs.Common.{◌≡◌, ◌<◌, ℕ, true, false, Some, slice_get, get_or, List, length, refl, subst, sym, ◌∙◌, arith, inl, inr}
 use Rattle.std.proofs.lemmas.Bool.{cases_lt}
 use Rattle.conn_parts.proofs.Lists.{get_is}
 use Rattle.flow_defs.specs.Items.{Items}
@@ -19,10 +19,23 @@ loop-row-preserved g c = λ s i place low stands. elim (cases_lt s c.loop-row.ro
   | inr behind ↦
       let same : c.loop-row.row-index ≡ s = omega (arith, low, behind) in
       let at = there c.args.rows.now c.loop-row.row-index s i place c.row-item.result c.loop-row-test.true c.row-item.is same stands in
-      c.all_done_in.ensures c.if-not-all_done_in.false i place (subst (λ (xs : List g.row.P.Denot). slice_get xs i ≡ Some place) (sym c.as_slice.ensures) at)
+      c.all_done_in.ensures.0 c.if-not-all_done_in.false i place (subst (λ (xs : List g.row.P.Denot). slice_get xs i ≡ Some place) (sym c.as_slice.ensures) at)
 ]
 
+pub returns-then-not-all_done_in : goal.returns-then-not-all_done_in
+returns-then-not-all_done_in g c = (
+  (λ no. absurd (let e : false ≡ true = no in let never : ⊥ = cc in never)),
+  (λ all. sym c.if-not-all_done_in.true ∙ c.all_done_in.ensures.1 (λ i place at. all c.loop-row.row-index i place (record {
+    row = c.row-item.result;
+    row_is = get_is c.args.rows.now c.loop-row.row-index c.row-item.result c.loop-row-test.true c.row-item.is;
+    place_is = subst (λ (xs : List g.row.P.Denot). slice_get xs i ≡ Some place) c.as_slice.ensures at;
+  }))),
+)
+
 pub returns : goal.returns
-returns g c = λ is s i place stands.
-    let low = place_low c.args.rows.now s stands.row stands.row_is in
-    c.loop-row.invariant s i place (omega (arith, low, c.loop-row-test.false)) stands
+returns g c = (
+  (λ is s i place stands.
+      let low = place_low c.args.rows.now s stands.row stands.row_is in
+      c.loop-row.invariant s i place (omega (arith, low, c.loop-row-test.false)) stands),
+  (λ all. refl),
+)

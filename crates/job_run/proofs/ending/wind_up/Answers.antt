@@ -8,8 +8,8 @@ use Rattle.snapshot_channel.specs.Passes.{IsCollecting}
 use Rattle.collecting_worker.specs.declared.world.CollectEnd.{CollectEnd}
 use Rattle.job_ends.specs.Ended.{LoopPlace, TaskPlace, HaveAcknowledged}
 use Rattle.job_ends.specs.Returning.{RowsCameBack}
-use Rattle.job_outcome.specs.Theorems.{AreLeftIn}
-use Rattle.job_run.specs.Runs.{AreAllSettled, input_in}
+use Rattle.job_outcome.specs.Theorems.{AreLeftIn, AreSettledWith}
+use Rattle.job_run.specs.Runs.{input_in}
 use Rattle.job_run.proofs.InputLaws.{first_came, first_left, first_many}
 use Rattle.job_run.proofs.RunLaws.{ended_lent, has_image, is_answer, same_end}
 use Rattle.job_run.proofs.ending.wind_up.Goals as goal
@@ -58,7 +58,7 @@ pub answer_of-answer-requires : goal.answer_of-answer-requires
 answer_of-answer-requires g c =
     let same = same_end c.requires.collected.end c.end_in-collecting.result c.requires.collected.end_is c.end_in-collecting.ensures in
     has_image c.args.job.now c.args.ran.rows.items c.as_slice.result.now c.args.ran.loops.items c.as_slice-2.result.now c.args.ran.collected c.as_slice.ensures c.as_slice-2.ensures c.outcome_of-cause.result
-    c.outcome_of-cause.ensures.done c.outcome_of-cause.ensures.ended c.outcome_of-cause.ensures.stopped
+    c.outcome_of-cause.ensures.done.0 c.outcome_of-cause.ensures.ended c.outcome_of-cause.ensures.stopped
     c.end_in-collecting.result c.end_in-collecting.ensures (subst (λ (end : CollectEnd). end.cause ≡ Done → IsSome end.last) same c.requires.collected.last)
 
 pub settle_all-requires-clause-collecting : goal.settle_all-requires-clause-collecting
@@ -69,11 +69,11 @@ settle_all-requires-clause-collecting g c κs within =
 pub returns-clause-answer : goal.returns-clause-answer
 returns-clause-answer g c =
     is_answer c.args.job.now c.args.ran.rows.items c.as_slice.result.now c.args.ran.loops.items c.as_slice-2.result.now c.args.ran.collected c.as_slice.ensures c.as_slice-2.ensures c.outcome_of-cause.result
-    c.outcome_of-cause.ensures.done c.outcome_of-cause.ensures.ended c.outcome_of-cause.ensures.stopped
+    c.outcome_of-cause.ensures.done.0 c.outcome_of-cause.ensures.ended c.outcome_of-cause.ensures.stopped
     c.answer_of-answer.result c.end_in-collecting.result c.end_in-collecting.ensures c.answer_of-answer.ensures.done c.answer_of-answer.ensures.table c.answer_of-answer.ensures.fault
 
 pub returns-clause-settled : goal.returns-clause-settled
 returns-clause-settled g c = λ tell end is.
     let same = same_end end c.end_in-collecting.result is c.end_in-collecting.ensures in
-    subst (λ (r : List (Items (TaskPlace g.row.S.Denot))). AreAllSettled c.args.job.now r end) c.as_mut_slice.ensures.value
+    subst (λ (r : List (Items (TaskPlace g.row.S.Denot))). AreSettledWith c.args.job.now r end) c.as_mut_slice.ensures.value
     (c.settle_all.ensures.settled tell end (ap (λ (e : CollectEnd). e.collecting) same))

@@ -12,9 +12,9 @@ use crate::step::announce_at;
 use conn_parts::{Outgoing, Watch};
 use flow_defs::{Cause, ChannelId, ListOf};
 use input_channel::InputChannel;
-use outside::{Failed, LinkOut, Pause, StopState};
+use outside::{Failed, LinkOut, PAUSES, Pause, StopState};
 use std::sync::Wait;
-use turn_cell::{Pass, TurnCell};
+use turn_cell::{Pass, TurnCell, have_news};
 
 // Whether all channels have ended.
 fn have_all_ended(ended: &[bool]) -> bool
@@ -52,6 +52,23 @@ fn announce_all<O: LinkOut, R: Wait>(
     }
     outgoing.write_to(rt, out)?;
     Ok(told)
+}
+
+// Pauses until a channel or the stop cell has news.
+fn rest<R: Wait>(
+    rt: &R,
+    pause: &mut Pause,
+    cells: &[TurnCell<InputChannel>],
+    passes: &[Pass<InputChannel>],
+    stop: &TurnCell<StopState>,
+    stop_pass: &Pass<StopState>,
+) {
+    for _pause in 0..PAUSES {
+        pause.wait(rt);
+        if stop.has_news(stop_pass) || have_news(cells, passes) {
+            return;
+        }
+    }
 }
 
 /// Takes and writes what the channels have to tell, round after round.
@@ -98,7 +115,7 @@ pub(crate) fn announce_rounds<O: LinkOut, R: Wait>(
         if told {
             pause.reset();
         } else {
-            pause.wait(rt);
+            rest(rt, &mut pause, cells, passes.as_slice(), stop, stop_pass);
         }
     }
     unreachable!()

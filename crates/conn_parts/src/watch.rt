@@ -10,16 +10,12 @@ use std::marker::Model;
 use std::sync::Wait;
 use turn_cell::{Pass, TurnCell};
 
-// How many rounds pass between two looks.
-const ROUNDS: u32 = 16;
-
-/// Says in which rounds of a loop it looks at the stop cell: in the first and in every sixteenth after
-/// it. A look is a turn at a cell that all workers share, so one in each round would make them wait for
+/// Says in which rounds of a loop it looks at the stop cell: in the first, and after it where the cell has
+/// news. A look is a turn at a cell that all workers share, so one in each round would make them wait for
 /// each other.
 #[derive(Drop)]
 pub struct Watch {
     has_looked: bool,
-    rounds: u32,
 }
 
 impl Model for Watch {
@@ -35,10 +31,7 @@ impl Watch {
     pub fn new() -> Self
         ensures { result ≡ false }
     {
-        Watch {
-            has_looked: false,
-            rounds: 0,
-        }
+        Watch { has_looked: false }
     }
 
     /// Looks at the stop cell where it is time, and answers the first fault that the pass has seen there.
@@ -56,12 +49,10 @@ impl Watch {
         ensures seen { StartsWith (seen pass.new) (seen pass.old) }
         ensures answer { result ≡ first_met (seen pass.new) }
     {
-        if self.has_looked && self.rounds < ROUNDS {
-            self.rounds += 1;
+        if self.has_looked && !cell.has_news(pass) {
             return None;
         }
         self.has_looked = true;
-        self.rounds = 1;
         look_for_stop(rt, cell, pass)
     }
 }

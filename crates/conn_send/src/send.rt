@@ -13,16 +13,36 @@ use crate::ready::tell_fronts;
 use crate::room::Room;
 use conn_parts::{ConnShare, LoopEnd, SharePasses, Watch};
 use flow_defs::Cause;
-use outside::{LinkOut, Pause, StopState};
+use outside::{LinkOut, PAUSES, Pause, StopState};
 use std::alloc::Global;
 use std::sync::Wait;
-use turn_cell::{Pass, TurnCell};
+use turn_cell::{Pass, TurnCell, have_news};
 
 // Whether all of these flags are raised.
 fn all_raised(flags: &[bool]) -> bool
     ensures { IsTrue result → (k : ℕ) → k < length flags.now → slice_get flags.now k ≡ Some true }
 {
     flags.iter().all(|raised| *raised)
+}
+
+// Pauses until a subpartition, the readers or the stop cell have news.
+fn rest<'p, R: Wait>(
+    rt: &R,
+    pause: &mut Pause,
+    cells: &SendCells<'_, 'p>,
+    passes: &SendPasses<'p>,
+    stop: &TurnCell<StopState>,
+    stop_pass: &Pass<StopState>,
+) {
+    for _pause in 0..PAUSES {
+        pause.wait(rt);
+        if stop.has_news(stop_pass)
+            || cells.readers.has_news(&passes.readers)
+            || have_news(cells.subpartitions, passes.subpartitions.as_slice())
+        {
+            return;
+        }
+    }
 }
 
 // Runs rounds until the end of each channel was sent, the stop cell has an entry or a write fails.
@@ -65,7 +85,7 @@ fn send_until<'p, O: LinkOut, R: Wait>(
                 if some {
                     pause.reset();
                 } else {
-                    pause.wait(rt);
+                    rest(rt, &mut pause, cells, passes, stop, stop_pass);
                 }
             }
             Err(_) => return Cause::Link,

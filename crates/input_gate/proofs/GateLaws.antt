@@ -1,11 +1,11 @@
 -- What a gate tells of the passes that it has, and what a gate is when it is made.
-use Rattle.std.proofs.Common.{◌≡◌, ◌≢◌, ◌⊎◌, inl, inr, ℕ, zero, suc, ◌+◌, ◌-◌, ◌<◌, ◌≤◌, Bool, true, false, List, [], ◌∷◌, ◌++◌, map, length, get_or, take, drop, refl, sym, ap, subst, ◌∙◌, arith, Result, Ok, Err, Option, Some, None, true≢false, append-nil, append_assoc}
-use Rattle.std.specs.Prelude.{slice_get, All, IfSome, IfOk, OnOk, is_some}
+use Rattle.std.proofs.Common.{◌≡◌, ◌≢◌, ◌⊎◌, inl, inr, ℕ, zero, suc, ◌+◌, ◌-◌, ◌<◌, ◌≤◌, Bool, true, false, List, [], ◌∷◌, ◌++◌, map, length, get_or, take, drop, reverse, refl, sym, ap, subst, ◌∙◌, arith, Result, Ok, Err, Option, Some, None, true≢false, append-nil, append_assoc}
+use Rattle.std.specs.Prelude.{slice_get, All, IfSome, IfOk, OnOk, is_some, is_err}
 use Rattle.input_gate.specs.declared.gate.GateEnd.{GateEnd}
 use Rattle.input_gate.specs.States.{GateState, LookedFirst, AllCameBack}
 use Rattle.std.specs.List.{AllByRecursion}
 use Rattle.std.specs.Option.{option_map_or}
-use Rattle.std.proofs.lemmas.List.{length-map, drop_more}
+use Rattle.std.proofs.lemmas.List.{length-map, drop_more, take_more, reverse-reverse, reverse-append}
 use Rattle.std.proofs.lemmas.List.Elements.{recursion_from_All, All-from_recursion}
 use Rattle.turn_cell.specs.Passes.{IsPassOf, opened_with, number, seen, mine}
 use Rattle.flow_defs.specs.Parcels.{data_of, has_end, barriers_of}
@@ -196,26 +196,25 @@ is_new size cells passes ls f h = record {
   left = at_fresh left_of [] size (λ c p l f a b m s k. left_none size c p l f a b m s k) cells passes ls f h;
 }
 
--- The last of the passes that are left goes with the last of the cells that are left.
-last_taken : {T : Type 0} (xs : List T) (m : ℕ) (ys : List T) (x : T) → suc m ≤ length xs → take (suc m) xs ≡ ys ++ x ∷ [] → (ys ≡ take m xs) × (drop m xs ≡ x ∷ drop (suc m) xs)
-last_taken [] m ys x low e = absurd (omega (arith, low))
-last_taken (a ∷ as') zero [] x low e = (refl, ap (λ z. z ∷ as') (head a x [] [] e))
-  where
-    head : {T : Type 0} (x y : T) (xs ys : List T) → x ∷ xs ≡ y ∷ ys → x ≡ y
-    head x y xs ys e = cc
-last_taken (a ∷ as') zero (y ∷ ys) x low e = absurd (none a y ys x e)
-  where
-    none : {T : Type 0} (a y : T) (ys : List T) (x : T) → a ∷ [] ≡ y ∷ (ys ++ x ∷ []) → ⊥
-    none a y [] x e = cc
-    none a y (z ∷ ys) x e = cc
-last_taken (a ∷ []) (suc m) ys x low e = absurd (omega (arith, low))
-last_taken (a ∷ b ∷ as') (suc m) [] x low e = absurd (none a b (take m as') x e)
-  where
-    none : {T : Type 0} (a b : T) (xs : List T) (x : T) → a ∷ b ∷ xs ≡ x ∷ [] → ⊥
-    none a b xs x e = cc
-last_taken (a ∷ b ∷ as') (suc m) (y ∷ ys) x low e =
-    let r = last_taken (b ∷ as') m ys x (omega (arith, low)) (tail a y (take (suc m) (b ∷ as')) (ys ++ x ∷ []) e) in
-    (ap (λ z. z ∷ ys) (sym (head a y (take (suc m) (b ∷ as')) (ys ++ x ∷ []) e)) ∙ ap (λ l. a ∷ l) r.0, r.1)
+pub no_spare_fresh : (size : ℕ) (cells : List InputCell) (passes : List InputPass) (ls : List Lane) → AreFreshLanes cells passes ls → AreFirst size cells passes → HaveNoSpare ls
+no_spare_fresh size cells passes ls f h = at_fresh (λ (lane : Lane). lane.spare) None size (λ c p l f a b m s k. f.spare_is) cells passes ls f h
+
+-- ---- how lanes are dealt
+
+fresh_on : (cells : List InputCell) (passes : List InputPass) (ls : List Lane) (c : InputCell) (p : InputPass) (l : Lane) → AreFreshLanes cells passes ls → IsFreshLane c p l →
+    AreFreshLanes (cells ++ c ∷ []) (passes ++ p ∷ []) (ls ++ l ∷ [])
+fresh_on [] [] [] c p l fs f = (f, tt)
+fresh_on [] [] (m ∷ ls) c p l fs f = absurd fs
+fresh_on [] (q ∷ ps) ls c p l fs f = absurd fs
+fresh_on (d ∷ cs) [] ls c p l fs f = absurd fs
+fresh_on (d ∷ cs) (q ∷ ps) [] c p l fs f = absurd fs
+fresh_on (d ∷ cs) (q ∷ ps) (m ∷ ls) c p l fs f = (fs.0, fresh_on cs ps ls c p l fs.1 f)
+
+-- Of the passes that are left, the last one first, the next one is taken.
+next_taken : {T : Type 0} (xs left : List T) (i : ℕ) (x : T) → i < length xs → left ++ x ∷ [] ≡ reverse (drop i xs) → (get_or xs i x ≡ x) × (left ≡ reverse (drop (i + 1) xs))
+next_taken xs left i x low e =
+    let is : get_or xs i x ∷ drop (i + 1) xs ≡ x ∷ reverse left = sym (drop_more xs i x low) ∙ sym (reverse-reverse (drop i xs)) ∙ ap reverse (sym e) ∙ reverse-append left (x ∷ []) in
+    (head (get_or xs i x) x (drop (i + 1) xs) (reverse left) is, sym (reverse-reverse left) ∙ ap reverse (sym (tail (get_or xs i x) x (drop (i + 1) xs) (reverse left) is)))
   where
     head : {T : Type 0} (x y : T) (xs ys : List T) → x ∷ xs ≡ y ∷ ys → x ≡ y
     head x y xs ys e = cc
@@ -223,18 +222,17 @@ last_taken (a ∷ b ∷ as') (suc m) (y ∷ ys) x low e =
     tail : {T : Type 0} (x y : T) (xs ys : List T) → x ∷ xs ≡ y ∷ ys → xs ≡ ys
     tail x y xs ys e = cc
 
-pub dealt : (cells : List InputCell) (passes : List InputPass) (n i at : ℕ) (left : List InputPass) (c d : InputCell) (p : InputPass) (l : Lane) (ls : List Lane) → length cells ≡ n → length passes ≡ n → i < n → at ≡ n - 1 - i →
-    take (n - i) passes ≡ left ++ p ∷ [] → c ≡ get_or cells at d → IsFreshLane c p l → AreFreshLanes (drop (n - i) cells) (drop (n - i) passes) ls →
-    (left ≡ take (n - (i + 1)) passes) × AreFreshLanes (drop (n - (i + 1)) cells) (drop (n - (i + 1)) passes) (l ∷ ls)
-dealt cells passes n i at left c d p l ls cn pn low is taken here f fs =
-    let m = n - (i + 1) in
-    let more : n - i ≡ suc m = omega (arith, low) in
-    let r = last_taken passes m left p (omega (arith, pn, low)) (ap (λ k. take k passes) (sym more) ∙ taken) in
-    let at_m : at ≡ m = omega (arith, is, low) in
-    let cell : drop m cells ≡ c ∷ drop (suc m) cells =
-    drop_more cells m d (omega (arith, cn, low)) ∙ ap (λ x. x ∷ drop (m + 1) cells) (ap (λ k. get_or cells k d) (sym at_m) ∙ sym here) ∙ ap (λ k. c ∷ drop k cells) (let z : m + 1 ≡ suc m = omega arith in z) in
-    let rest = subst (λ k. AreFreshLanes (drop k cells) (drop k passes) ls) more fs in
-    (r.0, subst (λ cs. AreFreshLanes cs (drop m passes) (l ∷ ls)) (sym cell) (subst (λ ps. AreFreshLanes (c ∷ drop (suc m) cells) ps (l ∷ ls)) (sym r.1) (f, rest)))
+pub dealt : (cells : List InputCell) (passes left : List InputPass) (i : ℕ) (c : InputCell) (p : InputPass) (l : Lane) (ls : List Lane) → length passes ≡ length cells → i < length cells →
+    left ++ p ∷ [] ≡ reverse (drop i passes) → IsFreshLane (get_or cells i c) p l → AreFreshLanes (take i cells) (take i passes) ls →
+    (left ≡ reverse (drop (i + 1) passes)) × AreFreshLanes (take (i + 1) cells) (take (i + 1) passes) (ls ++ l ∷ [])
+dealt cells passes left i c p l ls many low e f fs =
+    let within : i < length passes = omega (arith, many, low) in
+    let next = next_taken passes left i p within e in
+    let on = fresh_on (take i cells) (take i passes) ls (get_or cells i c) p l fs f in (
+      next.1,
+      subst (λ cs. AreFreshLanes cs (take (i + 1) passes) (ls ++ l ∷ [])) (sym (take_more cells i c low))
+          (subst (λ ps. AreFreshLanes (take i cells ++ get_or cells i c ∷ []) ps (ls ++ l ∷ [])) (sym (take_more passes i p within ∙ ap (λ q. take i passes ++ q ∷ []) next.0)) on),
+    )
 
 -- ---- what a call of `next` tells, of gates
 
@@ -248,3 +246,8 @@ looked_first hold a b (Err end) k = tt
 pub all_came_back : (size : ℕ) (b : GateState) (result : Result GateItem GateEnd) → AreLanes size b.lanes → OnOk result (HaveNoSpare b.lanes) → OnOk result (AllCameBack b)
 all_came_back size b (Ok item) h none = came_back size b.lanes h none
 all_came_back size b (Err end) h none = tt
+
+-- An `Err` alone leaves a buffer.
+pub none_left : {A E : Type 0} (result : Result A E) (is : Bool) (ls : List Lane) → is ≡ is_err result → OnOk result (HaveNoSpare ls) → is ≡ false → HaveNoSpare ls
+none_left (Ok x) is ls e none off = none
+none_left (Err end) is ls e none off = absurd (true≢false (sym e ∙ off))

@@ -1,6 +1,5 @@
 // A gate over cells.
-ghost use Rattle.std.specs.Prelude.{◌≡◌, ◌≢◌, ◌<◌, ◌≤◌, ◌^◌, suc, [], length, Err, All, IfOk, IfErr, OnOk};
-ghost use Rattle.std.specs.VecDeque.{deque_capacity};
+ghost use Rattle.std.specs.Prelude.{◌≡◌, ◌≢◌, ◌<◌, ◌≤◌, ◌^◌, suc, true, false, [], length, Err, All, IfOk, IfErr, OnOk, vec_capacity};
 ghost use Rattle.turn_cell.specs.History.{StartsWith};
 ghost use Rattle.turn_cell.specs.Passes.{IsPassOf, IsSamePass, opened_with, number, seen, mine};
 ghost use Rattle.flow_defs.specs.Items.{Items};
@@ -15,17 +14,16 @@ ghost use Rattle.input_gate.specs.States.{account_in, passes_of, ends_of, IsGate
 ghost use Rattle.input_gate.specs.Making.{AreFreshLanes};
 
 use crate::gate::{Gate, GateEnd, GateItem};
-use crate::lane::Lane;
+use crate::lane::{Lane, have_news};
 use crate::lender::Lender;
 use crate::passes::{GateEnds, GatePasses, InputCell, InputPass, NoGate};
 use crate::round::resume_at;
-use crate::rounds::{Taken, all_over, most_held, refill_all, take};
+use crate::rounds::{Taken, all_over, most_held, refill_unread, take};
 use flow_defs::{Bytes, ListOf};
 use local_pool::HeldPool;
-use outside::{Pause, StopState, look_for_stop};
+use outside::{PAUSES, Pause, StopState, look_for_stop};
 use record_spans::Reader;
 use std::alloc::Global;
-use std::collections::VecDeque;
 use std::marker::Model;
 use std::sync::Wait;
 use turn_cell::{Pass, TurnCell};
@@ -37,11 +35,13 @@ use turn_cell::{Pass, TurnCell};
 /// barrier may be given; a buffer costs two, and two for each floating segment that its channel is given.
 #[derive(Drop)]
 pub struct CellGate<'a, 'p> {
-    lanes: VecDeque<Lane<'a>>,
+    lanes: Vec<Lane<'a>>,
     // The list that had the passes, in which there is room for them.
     kept: ListOf<InputPass>,
     // The channel that is next.
     pub(crate) start: usize,
+    // Whether a lane may have a buffer still, which `next` left there at an `Err`.
+    unread: bool,
     lender: Lender<'a, 'p>,
     stop: &'a TurnCell<StopState>,
     stop_pass: Pass<StopState>,
@@ -49,36 +49,37 @@ pub struct CellGate<'a, 'p> {
 }
 
 impl<'a, 'p> Model for CellGate<'a, 'p> {
-    ghost use Rattle.std.specs.Prelude.{◌≡◌, ◌≤◌, [], length};
+    ghost use Rattle.std.specs.Prelude.{◌≡◌, ◌≤◌, false, [], length};
+    ghost use Rattle.input_gate.specs.Channels.{HaveNoSpare};
     ghost use Rattle.input_gate.specs.States.{GateState, IsGate};
 
     ghost Value = { GateState };
 
     ghost view = { λ g. record { lanes = g.lanes.items; lender = g.lender; stop = g.stop.now; stop_pass = g.stop_pass } };
 
-    ghost invariant = { λ g. IsGate (record { lanes = g.lanes.items; lender = g.lender; stop = g.stop.now; stop_pass = g.stop_pass }) × (g.kept.items ≡ []) × (length g.lanes.items ≤ g.kept.room) };
+    ghost invariant = { λ g. IsGate (record { lanes = g.lanes.items; lender = g.lender; stop = g.stop.now; stop_pass = g.stop_pass }) × (g.kept.items ≡ []) × (length g.lanes.items ≤ g.kept.room) × (g.unread ≡ false → HaveNoSpare g.lanes.items) };
 }
 
-// A lane for each cell, with its pass, in their order. They take the passes out of their list, from the last on.
+// A lane for each cell, with its pass, in their order. They take the passes out of their list.
 fn deal_lanes<'a>(
     alloc: Global,
     cells: &'a [InputCell],
     passes: &mut ListOf<InputPass>,
-    lanes: VecDeque<Lane<'a>>,
-) -> VecDeque<Lane<'a>>
+    lanes: Vec<Lane<'a>>,
+) -> Vec<Lane<'a>>
     requires many { length passes.old.items ≡ length cells.now }
-    requires lanes { (lanes.items ≡ []) × (length cells.now ≤ deque_capacity lanes) }
+    requires lanes { (lanes.items ≡ []) × (length cells.now ≤ vec_capacity lanes) }
     ensures lanes { AreFreshLanes cells.now passes.old.items result.items }
     ensures passes { (passes.new.items ≡ []) × (length cells.now ≤ passes.new.room) }
 {
     let mut lanes = lanes;
-    for i in 0..cells.len() {
-        let at = cells.len() - 1 - i;
+    passes.as_mut_slice().reverse();
+    for cell in cells {
         let Some(pass) = passes.pop() else {
             unreachable!()
         };
         let lane = Lane {
-            cell: &cells[at],
+            cell,
             pass,
             reader: Reader::new(alloc),
             ready: None,
@@ -87,7 +88,7 @@ fn deal_lanes<'a>(
             blocked: false,
             ended: false,
         };
-        let Ok(()) = lanes.push_front(lane) else {
+        let Ok(()) = lanes.push(lane) else {
             unreachable!()
         };
     }
@@ -95,13 +96,12 @@ fn deal_lanes<'a>(
 }
 
 // The passes of these lanes, in their order, in a list that has room for them.
-fn gather_passes(lanes: VecDeque<Lane<'_>>, kept: ListOf<InputPass>) -> ListOf<InputPass>
+fn gather_passes(lanes: Vec<Lane<'_>>, kept: ListOf<InputPass>) -> ListOf<InputPass>
     requires { (kept.items ≡ []) × (length lanes.items ≤ kept.room) }
     ensures { result.items ≡ passes_in lanes.entry.items }
 {
-    let mut lanes = lanes;
     let mut kept = kept;
-    while let Some(lane) = lanes.pop_front() {
+    for lane in lanes {
         let Lane { pass, .. } = lane;
         let Ok(()) = kept.push(pass) else {
             unreachable!()
@@ -110,21 +110,51 @@ fn gather_passes(lanes: VecDeque<Lane<'_>>, kept: ListOf<InputPass>) -> ListOf<I
     kept
 }
 
+// Looks at the stop cell where it has news, and answers whether there is an entry.
+fn is_stopped<R: Wait>(rt: &R, stop: &TurnCell<StopState>, stop_pass: &mut Pass<StopState>) -> bool
+    requires { IsPassOf stop.now stop_pass.old }
+    ensures pass { IsPassOf stop.now stop_pass.new × IsSamePass stop_pass.old stop_pass.new }
+    ensures seen { result ≡ true → seen stop_pass.new ≢ [] }
+{
+    if !stop.has_news(stop_pass) {
+        return false;
+    }
+    look_for_stop(rt, stop, stop_pass).is_some()
+}
+
+// Pauses until a channel or the stop cell has news.
+fn rest<R: Wait>(
+    rt: &R,
+    lanes: &[Lane<'_>],
+    stop: &TurnCell<StopState>,
+    stop_pass: &Pass<StopState>,
+    pause: &mut Pause,
+) {
+    for _pause in 0..PAUSES {
+        pause.wait(rt);
+        if stop.has_news(stop_pass) || have_news(lanes) {
+            return;
+        }
+    }
+}
+
 // Takes what is next, and waits until there is such.
 fn next_of<R: Wait>(
     rt: &R,
-    lanes: &mut VecDeque<Lane<'_>>,
+    lanes: &mut Vec<Lane<'_>>,
     start: &mut usize,
     lender: &mut Lender<'_, '_>,
     stop: &TurnCell<StopState>,
     stop_pass: &mut Pass<StopState>,
     pause: &mut Pause,
+    unread: bool,
     hold: bool,
 ) -> Result<GateItem, GateEnd>
     requires few { length lanes.old.items < 2 ^ 32 }
     requires lanes { AreLanes (lent_size lender.old) lanes.old.items }
     requires lender { IsLender lender.old }
     requires stop { IsPassOf stop.now stop_pass.old }
+    requires spare { unread ≡ false → HaveNoSpare lanes.old.items }
     ensures lanes { AreLanes (lent_size lender.old) lanes.new.items }
     ensures gave { Gave (account_of lanes.old.items) (account_of lanes.new.items) hold result }
     ensures cells { cells_in lanes.new.items ≡ cells_in lanes.old.items }
@@ -134,7 +164,7 @@ fn next_of<R: Wait>(
     ensures looked { IfOk result (λ item. LookedIn hold lanes.old.items item lanes.new.items) }
     ensures spare { OnOk result (HaveNoSpare lanes.new.items) }
 {
-    match refill_all(rt, lanes, lender) {
+    match refill_unread(rt, lanes, unread, lender) {
         Ok(()) => {}
         Err(_) => return Err(GateEnd::Memory),
     }
@@ -150,10 +180,10 @@ fn next_of<R: Wait>(
                 if all_over(lanes) {
                     return Ok(GateItem::AllEnded);
                 }
-                if look_for_stop(rt, stop, stop_pass).is_some() {
+                if is_stopped(rt, stop, stop_pass) {
                     return Err(GateEnd::Stopped);
                 }
-                pause.wait(rt);
+                rest(rt, lanes.as_slice(), stop, stop_pass, pause);
             }
             Err(end) => return Err(end),
         }
@@ -186,7 +216,7 @@ impl<'a, 'p> CellGate<'a, 'p> {
         ensures refused { IfErr result (λ r. (r.passes.cells.items ≡ passes.items) × (r.passes.pool ≡ pool_pass.entry) × (r.passes.stop ≡ stop_pass)) }
     {
         let _flights = flights;
-        let Ok(lanes) = VecDeque::with_capacity(alloc, cells.len()) else {
+        let Ok(lanes) = Vec::with_capacity(alloc, cells.len()) else {
             let passes = GatePasses {
                 cells: passes,
                 pool: pool_pass,
@@ -200,6 +230,7 @@ impl<'a, 'p> CellGate<'a, 'p> {
             lanes,
             kept,
             start: 0,
+            unread: false,
             lender: Lender {
                 cell: gate_pool,
                 pass: Some(pool_pass),
@@ -253,7 +284,7 @@ impl<'a, 'p> Gate for CellGate<'a, 'p> {
         // Every buffer that was polled has come back.
         ensures back { OnOk result (AllCameBack self.new) }
     {
-        next_of(
+        let result = next_of(
             rt,
             &mut self.lanes,
             &mut self.start,
@@ -261,8 +292,11 @@ impl<'a, 'p> Gate for CellGate<'a, 'p> {
             self.stop,
             &mut self.stop_pass,
             &mut self.pause,
+            self.unread,
             hold,
-        )
+        );
+        self.unread = result.is_err();
+        result
     }
 
     fn resume<R: Wait>(&mut self, rt: &R, channel: u32)

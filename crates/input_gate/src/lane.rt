@@ -265,9 +265,20 @@ pub(crate) fn go_on<R: Wait>(rt: &R, lane: &mut Lane<'_>)
     requires blocked { lane.old.blocked ≡ true }
     ensures lane { (size : _) → IsLane size lane.old → IsLane size lane.new }
     ensures resumed { IsResumed lane.old lane.new }
+    ensures spare { lane.new.spare ≡ lane.old.spare }
 {
     ask_in_turn(rt, lane.cell, &mut lane.pass);
     lane.blocked = false;
+}
+
+/// Whether one of the channels has news.
+pub(crate) fn have_news(lanes: &[Lane<'_>]) -> bool {
+    for lane in lanes {
+        if lane.cell.has_news(&lane.pass) {
+            return true;
+        }
+    }
+    false
 }
 
 /// Whether the end was polled, and nothing is left to give.

@@ -14,13 +14,12 @@ use crate::lane::{
 use crate::lender::Lender;
 use flow_defs::Bytes;
 use std::alloc::AllocError;
-use std::collections::VecDeque;
 use std::sync::Wait;
 
 /// Reads the buffer that a channel has still, and gives it back. Without one it only looks.
 pub(crate) fn refill_at<R: Wait>(
     rt: &R,
-    lanes: &mut VecDeque<Lane<'_>>,
+    lanes: &mut Vec<Lane<'_>>,
     at: usize,
     lender: &mut Lender<'_, '_>,
 ) -> Result<(), AllocError>
@@ -40,7 +39,7 @@ pub(crate) fn refill_at<R: Wait>(
 }
 
 /// Whether a channel has a whole line to give.
-pub(crate) fn prepare_at(lanes: &mut VecDeque<Lane<'_>>, at: usize) -> Result<bool, LaneFault>
+pub(crate) fn prepare_at(lanes: &mut Vec<Lane<'_>>, at: usize) -> Result<bool, LaneFault>
     requires within { at < length lanes.old.items }
     requires lanes { (size : ℕ) × AreLanes size lanes.old.items }
     requires spare { HaveNoSpare lanes.old.items }
@@ -56,7 +55,7 @@ pub(crate) fn prepare_at(lanes: &mut VecDeque<Lane<'_>>, at: usize) -> Result<bo
 }
 
 /// Gives the line that a channel has ready.
-pub(crate) fn line_at(lanes: &mut VecDeque<Lane<'_>>, at: usize) -> Option<Bytes>
+pub(crate) fn line_at(lanes: &mut Vec<Lane<'_>>, at: usize) -> Option<Bytes>
     requires within { at < length lanes.old.items }
     requires lanes { (size : ℕ) × AreLanes size lanes.old.items }
     requires spare { HaveNoSpare lanes.old.items }
@@ -85,7 +84,7 @@ fn is_held(hold: bool, given: u64, most: u64) -> bool
 /// has given more, which is `most`.
 pub(crate) fn step_at<R: Wait>(
     rt: &R,
-    lanes: &mut VecDeque<Lane<'_>>,
+    lanes: &mut Vec<Lane<'_>>,
     at: usize,
     hold: bool,
     most: u64,
@@ -112,7 +111,7 @@ pub(crate) fn step_at<R: Wait>(
 /// Looks for a front barrier at a channel, where one may be given, and takes it.
 pub(crate) fn look_at<R: Wait>(
     rt: &R,
-    lanes: &mut VecDeque<Lane<'_>>,
+    lanes: &mut Vec<Lane<'_>>,
     at: usize,
     hold: bool,
     most: u64,
@@ -142,13 +141,14 @@ pub(crate) fn look_at<R: Wait>(
 }
 
 /// Lets a channel go on behind its inline barrier.
-pub(crate) fn resume_at<R: Wait>(rt: &R, lanes: &mut VecDeque<Lane<'_>>, at: usize)
+pub(crate) fn resume_at<R: Wait>(rt: &R, lanes: &mut Vec<Lane<'_>>, at: usize)
     requires within { at < length lanes.old.items }
     requires lanes { (size : ℕ) × AreLanes size lanes.old.items }
     requires stopped { stops_in ((account_of lanes.old.items).told at) ≡ suc ((account_of lanes.old.items).resumed at) }
     ensures lanes { (size : ℕ) → AreLanes size lanes.old.items → AreLanes size lanes.new.items }
     ensures resumed { Resumed (account_of lanes.old.items) (account_of lanes.new.items) at }
     ensures cells { cells_in lanes.new.items ≡ cells_in lanes.old.items }
+    ensures spare { HaveNoSpare lanes.old.items → HaveNoSpare lanes.new.items }
 {
     go_on(rt, &mut lanes[at]);
 }

@@ -12,7 +12,6 @@ use crate::lender::Lender;
 use crate::round::{line_at, look_at, prepare_at, refill_at, step_at};
 use flow_defs::BarrierKind;
 use std::alloc::AllocError;
-use std::collections::VecDeque;
 use std::sync::Wait;
 
 /// What a round of polls came to: nothing, something that changed, or a barrier that is given.
@@ -58,10 +57,10 @@ fn end_of(fault: LaneFault, channel: u32) -> GateEnd
     }
 }
 
-/// Reads the buffers that channels have still, and gives them back.
-pub(crate) fn refill_all<R: Wait>(
+// Reads the buffers that channels have still, and gives them back.
+fn refill_all<R: Wait>(
     rt: &R,
-    lanes: &mut VecDeque<Lane<'_>>,
+    lanes: &mut Vec<Lane<'_>>,
     lender: &mut Lender<'_, '_>,
 ) -> Result<(), AllocError>
     requires lanes { AreLanes (lent_size lender.old) lanes.old.items }
@@ -80,8 +79,29 @@ pub(crate) fn refill_all<R: Wait>(
     Ok(())
 }
 
+/// The same, where a channel may have such a buffer. Else it does nothing.
+pub(crate) fn refill_unread<R: Wait>(
+    rt: &R,
+    lanes: &mut Vec<Lane<'_>>,
+    unread: bool,
+    lender: &mut Lender<'_, '_>,
+) -> Result<(), AllocError>
+    requires lanes { AreLanes (lent_size lender.old) lanes.old.items }
+    requires lender { IsLender lender.old }
+    requires spare { unread ≡ false → HaveNoSpare lanes.old.items }
+    ensures lanes { AreLanes (lent_size lender.old) lanes.new.items }
+    ensures quiet { AreQuiet lanes.old.items lanes.new.items }
+    ensures lender { IsLender lender.new × (lender.new.cell ≡ lender.old.cell) }
+    ensures spare { OnOk result (HaveNoSpare lanes.new.items) }
+{
+    if !unread {
+        return Ok(());
+    }
+    refill_all(rt, lanes, lender)
+}
+
 // The first channel from `start` on that has a line ready.
-fn find_line(lanes: &mut VecDeque<Lane<'_>>, start: usize) -> Result<Option<usize>, GateEnd>
+fn find_line(lanes: &mut Vec<Lane<'_>>, start: usize) -> Result<Option<usize>, GateEnd>
     requires few { length lanes.old.items < 2 ^ 32 }
     requires lanes { (size : ℕ) × AreLanes size lanes.old.items }
     requires spare { HaveNoSpare lanes.old.items }
@@ -108,7 +128,7 @@ fn find_line(lanes: &mut VecDeque<Lane<'_>>, start: usize) -> Result<Option<usiz
 // Looks at each channel for a front barrier that may be given, and takes the first one that it finds.
 fn look_round<R: Wait>(
     rt: &R,
-    lanes: &mut VecDeque<Lane<'_>>,
+    lanes: &mut Vec<Lane<'_>>,
     hold: bool,
     most: u64,
 ) -> Option<(u32, u64)>
@@ -134,7 +154,7 @@ fn look_round<R: Wait>(
 // Polls the channels from `start` on, until something changes.
 fn poll_round<R: Wait>(
     rt: &R,
-    lanes: &mut VecDeque<Lane<'_>>,
+    lanes: &mut Vec<Lane<'_>>,
     start: usize,
     hold: bool,
     most: u64,
@@ -173,7 +193,7 @@ fn poll_round<R: Wait>(
 }
 
 /// The most barriers that a channel has given.
-fn most_given(lanes: &VecDeque<Lane<'_>>) -> u64
+fn most_given(lanes: &Vec<Lane<'_>>) -> u64
     requires { (size : ℕ) × AreLanes size lanes.now.items }
     ensures { IsMost (account_of lanes.now.items) result }
 {
@@ -185,7 +205,7 @@ fn most_given(lanes: &VecDeque<Lane<'_>>) -> u64
 }
 
 /// The same where barriers are held back, and else any number.
-pub(crate) fn most_held(lanes: &VecDeque<Lane<'_>>, hold: bool) -> u64
+pub(crate) fn most_held(lanes: &Vec<Lane<'_>>, hold: bool) -> u64
     requires { (size : ℕ) × AreLanes size lanes.now.items }
     ensures { hold ≡ true → IsMost (account_of lanes.now.items) result }
 {
@@ -196,7 +216,7 @@ pub(crate) fn most_held(lanes: &VecDeque<Lane<'_>>, hold: bool) -> u64
 }
 
 /// Whether each channel has ended, and nothing is left to give.
-pub(crate) fn all_over(lanes: &VecDeque<Lane<'_>>) -> bool
+pub(crate) fn all_over(lanes: &Vec<Lane<'_>>) -> bool
     ensures { result ≡ true → AllOver (account_of lanes.now.items) }
 {
     for i in 0..lanes.len() {
@@ -211,7 +231,7 @@ pub(crate) fn all_over(lanes: &VecDeque<Lane<'_>>) -> bool
 /// changes. It goes on from `start`, and moves that behind the channel of which it gave a line.
 pub(crate) fn take<R: Wait>(
     rt: &R,
-    lanes: &mut VecDeque<Lane<'_>>,
+    lanes: &mut Vec<Lane<'_>>,
     start: &mut usize,
     hold: bool,
     most: u64,

@@ -29,6 +29,7 @@ fn wait_for_turn<S: Turned, R: Wait>(rt: &R, cell: &TurnCell<S>, pass: &mut Pass
         // Read before the look, so that a wake between the two is not missed.
         let stirred = cell.table.shared.peek(bed);
         if look(cell, pass) == ticket {
+            pass.entries = cell.entries();
             return take_out(cell, pass);
         }
         if looks < LOOKS {

@@ -17,6 +17,7 @@ pub(crate) fn lay_off<S: Turned>(cell: &TurnCell<S>, pass: &mut Pass<S>) -> Pass
     let seat = cell.table.shared.split_seat::<LayOff>(&mut pass.seat);
     Pass {
         number: pass.number,
+        entries: pass.entries,
         seat,
     }
 }
@@ -48,5 +49,9 @@ pub(crate) fn release<S: Turned>(cell: &TurnCell<S>, pass: &mut Pass<S>, number:
     ensures other { (result.seat.table_id ≡ cell.now.table.shared.table_id) × (result.seat.me ≡ (released pass.old.seat.me.0.about (seen pass.old) (gathered pass.old), [])) }
 {
     let seat = cell.table.shared.split_seat::<Release>(&mut pass.seat);
-    Pass { number, seat }
+    Pass {
+        number,
+        entries: 0,
+        seat,
+    }
 }

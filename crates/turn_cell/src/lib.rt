@@ -11,6 +11,7 @@ mod enter;
 mod gather;
 mod make;
 mod meet;
+mod news;
 mod owned_turn;
 mod pass;
 mod rule;
@@ -20,6 +21,7 @@ mod turned;
 
 pub use cell::TurnCell;
 pub use make::Refused;
+pub use news::have_news;
 pub use owned_turn::OwnedTurn;
 pub use pass::Pass;
 pub use turn::Turn;

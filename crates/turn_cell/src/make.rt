@@ -60,7 +60,14 @@ fn first_seat<S: Turned>(
     };
     let slots = slots_of(alloc, state)?;
     match Table::new(alloc, &[0; 18], slots, &opening) {
-        Ok((table, seat)) => Ok((TurnCell { table }, Pass { number: 0, seat })),
+        Ok((table, seat)) => Ok((
+            TurnCell::of(table),
+            Pass {
+                number: 0,
+                entries: 0,
+                seat,
+            },
+        )),
         Err(refused) => {
             let atomic_table::Refused { slots } = refused;
             Err(Refused {
@@ -78,7 +85,11 @@ fn split<S: Turned>(cell: &TurnCell<S>, first: &mut Pass<S>, number: u32) -> Pas
     ensures further { IsPassOf cell.now result × IsFresh number result }
 {
     let seat = cell.table.shared.split_seat::<Another>(&mut first.seat);
-    Pass { number, seat }
+    Pass {
+        number,
+        entries: 0,
+        seat,
+    }
 }
 
 // Makes a further pass.

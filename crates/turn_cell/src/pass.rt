@@ -9,6 +9,8 @@ use crate::turned::Turned;
 pub struct Pass<S: Turned> {
     // It is kept so that a pass has a size: no proof is made of an element of a slice that has none.
     pub(crate) number: u32,
+    // How many turns of the cell had ended with an entry when this pass had its last one.
+    pub(crate) entries: u64,
     pub(crate) seat: Place<S>,
 }
 
@@ -16,14 +18,22 @@ impl<S: Turned> Pass<S> {
     pub(crate) fn into_seat(self) -> Place<S>
         ensures { result ≡ self.seat }
     {
-        let Self { number: _, seat } = self;
+        let Self {
+            number: _,
+            entries: _,
+            seat,
+        } = self;
         seat
     }
 }
 
 impl<S: Turned> Drop for Pass<S> {
     fn drop(self) {
-        let Self { number: _, seat } = self;
+        let Self {
+            number: _,
+            entries: _,
+            seat,
+        } = self;
         drop(seat);
     }
 }

@@ -29,6 +29,8 @@ pub(crate) fn put_back<S: Turned, E: Named<S::Entry>>(
     ensures pass { IsPassOf cell.now pass.new }
     ensures entered { HasEntered E.entry pass.old pass.new }
 {
+    pass.entries = pass.entries.wrapping_add(1);
+    cell.set_entries(pass.entries);
     put_in(cell, pass, state);
     let served = advance::<S, E>(cell, pass);
     wake_next(cell, pass, served);

@@ -8,18 +8,18 @@ use Rattle.input_gate.proofs.GateLaws.{looked_on, seen_stop}
 use Rattle.input_gate.proofs.cell_gate.next_of.Goals as goal
 
 pub returns-in-Err-clause-gave : goal.returns-in-Err-clause-gave
-returns-in-Err-clause-gave g c = (nothing_of (account_of c.args.lanes.now.items) (account_of c.refill_all.new.lanes.items) (same_of c.args.lanes.now.items c.refill_all.new.lanes.items c.refill_all.ensures.quiet), tt)
+returns-in-Err-clause-gave g c = (nothing_of (account_of c.args.lanes.now.items) (account_of c.refill_unread.new.lanes.items) (same_of c.args.lanes.now.items c.refill_unread.new.lanes.items c.refill_unread.ensures.quiet), tt)
 
 pub returns-in-Err-clause-cells : goal.returns-in-Err-clause-cells
-returns-in-Err-clause-cells g c = quiet_cells c.args.lanes.now.items c.refill_all.new.lanes.items c.refill_all.ensures.quiet
+returns-in-Err-clause-cells g c = quiet_cells c.args.lanes.now.items c.refill_unread.new.lanes.items c.refill_unread.ensures.quiet
 
 pub loop-round-init : goal.loop-round-init
 loop-round-init g c = record {
-  lanes = c.refill_all.ensures.lanes;
-  quiet = c.refill_all.ensures.quiet;
+  lanes = c.refill_unread.ensures.lanes;
+  quiet = c.refill_unread.ensures.quiet;
   spare = c.in-Ok.ensures.spare;
-  lender = c.refill_all.ensures.lender.0;
-  same = c.refill_all.ensures.lender.1;
+  lender = c.refill_unread.ensures.lender.0;
+  same = c.refill_unread.ensures.lender.1;
   most = c.most_held-most.ensures;
   stop = c.requires.stop;
   pass = (refl, refl);
@@ -55,11 +55,11 @@ returns-then-all_over-clause-gave g c = (nothing_of (account_of c.args.lanes.now
 pub returns-then-all_over-clause-cells : goal.returns-then-all_over-clause-cells
 returns-then-all_over-clause-cells g c = c.take.ensures.cells ∙ quiet_cells c.args.lanes.now.items c.loop-round.lanes.items c.loop-round.invariant.quiet
 
-pub returns-then-is_some-clause-gave : goal.returns-then-is_some-clause-gave
-returns-then-is_some-clause-gave g c = (nothing_of (account_of c.args.lanes.now.items) (account_of c.take.new.lanes.items) (same_of c.args.lanes.now.items c.take.new.lanes.items (quiet_on c.args.lanes.now.items c.loop-round.lanes.items c.take.new.lanes.items c.loop-round.invariant.quiet (subst (λ taken. Took c.args.hold c.loop-round.lanes.items (Ok taken) c.take.new.lanes.items) c.in-Ok-Nothing.field-0-is c.in-Ok-Nothing.ensures.took))), tt)
+pub returns-then-is_stopped-clause-gave : goal.returns-then-is_stopped-clause-gave
+returns-then-is_stopped-clause-gave g c = (nothing_of (account_of c.args.lanes.now.items) (account_of c.take.new.lanes.items) (same_of c.args.lanes.now.items c.take.new.lanes.items (quiet_on c.args.lanes.now.items c.loop-round.lanes.items c.take.new.lanes.items c.loop-round.invariant.quiet (subst (λ taken. Took c.args.hold c.loop-round.lanes.items (Ok taken) c.take.new.lanes.items) c.in-Ok-Nothing.field-0-is c.in-Ok-Nothing.ensures.took))), tt)
 
-pub returns-then-is_some-clause-cells : goal.returns-then-is_some-clause-cells
-returns-then-is_some-clause-cells g c = c.take.ensures.cells ∙ quiet_cells c.args.lanes.now.items c.loop-round.lanes.items c.loop-round.invariant.quiet
+pub returns-then-is_stopped-clause-cells : goal.returns-then-is_stopped-clause-cells
+returns-then-is_stopped-clause-cells g c = c.take.ensures.cells ∙ quiet_cells c.args.lanes.now.items c.loop-round.lanes.items c.loop-round.invariant.quiet
 
 pub loop-round-preserved : goal.loop-round-preserved
 loop-round-preserved g c = record {
@@ -69,8 +69,8 @@ loop-round-preserved g c = record {
   lender = c.take.ensures.lender.0;
   same = c.take.ensures.lender.1 ∙ c.loop-round.invariant.same;
   most = λ is. most_on c.loop-round.lanes.items c.take.new.lanes.items c.most_held-most.result (subst (λ taken. Took c.args.hold c.loop-round.lanes.items (Ok taken) c.take.new.lanes.items) c.in-Ok-Nothing.field-0-is c.in-Ok-Nothing.ensures.took) (c.loop-round.invariant.most is);
-  stop = c.look_for_stop.ensures.pass.0;
-  pass = (c.look_for_stop.ensures.pass.1.0 ∙ c.loop-round.invariant.pass.0, c.look_for_stop.ensures.pass.1.1 ∙ c.loop-round.invariant.pass.1);
+  stop = c.is_stopped.ensures.pass.0;
+  pass = (c.is_stopped.ensures.pass.1.0 ∙ c.loop-round.invariant.pass.0, c.is_stopped.ensures.pass.1.1 ∙ c.loop-round.invariant.pass.1);
 }
 
 pub returns-in-Err-take-clause-gave : goal.returns-in-Err-take-clause-gave

@@ -12,3 +12,6 @@ returns-clause-resumed g c = resumed_of c.requires.lanes.0 c.args.lanes.now.item
 
 pub returns-clause-cells : goal.returns-clause-cells
 returns-clause-cells g c = cells_set c.args.lanes.now.items c.args.at _ c.index_mut.result.now c.go_on.new.lane c.index_mut.ensures.value c.requires.within c.go_on.ensures.resumed.cell
+
+pub returns-clause-spare : goal.returns-clause-spare
+returns-clause-spare g c none = no_spare_set c.args.lanes.now.items c.args.at c.go_on.new.lane none c.requires.within (c.go_on.ensures.spare ∙ no_spare_at c.args.lanes.now.items c.args.at _ c.index_mut.result.now none c.requires.within c.index_mut.ensures.value)

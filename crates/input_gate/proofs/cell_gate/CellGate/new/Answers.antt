@@ -2,23 +2,25 @@ use Rattle.std.proofs.Common.{rules, ◌≡◌, ◌<◌, ◌≤◌, ◌^◌, ◌
 use Rattle.turn_cell.specs.Passes.{opened_with}
 use Rattle.segment_pool.specs.Pools.{size_of}
 use Rattle.local_pool.specs.Helds.{pool_of}
-use Rattle.input_gate.proofs.GateLaws.{first_of, lanes_fresh, cells_fresh, length_fresh, is_new}
+use Rattle.input_gate.proofs.GateLaws.{first_of, lanes_fresh, cells_fresh, length_fresh, is_new, no_spare_fresh}
 use Rattle.input_gate.proofs.cell_gate.CellGate.new.Goals as goal
 
 pub invariant_of-result : goal.invariant_of-result
 invariant_of-result c =
     let same = length_fresh c.args.cells.now c.args.passes.items c.deal_lanes-lanes.result.items c.deal_lanes-lanes.ensures.lanes in
     let few = c.requires.few in
+    let first = first_of (size_of (pool_of (opened_with c.args.gate_pool.now))) c.args.cells.now c.args.passes.items c.requires.passes.0 c.requires.passes.1 c.requires.fresh c.requires.sizes in
     let room = c.deal_lanes-lanes.ensures.passes.1 in (
       record {
         few = omega (arith, same, few);
-        lanes_are = lanes_fresh (size_of (pool_of (opened_with c.args.gate_pool.now))) c.args.cells.now c.args.passes.items c.deal_lanes-lanes.result.items c.deal_lanes-lanes.ensures.lanes (first_of (size_of (pool_of (opened_with c.args.gate_pool.now))) c.args.cells.now c.args.passes.items c.requires.passes.0 c.requires.passes.1 c.requires.fresh c.requires.sizes);
+        lanes_are = lanes_fresh (size_of (pool_of (opened_with c.args.gate_pool.now))) c.args.cells.now c.args.passes.items c.deal_lanes-lanes.result.items c.deal_lanes-lanes.ensures.lanes first;
         lender_is = c.requires.pool;
         stop_is = c.requires.stop.0;
         no_fault = c.requires.stop.1;
       },
       c.deal_lanes-lanes.ensures.passes.0,
       omega (arith, same, room),
+      λ read. no_spare_fresh (size_of (pool_of (opened_with c.args.gate_pool.now))) c.args.cells.now c.args.passes.items c.deal_lanes-lanes.result.items c.deal_lanes-lanes.ensures.lanes first,
     )
 
 pub returns-clause-account : goal.returns-clause-account

@@ -1,17 +1,34 @@
-use Rattle.std.proofs.Common.{subst}
+use Rattle.std.proofs.Common.{rules, ◌<◌, ◌≤◌, ◌^◌, ◌∙◌, length, subst, arith}
 use Rattle.std.specs.Prelude.{IfOk}
 use Rattle.input_gate.specs.Lanes.{lent_size}
 use Rattle.input_gate.specs.States.{GateState, LookedFirst}
-use Rattle.input_gate.proofs.GateLaws.{looked_first, all_came_back}
+use Rattle.input_gate.proofs.GateLaws.{cells_length, looked_first, all_came_back, none_left}
 use Rattle.input_gate.proofs.cell_gate.CellGateGate.next.Goals as goal
+
+pub invariant_of-self : goal.invariant_of-self
+invariant_of-self g c =
+    let same = cells_length c.self.inside.lanes.items c.next_of-result.new.lanes.items c.next_of-result.ensures.cells in
+    let few = c.self.invariant.0.few in
+    let room = c.self.invariant.2 in (
+      record {
+        few = omega (arith, same, few);
+        lanes_are = search (rules, c.next_of-result.ensures.lanes, c.next_of-result.ensures.lender.1);
+        lender_is = c.next_of-result.ensures.lender.0;
+        stop_is = c.next_of-result.ensures.stop.0;
+        no_fault = c.next_of-result.ensures.stop.1.1 ∙ c.self.invariant.0.no_fault;
+      },
+      c.self.invariant.1,
+      omega (arith, same, room),
+      none_left c.next_of-result.result c.is_err-self-inside.result c.next_of-result.new.lanes.items c.is_err-self-inside.ensures.value c.next_of-result.ensures.spare,
+    )
 
 pub returns-clause-looked : goal.returns-clause-looked
 returns-clause-looked g c =
-    let new : GateState = record { lanes = c.next_of.new.lanes.items; lender = c.next_of.new.lender; stop = c.self.inside.stop.now; stop_pass = c.next_of.new.stop_pass } in
+    let new : GateState = record { lanes = c.next_of-result.new.lanes.items; lender = c.next_of-result.new.lender; stop = c.self.inside.stop.now; stop_pass = c.next_of-result.new.stop_pass } in
     let old : GateState = record { lanes = c.self.inside.lanes.items; lender = c.self.inside.lender; stop = c.self.inside.stop.now; stop_pass = c.self.inside.stop_pass } in
-    subst (λ gate. IfOk c.next_of.result (λ item. LookedFirst c.args.hold gate new item)) c.self.view_is (looked_first c.args.hold old new c.next_of.result c.next_of.ensures.looked)
+    subst (λ gate. IfOk c.next_of-result.result (λ item. LookedFirst c.args.hold gate new item)) c.self.view_is (looked_first c.args.hold old new c.next_of-result.result c.next_of-result.ensures.looked)
 
 pub returns-clause-back : goal.returns-clause-back
 returns-clause-back g c =
-    let new : GateState = record { lanes = c.next_of.new.lanes.items; lender = c.next_of.new.lender; stop = c.self.inside.stop.now; stop_pass = c.next_of.new.stop_pass } in
-    all_came_back (lent_size c.self.inside.lender) new c.next_of.result c.next_of.ensures.lanes c.next_of.ensures.spare
+    let new : GateState = record { lanes = c.next_of-result.new.lanes.items; lender = c.next_of-result.new.lender; stop = c.self.inside.stop.now; stop_pass = c.next_of-result.new.stop_pass } in
+    all_came_back (lent_size c.self.inside.lender) new c.next_of-result.result c.next_of-result.ensures.lanes c.next_of-result.ensures.spare

@@ -27,4 +27,5 @@ invariant_of-self g c =
       },
       c.self.invariant.1,
       omega (arith, same, room),
+      λ read. c.resume_at.ensures.spare (c.self.invariant.3 read),
     )

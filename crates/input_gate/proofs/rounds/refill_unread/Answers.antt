@@ -1,0 +1,5 @@
+use Rattle.input_gate.proofs.RoundLaws.{quiet_all}
+use Rattle.input_gate.proofs.rounds.refill_unread.Goals as goal
+
+pub returns-then-not-unread-clause-quiet : goal.returns-then-not-unread-clause-quiet
+returns-then-not-unread-clause-quiet g c = quiet_all c.args.lanes.now.items

@@ -55,35 +55,33 @@ ends_finished (Read more ∷ xs) ends = ends_finished xs ends
 ends_finished (Finished ∷ xs) ends = written-append xs (Finished ∷ []) ∙ append-nil (bytes_written xs) ∙ ends
 
 -- the entries of the pass that wrote, and of the one that read
-pub wrote : (old new : Ring) (bytes : List ℕ) (history : List (ℕ × LinkEntry)) → new.bytes.capacity ≡ old.bytes.capacity → new.bytes.items ≡ old.bytes.items ++ bytes → new.finished ≡ old.finished →
+pub wrote : (old new : Ring) (bytes : List ℕ) (history : List (ℕ × LinkEntry)) → new.bytes ≡ old.bytes ++ bytes → new.finished ≡ old.finished →
     Carries old history → Carries new (history ++ (0, Wrote bytes) ∷ [])
-wrote old new bytes history room items finished c =
+wrote old new bytes history items finished c =
     let more = (0, Wrote bytes) ∷ [] in
     let own : by 0 (history ++ more) ≡ by 0 history ++ Wrote bytes ∷ [] = by-append 0 history more in
     let other : by 1 (history ++ more) ≡ by 1 history = by-append 1 history more ∙ append-nil (by 1 history) in
     record {
-      room = room ∙ c.room;
       carried = ap bytes_written own ∙ written-append (by 0 history) (Wrote bytes ∷ [])
-          ∙ ap (λ l. l ++ (bytes ++ [])) c.carried ∙ ap (λ l. (bytes_read (by 1 history) ++ old.bytes.items) ++ l) (append-nil bytes)
-          ∙ append_assoc (bytes_read (by 1 history)) old.bytes.items bytes
+          ∙ ap (λ l. l ++ (bytes ++ [])) c.carried ∙ ap (λ l. (bytes_read (by 1 history) ++ old.bytes) ++ l) (append-nil bytes)
+          ∙ append_assoc (bytes_read (by 1 history)) old.bytes bytes
           ∙ ap (λ l. bytes_read (by 1 history) ++ l) (sym items)
-          ∙ ap (λ es. bytes_read es ++ new.bytes.items) (sym other);
+          ∙ ap (λ es. bytes_read es ++ new.bytes) (sym other);
       finished = finished ∙ c.finished ∙ sym (ap has_finished own ∙ finished_wrote (by 0 history) bytes);
     }
 
-pub was_read : (old new : Ring) (bytes : List ℕ) (history : List (ℕ × LinkEntry)) → new.bytes.capacity ≡ old.bytes.capacity → old.bytes.items ≡ bytes ++ new.bytes.items → new.finished ≡ old.finished →
+pub was_read : (old new : Ring) (bytes : List ℕ) (history : List (ℕ × LinkEntry)) → old.bytes ≡ bytes ++ new.bytes → new.finished ≡ old.finished →
     Carries old history → Carries new (history ++ (1, Read bytes) ∷ [])
-was_read old new bytes history room items finished c =
+was_read old new bytes history items finished c =
     let more = (1, Read bytes) ∷ [] in
     let own : by 1 (history ++ more) ≡ by 1 history ++ Read bytes ∷ [] = by-append 1 history more in
     let other : by 0 (history ++ more) ≡ by 0 history = by-append 0 history more ∙ append-nil (by 0 history) in
     let read : bytes_read (by 1 (history ++ more)) ≡ bytes_read (by 1 history) ++ bytes =
     ap bytes_read own ∙ read-append (by 1 history) (Read bytes ∷ []) ∙ ap (λ l. bytes_read (by 1 history) ++ l) (append-nil bytes) in
     record {
-      room = room ∙ c.room;
       carried = ap bytes_written other ∙ c.carried ∙ ap (λ l. bytes_read (by 1 history) ++ l) items
-          ∙ sym (append_assoc (bytes_read (by 1 history)) bytes new.bytes.items)
-          ∙ ap (λ l. l ++ new.bytes.items) (sym read);
+          ∙ sym (append_assoc (bytes_read (by 1 history)) bytes new.bytes)
+          ∙ ap (λ l. l ++ new.bytes) (sym read);
       finished = finished ∙ c.finished ∙ ap has_finished (sym other);
     }
 
@@ -94,10 +92,9 @@ has_ended old new history bytes finished c =
     let own : by 0 (history ++ more) ≡ by 0 history ++ Finished ∷ [] = by-append 0 history more in
     let other : by 1 (history ++ more) ≡ by 1 history = by-append 1 history more ∙ append-nil (by 1 history) in
     record {
-      room = ap (λ b. b.capacity) bytes ∙ c.room;
       carried = ap bytes_written own ∙ written-append (by 0 history) (Finished ∷ []) ∙ append-nil (bytes_written (by 0 history)) ∙ c.carried
-          ∙ ap (λ b. bytes_read (by 1 history) ++ b.items) (sym bytes)
-          ∙ ap (λ es. bytes_read es ++ new.bytes.items) (sym other);
+          ∙ ap (λ b. bytes_read (by 1 history) ++ b) (sym bytes)
+          ∙ ap (λ es. bytes_read es ++ new.bytes) (sym other);
       finished = finished ∙ sym (ap has_finished own ∙ finished_at_end (by 0 history));
     }
 
@@ -112,11 +109,11 @@ by_on : (k : ℕ) (before now : List (ℕ × LinkEntry)) (longer : StartsWith no
 by_on k before now longer = ap (by k) longer.1 ∙ by-append k before longer.0
 
 pub front_of : (ring : Ring) (history : List (ℕ × LinkEntry)) → Carries ring history → IsFront history
-front_of ring history c = (ring.bytes.items, c.carried)
+front_of ring history c = (ring.bytes, c.carried)
 
-pub all_of : (ring : Ring) (history : List (ℕ × LinkEntry)) → Carries ring history → length ring.bytes.items ≡ 0 → ring.finished ≡ true → IsAll history
+pub all_of : (ring : Ring) (history : List (ℕ × LinkEntry)) → Carries ring history → length ring.bytes ≡ 0 → ring.finished ≡ true → IsAll history
 all_of ring history c none is = (
-  sym (c.carried ∙ ap (λ l. bytes_read (by 1 history) ++ l) (nil_from_length ring.bytes.items none) ∙ append-nil (bytes_read (by 1 history))),
+  sym (c.carried ∙ ap (λ l. bytes_read (by 1 history) ++ l) (nil_from_length ring.bytes none) ∙ append-nil (bytes_read (by 1 history))),
   sym c.finished ∙ is,
 )
 

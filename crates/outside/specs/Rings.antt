@@ -2,7 +2,6 @@
 -- A bounded buffer between a writer and a reader is this project's own choice.
 use Rattle.std.specs.Prelude.{◌≡◌, ℕ, Bool, true, false, List, [], ◌∷◌, ◌++◌}
 use Rattle.turn_cell.specs.History.{by, StartsWith}
-use Rattle.outside.specs.declared.ring.TheConstants.{LINK_ROOM}
 use Rattle.outside.specs.declared.ring.LinkEntry.{LinkEntry}
 use Rattle.outside.specs.declared.ring.LinkEntry.TheVariants.{Wrote, Read, Finished}
 use Rattle.outside.specs.declared.ring.Ring.{Ring}
@@ -37,8 +36,7 @@ EndsThere (Finished ∷ es) = bytes_written es ≡ []
 
 -- The ring holds what pass 0 wrote and pass 1 has not read.
 pub record Carries (ring : Ring) (history : List (ℕ × LinkEntry)) : Type 0 where
-  pub room : ring.bytes.capacity ≡ LINK_ROOM
-  pub carried : bytes_written (by 0 history) ≡ bytes_read (by 1 history) ++ ring.bytes.items
+  pub carried : bytes_written (by 0 history) ≡ bytes_read (by 1 history) ++ ring.bytes
   pub finished : ring.finished ≡ has_finished (by 0 history)
 
 -- What was read is a front of what was written.

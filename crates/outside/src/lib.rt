@@ -4,11 +4,12 @@
 //! workers once one has met a fault, the cell that tells them which image was stored last, and the
 //! pauses of loops that wait.
 //!
-//! It stands on flow_defs, turn_cell and the kit's circular_buffer and crossbeam_utils. Contracts see
+//! It stands on flow_defs, turn_cell and the kit's crossbeam_utils. Contracts see
 //! what a thing tells of its bytes, which is nothing where it is a real one, and its count of faults: a
 //! call fails only where that count rises in it.
 #![tactic(auto)]
 
+mod bells;
 mod dir_files;
 mod files;
 mod keeper;
@@ -34,6 +35,7 @@ mod std_sink;
 mod stop;
 #[cfg(test)]
 mod tests;
+mod waiting;
 mod wires;
 
 pub use dir_files::{DirFiles, DirSource};
@@ -48,7 +50,7 @@ pub use memory_links::MemoryLinks;
 pub use memory_out::MemoryOut;
 pub use memory_sink::MemorySink;
 pub use memory_source::MemorySource;
-pub use pause::Pause;
+pub use pause::{PAUSES, Pause};
 pub use ring::{LINK_ROOM, LinkEntry, Ring};
 pub use sink::Sink;
 pub use source::{Failed, Source};

@@ -4,6 +4,7 @@ ghost use Rattle.turn_cell.specs.Passes.{IsPassOf, IsTurnOf, HasEntered, mine, n
 ghost use Rattle.outside.specs.declared.ring.LinkEntry.TheVariants.{Wrote, Read, Finished};
 ghost use Rattle.outside.specs.Rings.{Carries, IsFront, IsAll};
 
+use crate::bells::Bells;
 use crate::{LINK_ROOM, LinkEntry, Pause, Ring};
 use std::marker::Brand;
 use std::sync::Wait;
@@ -89,6 +90,7 @@ pub(crate) fn write_some<R: Wait>(
     rt: &R,
     cell: &TurnCell<Ring>,
     pass: &mut Pass<Ring>,
+    bells: &Bells,
     bytes: &[u8],
 ) -> usize
     requires some { 0 < length bytes.now }
@@ -100,9 +102,10 @@ pub(crate) fn write_some<R: Wait>(
     let mut pause = Pause::new();
     for _round in rt.forever() {
         if let Some(count) = try_write(rt, cell, pass, bytes) {
+            bells.reader.unpark();
             return count;
         }
-        pause.wait(rt);
+        pause.wait_for(rt, &bells.writer);
     }
     unreachable!()
 }
@@ -112,6 +115,7 @@ pub(crate) fn read_some<R: Wait>(
     rt: &R,
     cell: &TurnCell<Ring>,
     pass: &mut Pass<Ring>,
+    bells: &Bells,
     room: &mut [u8],
 ) -> usize
     requires some { 0 < length room.old }
@@ -125,15 +129,21 @@ pub(crate) fn read_some<R: Wait>(
     let mut pause = Pause::new();
     for _round in rt.forever() {
         if let Some(count) = try_read(rt, cell, pass, room) {
+            bells.writer.unpark();
             return count;
         }
-        pause.wait(rt);
+        pause.wait_for(rt, &bells.reader);
     }
     unreachable!()
 }
 
 /// Says that nothing more is written.
-pub(crate) fn finish_ring<R: Wait>(rt: &R, cell: &TurnCell<Ring>, pass: &mut Pass<Ring>)
+pub(crate) fn finish_ring<R: Wait>(
+    rt: &R,
+    cell: &TurnCell<Ring>,
+    pass: &mut Pass<Ring>,
+    bells: &Bells,
+)
     requires pass { IsPassOf cell.now pass.old × (number pass.old ≡ 0) }
     ensures pass { IsPassOf cell.now pass.new × (number pass.new ≡ 0) }
     ensures finished { mine pass.new ≡ mine pass.old ++ Finished ∷ [] }
@@ -141,4 +151,5 @@ pub(crate) fn finish_ring<R: Wait>(rt: &R, cell: &TurnCell<Ring>, pass: &mut Pas
     let mut turn = cell.enter(rt, pass);
     turn.state().finish();
     turn.leave::<Brand>();
+    bells.reader.unpark();
 }

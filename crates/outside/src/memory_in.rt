@@ -4,6 +4,7 @@ ghost use Rattle.turn_cell.specs.Passes.{IsPassOf};
 ghost use Rattle.outside.specs.Faults.{HasRisen};
 ghost use Rattle.outside.specs.MemoryLinks.{new_in, in_faults, in_line, InStep};
 
+use crate::bells::Bells;
 use crate::link_turns::read_some;
 use crate::{Failed, LinkIn, Ring};
 use flow_defs::ListOf;
@@ -16,6 +17,7 @@ use turn_cell::{Pass, TurnCell};
 #[derive(Drop)]
 pub struct MemoryIn {
     cell: Arc<TurnCell<Ring>, Global>,
+    bells: Arc<Bells, Global>,
     pub(crate) pass: Pass<Ring>,
     ended: bool,
     reads: ListOf<u64>,
@@ -44,6 +46,7 @@ impl MemoryIn {
     /// The end of a new link. The numbers in `reads` count from 1.
     pub(crate) fn new(
         cell: Arc<TurnCell<Ring>, Global>,
+        bells: Arc<Bells, Global>,
         pass: Pass<Ring>,
         reads: ListOf<u64>,
     ) -> Self
@@ -52,6 +55,7 @@ impl MemoryIn {
     {
         MemoryIn {
             cell,
+            bells,
             pass,
             ended: false,
             reads,
@@ -112,7 +116,7 @@ impl LinkIn for MemoryIn {
         if self.ended {
             return Ok(0);
         }
-        let count = read_some(rt, &self.cell, &mut self.pass, room);
+        let count = read_some(rt, &self.cell, &mut self.pass, &self.bells, room);
         self.ended = count == 0;
         Ok(count)
     }

@@ -4,6 +4,7 @@ ghost use Rattle.outside.specs.Faults.{HasRisen};
 ghost use Rattle.outside.specs.Links.{HasMet, NeverFails, faults_of};
 ghost use Rattle.outside.specs.MemoryLinks.{IsLink, NoneFails, PairStep, TakesBack, in_faults, no_links, out_faults};
 
+use crate::bells::Bells;
 use crate::{Links, MemoryIn, MemoryOut, PairFault, Ring, Wire};
 use flow_defs::ListOf;
 use std::alloc::{AllocError, Global};
@@ -71,9 +72,11 @@ fn new_link(
     let writing = deal(&mut passes);
     let cell = Arc::new(alloc, cell)?;
     let other = Arc::try_clone(&cell)?;
+    let bells = Arc::new(alloc, Bells::new())?;
+    let heard = Arc::try_clone(&bells)?;
     Ok((
-        MemoryOut::new(cell, writing, writes),
-        MemoryIn::new(other, reading, reads),
+        MemoryOut::new(cell, bells, writing, writes),
+        MemoryIn::new(other, heard, reading, reads),
     ))
 }
 

@@ -5,6 +5,7 @@ ghost use Rattle.outside.specs.Faults.{HasRisen};
 ghost use Rattle.outside.specs.Links.{HasMet};
 ghost use Rattle.outside.specs.MemoryLinks.{new_out, out_faults, out_line, OutStep};
 
+use crate::bells::Bells;
 use crate::link_turns::{finish_ring, write_some};
 use crate::{Failed, LinkOut, MemoryIn, Ring};
 use flow_defs::ListOf;
@@ -17,6 +18,7 @@ use turn_cell::{Pass, TurnCell};
 #[derive(Drop)]
 pub struct MemoryOut {
     cell: Arc<TurnCell<Ring>, Global>,
+    bells: Arc<Bells, Global>,
     pass: Pass<Ring>,
     writes: ListOf<u64>,
     calls: u64,
@@ -44,6 +46,7 @@ impl MemoryOut {
     /// The end of a new link. The numbers in `writes` count from 1.
     pub(crate) fn new(
         cell: Arc<TurnCell<Ring>, Global>,
+        bells: Arc<Bells, Global>,
         pass: Pass<Ring>,
         writes: ListOf<u64>,
     ) -> Self
@@ -52,6 +55,7 @@ impl MemoryOut {
     {
         MemoryOut {
             cell,
+            bells,
             pass,
             writes,
             calls: 0,
@@ -117,7 +121,7 @@ impl LinkOut for MemoryOut {
             self.faults = self.faults.saturating_add(1);
             return Err(Failed);
         }
-        Ok(write_some(rt, &self.cell, &mut self.pass, bytes))
+        Ok(write_some(rt, &self.cell, &mut self.pass, &self.bells, bytes))
     }
 
     fn finish<R: Wait>(&mut self, rt: &R)
@@ -126,6 +130,6 @@ impl LinkOut for MemoryOut {
         ensures line { (self.new.cell ≡ self.old.cell) × (self.new.fails ≡ self.old.fails) }
         ensures never_falls { out_faults self.old ≤ out_faults self.new }
     {
-        finish_ring(rt, &self.cell, &mut self.pass);
+        finish_ring(rt, &self.cell, &mut self.pass, &self.bells);
     }
 }

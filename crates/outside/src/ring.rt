@@ -3,7 +3,7 @@ ghost use Rattle.std.specs.Prelude.{◌≡◌, ◌-◌, ◌==◌, ◌++◌, [], 
 ghost use Rattle.outside.specs.declared.ring.LinkEntry.TheVariants.{Wrote, Read, Finished};
 ghost use Rattle.outside.specs.Rings.{Carries};
 
-use circular_buffer::HeapCircularBuffer;
+use crate::waiting::Waiting;
 use std::alloc::{AllocError, Global};
 use std::collections::LinkedList;
 use std::marker::Brand;
@@ -25,7 +25,7 @@ pub enum LinkEntry {
 /// The bytes on their way, and whether no more come. Nothing but `new` takes memory.
 #[derive(Drop)]
 pub struct Ring {
-    bytes: HeapCircularBuffer<u8>,
+    bytes: Waiting,
     finished: bool,
 }
 
@@ -51,21 +51,21 @@ impl Ring {
         ensures { IfOk result (λ ring. Carries ring []) }
     {
         Ok(Ring {
-            bytes: HeapCircularBuffer::with_capacity(alloc, LINK_ROOM)?,
+            bytes: Waiting::new(alloc)?,
             finished: false,
         })
     }
 
     /// How many more bytes fit.
     pub(crate) fn spare(&self) -> usize
-        ensures { result ≡ self.now.bytes.capacity - length self.now.bytes.items }
+        ensures { result ≡ LINK_ROOM - length self.now.bytes }
     {
-        self.bytes.capacity() - self.bytes.len()
+        LINK_ROOM - self.bytes.len()
     }
 
     /// Whether there are no bytes.
     pub(crate) fn is_empty(&self) -> bool
-        ensures { result ≡ (length self.now.bytes.items == 0) }
+        ensures { result ≡ (length self.now.bytes == 0) }
     {
         self.bytes.is_empty()
     }
@@ -79,18 +79,18 @@ impl Ring {
 
     /// Adds a front of these bytes, as many as fit.
     pub(crate) fn add(&mut self, bytes: &[u8]) -> usize
-        ensures count { result ≡ min (length bytes.now) (self.old.bytes.capacity - length self.old.bytes.items) }
+        ensures count { result ≡ min (length bytes.now) (LINK_ROOM - length self.old.bytes) }
         ensures wrote { (history : _) (number : _) → number ≡ 0 → Carries self.old history → Carries self.new (history ++ (number, Wrote (take result bytes.now)) ∷ []) }
     {
-        self.bytes.fill_from_slice(bytes)
+        self.bytes.add(bytes)
     }
 
     /// Moves the first bytes into `room`, as many as it holds.
     pub(crate) fn take(&mut self, room: &mut [u8]) -> usize
-        ensures count { result ≡ min (length room.old) (length self.old.bytes.items) }
+        ensures count { result ≡ min (length room.old) (length self.old.bytes) }
         ensures read { (history : _) (number : _) → number ≡ 1 → Carries self.old history → Carries self.new (history ++ (number, Read (take result room.new)) ∷ []) }
     {
-        self.bytes.read_into(room)
+        self.bytes.take(room)
     }
 
     /// Says that no more bytes come.

@@ -10,7 +10,5 @@ mod aggregate;
 mod checkpoint;
 mod counting;
 pub mod laws;
-#[cfg(test)]
-mod tests;
 
 pub use aggregate::{AggregateTaskEnd, AggregateWorld, run_aggregate};

@@ -11,8 +11,6 @@ mod fault;
 mod places;
 mod read;
 mod records;
-#[cfg(test)]
-mod tests;
 mod write;
 
 pub use fault::{ImageFault, WriteFault};

@@ -8,4 +8,3 @@ pub mod Breaks
 pub mod Told
 pub mod Runs
 pub mod Ends
-mod TestJob

@@ -9,8 +9,6 @@ mod gathering;
 pub mod laws;
 mod spelling;
 mod storing;
-#[cfg(test)]
-mod tests;
 mod worker;
 mod world;
 

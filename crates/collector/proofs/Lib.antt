@@ -4,4 +4,3 @@ mod SlotLemmas
 mod MadeImages
 mod Acknowledging
 mod FaultLemmas
-mod CountingJob

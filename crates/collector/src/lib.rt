@@ -12,8 +12,6 @@ mod filling;
 pub mod laws;
 mod lists;
 mod places;
-#[cfg(test)]
-mod tests;
 
 pub use collector::{Checkpoint, Collector};
 pub use fault::find_fault;

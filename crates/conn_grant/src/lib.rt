@@ -9,7 +9,5 @@ mod end;
 mod message;
 mod rounds;
 mod sizes;
-#[cfg(test)]
-mod tests;
 
 pub use control::read_control;

@@ -10,8 +10,6 @@ mod outgoing;
 mod places;
 mod pools;
 mod share;
-#[cfg(test)]
-mod tests;
 mod watch;
 
 pub use incoming::{Incoming, drain};

@@ -1,5 +1,4 @@
 pub mod AccountLaws
-pub mod Dealt
 pub mod EndLaws
 pub mod EntryLaws
 pub mod MessageLaws

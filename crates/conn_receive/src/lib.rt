@@ -9,8 +9,6 @@ mod channels;
 mod message;
 mod receive;
 mod rounds;
-#[cfg(test)]
-mod tests;
 mod turns;
 
 pub use receive::read_items;

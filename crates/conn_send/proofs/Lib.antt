@@ -1,4 +1,3 @@
-pub mod Dealt
 pub mod Ends
 pub mod Fronts
 pub mod Lent

@@ -13,8 +13,6 @@ mod ready;
 mod room;
 mod send;
 mod step;
-#[cfg(test)]
-mod tests;
 mod turns;
 
 pub use send::send_items;

@@ -15,8 +15,6 @@ mod receiving;
 mod sending;
 mod sent;
 mod start_fault;
-#[cfg(test)]
-mod tests;
 
 pub use connection::Connection;
 pub use exchange::Exchange1;

@@ -18,8 +18,6 @@ mod parcel;
 mod routes;
 mod table;
 mod task;
-#[cfg(test)]
-mod tests;
 mod word;
 
 pub use aggregates::{fold_value, key_len, value_of};

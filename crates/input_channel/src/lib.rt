@@ -17,8 +17,6 @@ mod parts;
 mod polled;
 mod queue;
 mod segments;
-#[cfg(test)]
-mod tests;
 
 pub use arrival::{Arrival, ArrivalKind};
 pub use channel::{InputChannel, NoRoom, ROOM_MAX, ROOM_MIN};

@@ -15,8 +15,6 @@ mod passes;
 mod rest;
 mod round;
 mod rounds;
-#[cfg(test)]
-mod tests;
 mod turns;
 
 pub use cell_gate::CellGate;

@@ -14,8 +14,6 @@ mod parts;
 mod pool_cells;
 mod pools;
 mod span;
-#[cfg(test)]
-mod tests;
 
 pub use edge::{Edge, EdgePasses};
 pub use group::cell_of_two;

@@ -8,8 +8,6 @@ pub mod laws;
 mod left;
 mod settling;
 mod stages;
-#[cfg(test)]
-mod tests;
 mod wires;
 
 pub use acknowledged::settle_snapshots;

@@ -6,8 +6,6 @@ mod apply;
 mod counts;
 mod joins;
 mod limits;
-#[cfg(test)]
-mod tests;
 
 pub use apply::apply_stage;
 pub use counts::Counts;

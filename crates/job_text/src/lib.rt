@@ -15,8 +15,6 @@ mod options;
 mod parser;
 mod shape;
 mod spelling;
-#[cfg(test)]
-mod tests;
 mod words;
 
 pub use fault::{JobFault, JobReadFault};

@@ -11,8 +11,6 @@ mod connection;
 mod keeping;
 mod place;
 mod task;
-#[cfg(test)]
-mod tests;
 
 pub use all::{LoopPlace, LoopRow, TaskPlace, TaskRow, run_all};
 pub use collecting::{CollectPlace, CollectTask};

@@ -1,4 +1,3 @@
 pub mod Dealing
-pub mod Dealt
 pub mod Fitting
 pub mod Moving

@@ -13,8 +13,6 @@ pub mod laws;
 mod local;
 mod moves;
 mod shares;
-#[cfg(test)]
-mod tests;
 
 pub use fault::LocalFault;
 pub use held::{HeldPool, NoEntry};

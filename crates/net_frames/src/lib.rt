@@ -11,8 +11,6 @@ mod fault;
 mod frame;
 mod kind;
 pub mod laws;
-#[cfg(test)]
-mod tests;
 
 pub use decoding::{Decoded, Span, decode};
 pub use encoding::encode;

@@ -7,8 +7,6 @@
 #![tactic(auto)]
 
 mod reader;
-#[cfg(test)]
-mod tests;
 mod write;
 
 pub use reader::{NextFault, Reader};

@@ -6,4 +6,3 @@ pub mod Emitting
 pub mod Marking
 pub mod InOrder
 pub mod Dealt
-pub mod Samples

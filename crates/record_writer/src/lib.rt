@@ -7,8 +7,6 @@ mod part;
 mod partition;
 mod router;
 mod supply;
-#[cfg(test)]
-mod tests;
 mod turns;
 mod writer;
 

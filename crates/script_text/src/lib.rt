@@ -14,8 +14,6 @@ mod reader;
 mod reply;
 mod script;
 mod spelling;
-#[cfg(test)]
-mod tests;
 
 pub use event::{CHANNELS_MAX, Event, FILL_MAX, SIZE_MAX, SIZE_MIN, Script, TEXT_MAX, TOTAL_MAX};
 pub use fault::ScriptFault;

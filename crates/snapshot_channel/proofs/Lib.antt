@@ -2,4 +2,3 @@ mod Tasks
 mod Steps
 mod Words
 mod Loops
-mod CountingJob

@@ -8,8 +8,6 @@
 mod channel;
 mod opened;
 mod rule;
-#[cfg(test)]
-mod tests;
 mod views;
 
 pub use opened::{CollectingPass, Opened, SnapshotChannel, TaskPass};

@@ -6,5 +6,3 @@ pub mod CuttingLemmas
 pub mod ReadingLemmas
 pub mod Ends
 pub mod AccountLemmas
-mod CountingJob
-mod OneChannel

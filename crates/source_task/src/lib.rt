@@ -10,8 +10,6 @@ mod lines;
 mod output;
 mod reading;
 mod source;
-#[cfg(test)]
-mod tests;
 
 use output::{LineFault, SourceOutput};
 pub use source::{SourceTaskEnd, SourceWorld, run_source};

@@ -5,5 +5,3 @@ pub mod Acknowledging
 pub mod SameStage
 pub mod Running
 pub mod AccountLemmas
-mod RaisingJob
-mod OneChannel

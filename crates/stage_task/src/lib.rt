@@ -8,11 +8,7 @@
 mod applying;
 mod checkpoints;
 pub mod laws;
-#[cfg(test)]
-mod list_gate;
 mod stage;
-#[cfg(test)]
-mod tests;
 
 use applying::apply_all;
 use checkpoints::{StageOutput, TakerEnd};

@@ -5,4 +5,3 @@ pub mod Allowed
 pub mod Telling
 pub mod Adding
 pub mod Examples
-pub mod Dealt

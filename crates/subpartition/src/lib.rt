@@ -10,11 +10,7 @@ mod entry;
 mod item;
 pub mod laws;
 mod subpartition;
-#[cfg(test)]
-mod tests;
 mod turned;
-#[cfg(test)]
-mod turns;
 
 pub use entry::SendEntry;
 pub use item::{Filled, Item};

@@ -11,7 +11,5 @@ mod places;
 mod resuming;
 mod runs;
 mod taking;
-#[cfg(test)]
-mod tests;
 
 pub use taking::{Taken, TaskTaking};

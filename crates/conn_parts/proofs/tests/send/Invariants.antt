@@ -1,5 +1,0 @@
-use Rattle.std.proofs.Common.{◌≡◌, false}
-use Rattle.conn_parts.proofs.tests.send.Given as goal
-
-abbrev pub invariant-loop-sequence : goal.invariant-loop-sequence
-invariant-loop-sequence g l = l.out.finished ≡ false

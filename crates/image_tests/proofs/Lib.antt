@@ -1,0 +1,3 @@
+mod CountingJob
+mod SnapshotChannelCountingJob
+mod TestJob

@@ -1,0 +1,341 @@
+// The worker of a job with two sources and one task that counts, whose snapshots are all sent before it
+// runs, in one thread.
+ghost use Rattle.std.specs.Prelude.{◌≡◌, ◌<◌, ◌≤◌, [], ◌∷◌, ◌++◌, length, map, true, All, IfOk, IfSome};
+ghost use Rattle.turn_cell.specs.Passes as turns;
+ghost use Rattle.turn_cell.specs.Passes.{mine, number};
+ghost use Rattle.flow_defs.specs.declared.job.Job.{Job as AnyJob};
+ghost use Rattle.snapshot_channel.specs.Snapshots.{FitsTask, all_tasks};
+ghost use Rattle.snapshot_channel.specs.Passes.{IsFresh, opening_of, task_of};
+ghost use Rattle.outside.specs.MemoryKeepers.{KeeperState};
+ghost use Rattle.collecting_worker.specs.Accounts.{HasText, IsLent};
+
+use collecting_worker::{CollectEnd, CollectWorld, collect_images};
+use flow_defs::{Cause, Job, ListOf, Snapshot, Table, TaskId};
+use job_text::read_grammar;
+use outside::{
+    LastImage, MemoryKeeper, StopState, Stored, look_for_stop, look_for_stored, tell_stop,
+};
+use snapshot_channel::{Opened, SnapshotChannel, TaskPass};
+use std::alloc::{AllocError, Global};
+use std::process::Abort;
+use std::sync::Wait;
+use std::test::Fail;
+use turn_cell::{Pass, TurnCell};
+
+const TEXT: &[u8] = b"source a\nsource b\naggregate count 1\n";
+
+fn counting_job(alloc: Global) -> Result<Job, Fail>
+    ensures text { IfOk result HasText }
+    ensures tasks { IfOk result (λ job. (job.stages.items ≡ []) × (length job.sources.items ≡ 2) × (job.agg_tasks ≡ 1)) }
+{
+    let Ok(job) = read_grammar(alloc, TEXT) else {
+        return Err("this is no text of a job".into());
+    };
+    if job.stages.as_slice().len() > 0 || job.sources.as_slice().len() != 2 || job.agg_tasks != 1 {
+        return Err("it has other tasks".into());
+    }
+    Ok(job)
+}
+
+// What a task with nothing in its state tells of a checkpoint.
+fn told(alloc: Global, task: TaskId, number: u64, ended: bool) -> Snapshot
+    ensures task { result.task ≡ task }
+    ensures number { result.number ≡ number }
+    ensures ended { result.ended ≡ ended }
+    ensures fits { (job : AnyJob) → FitsTask job result }
+{
+    Snapshot {
+        task,
+        number,
+        offset: 0,
+        ended,
+        emitted: 0,
+        table: Table::new(alloc),
+        takes: ListOf::new(alloc),
+        saved_in: ListOf::new(alloc),
+        saved_out: ListOf::new(alloc),
+    }
+}
+
+// Sends the snapshots of a task, one for each of these flags, and stays at its end.
+fn send_all<R: Wait>(
+    rt: &R,
+    alloc: Global,
+    channel: &SnapshotChannel,
+    pass: TaskPass,
+    task: TaskId,
+    every: Option<u64>,
+    ends: &[bool],
+) -> Result<(), Fail>
+    requires fresh { IsFresh channel.now pass × (task_of pass ≡ task) }
+    requires base { (opening_of channel.now).base ≡ 0 }
+    requires every { (opening_of channel.now).every ≡ every }
+{
+    let mut pass = pass;
+    let mut number = 0;
+    let mut ended = every.is_none();
+    'snapshots: for end in ends {
+        let Some(next) = u64::checked_add(number, 1) else {
+            return Err("there is no further number".into());
+        };
+        number = next;
+        ended = ended || *end;
+        match channel.send(rt, &mut pass, told(alloc, task, number, ended)) {
+            Ok(()) => {}
+            Err(_) => return Err("there is no room".into()),
+        }
+    }
+    Ok(())
+}
+
+// Sends the snapshots of the first source, then those of the task that counts, and then those of the second
+// source.
+fn send_each<R: Wait>(
+    rt: &R,
+    alloc: Global,
+    channel: &SnapshotChannel,
+    passes: ListOf<TaskPass>,
+    every: Option<u64>,
+    ends: [&[bool]; 3],
+) -> Result<(), Fail>
+    requires counting { ((opening_of channel.now).job.stages.items ≡ []) × (length (opening_of channel.now).job.sources.items ≡ 2) × ((opening_of channel.now).job.agg_tasks ≡ 1) }
+    requires base { (opening_of channel.now).base ≡ 0 }
+    requires every { (opening_of channel.now).every ≡ every }
+    requires fresh { All (IsFresh channel.now) passes.items }
+    requires tasks { map task_of passes.items ≡ all_tasks (opening_of channel.now).job }
+{
+    let mut passes = passes;
+    let Some(count) = passes.pop() else {
+        return Err("there is no pass".into());
+    };
+    let Some(second) = passes.pop() else {
+        return Err("there is one pass".into());
+    };
+    let Some(first) = passes.pop() else {
+        return Err("there are two passes".into());
+    };
+    let [of_first, of_count, of_second] = ends;
+    let task = TaskId { stage: 0, index: 0 };
+    send_all(rt, alloc, channel, first, task, every, of_first)?;
+    let task = TaskId { stage: 1, index: 0 };
+    send_all(rt, alloc, channel, count, task, every, of_count)?;
+    let task = TaskId { stage: 0, index: 1 };
+    send_all(rt, alloc, channel, second, task, every, of_second)
+}
+
+// Takes the last of these passes.
+fn deal<T: Drop>(passes: &mut ListOf<T>) -> T
+    requires { 0 < length passes.old.items }
+    ensures { passes.old.items ≡ passes.new.items ++ result ∷ [] }
+{
+    passes.pop().unwrap()
+}
+
+// A stop cell, the pass of the collecting worker, and that of another worker, which has met a fault or not.
+fn shared_stop<R: Wait + Abort>(
+    rt: &R,
+    alloc: Global,
+    met: bool,
+) -> (TurnCell<StopState>, Pass<StopState>, Pass<StopState>)
+    ensures collecting { turns.IsPassOf result.0 result.1 × (mine result.1 ≡ []) }
+    ensures other { turns.IsPassOf result.0 result.2 }
+{
+    let Ok((cell, mut passes)) = TurnCell::new(alloc, StopState::new(), 2) else {
+        panic!(rt; "no cell")
+    };
+    let mut other = deal(&mut passes);
+    let collecting = deal(&mut passes);
+    if met {
+        tell_stop(rt, &cell, &mut other, Cause::Link);
+    }
+    (cell, collecting, other)
+}
+
+// The cell of the last image, the pass of the collecting worker, and that of a source.
+fn shared_last<R: Abort>(
+    rt: &R,
+    alloc: Global,
+) -> (TurnCell<LastImage>, Pass<LastImage>, Pass<LastImage>)
+    ensures collecting { turns.IsPassOf result.0 result.1 × (number result.1 ≡ 0) × (mine result.1 ≡ []) }
+    ensures reading { turns.IsPassOf result.0 result.2 }
+{
+    let Ok((cell, mut passes)) = TurnCell::new(alloc, LastImage::new(), 2) else {
+        panic!(rt; "no cell")
+    };
+    let reading = deal(&mut passes);
+    let collecting = deal(&mut passes);
+    (cell, collecting, reading)
+}
+
+// An empty keeper, of which these calls fail.
+fn keeper_of(alloc: Global, puts: &[u64]) -> Result<MemoryKeeper, AllocError>
+    ensures { IfOk result (λ (keeper : KeeperState). keeper.images ≡ []) }
+{
+    let mut fails = ListOf::new(alloc);
+    fails.extend(puts)?;
+    Ok(MemoryKeeper::new(ListOf::new(alloc), ListOf::new(alloc), fails))
+}
+
+// Runs the worker on an empty keeper.
+fn collect<R: Wait>(
+    rt: &R,
+    alloc: Global,
+    keeper: &mut MemoryKeeper,
+    every: Option<u64>,
+    world: CollectWorld<'_>,
+) -> CollectEnd
+    requires { IsLent every world × (keeper.old.images ≡ []) }
+    ensures { turns.IsPassOf world.entry.stop.now result.stop_pass }
+{
+    collect_images(rt, alloc, keeper, every, world)
+}
+
+// What is sent, whether a fault was met before, and what comes of it: why the worker ended, the number and mark of
+// the image that it hands back, what the others were told of it, and the first fault that was met.
+#[derive(Clone, Copy)]
+struct Case<'a> {
+    every: Option<u64>,
+    ends: [&'a [bool]; 3],
+    met: bool,
+    cause: Cause,
+    last: Option<(u64, bool)>,
+    told: Option<Stored>,
+    first: Option<Cause>,
+}
+
+fn shown(end: &CollectEnd) -> Option<(u64, bool)> {
+    match &end.last {
+        Some(image) => Some((image.number, image.final_one)),
+        None => None,
+    }
+}
+
+fn collects<R: Wait + Abort>(
+    rt: &R,
+    alloc: Global,
+    keeper: &mut MemoryKeeper,
+    case: Case<'_>,
+) -> Result<(), Fail>
+    requires keeper { keeper.old.images ≡ [] }
+    requires interval { IfSome case.every (λ n. 1 ≤ n) }
+{
+    let job = counting_job(alloc)?;
+    let Opened {
+        channel,
+        collecting,
+        passes,
+    } = SnapshotChannel::open(alloc, &job, 0, case.every)?;
+    send_each(rt, alloc, &channel, passes, case.every, case.ends)?;
+    let (stop, stop_pass, mut other) = shared_stop(rt, alloc, case.met);
+    let (last_image, last_pass, mut reading) = shared_last(rt, alloc);
+    let world = CollectWorld {
+        job: &job,
+        snapshots: &channel,
+        collecting,
+        last_image: &last_image,
+        last_pass,
+        stop: &stop,
+        stop_pass,
+    };
+    let end = collect(rt, alloc, keeper, case.every, world);
+    assert_eq!(rt; end.cause, case.cause);
+    assert_eq!(rt; shown(&end), case.last);
+    assert_eq!(rt; look_for_stored(rt, &last_image, &mut reading), case.told);
+    assert_eq!(rt; look_for_stop(rt, &stop, &mut other), case.first);
+    Ok(())
+}
+
+// The keeper has images of these numbers, and their bytes say whether each is the last.
+fn has_kept<R: Abort>(rt: &R, keeper: &MemoryKeeper, want: &[(u64, u8)]) {
+    assert_eq!(rt; keeper.images().len(), want.len());
+    for (kept, (number, last)) in keeper.images().iter().zip(want) {
+        assert_eq!(rt; kept.number, *number);
+        assert_eq!(rt; kept.bytes.as_slice().get(13), Some(last));
+    }
+}
+
+#[test]
+fn without_an_interval_the_first_image_is_the_last(rt: HostRuntime) -> Result<(), Fail> {
+    let alloc = rt.alloc();
+    let mut keeper = keeper_of(alloc, &[])?;
+    let case = Case {
+        every: None,
+        ends: [&[true], &[false], &[true]],
+        met: false,
+        cause: Cause::Done,
+        last: Some((1, true)),
+        told: Some(Stored {
+            number: 1,
+            all_ended: true,
+        }),
+        first: None,
+    };
+    collects(&rt, alloc, &mut keeper, case)?;
+    has_kept(&rt, &keeper, &[(1, 1)]);
+    Ok(())
+}
+
+// One source sends its first three snapshots before the others send theirs for checkpoint 1.
+#[test]
+fn the_last_image_is_behind_one_with_all_sources_ended(rt: HostRuntime) -> Result<(), Fail> {
+    let alloc = rt.alloc();
+    let mut keeper = keeper_of(alloc, &[])?;
+    let case = Case {
+        every: Some(2),
+        ends: [
+            &[true, true, true],
+            &[false, false, false],
+            &[false, true, true],
+        ],
+        met: false,
+        cause: Cause::Done,
+        last: Some((3, true)),
+        told: Some(Stored {
+            number: 3,
+            all_ended: true,
+        }),
+        first: None,
+    };
+    collects(&rt, alloc, &mut keeper, case)?;
+    has_kept(&rt, &keeper, &[(1, 0), (2, 0), (3, 1)]);
+    Ok(())
+}
+
+#[test]
+fn a_keeper_that_fails_stops_all_workers(rt: HostRuntime) -> Result<(), Fail> {
+    let alloc = rt.alloc();
+    let mut keeper = keeper_of(alloc, &[2])?;
+    let case = Case {
+        every: Some(1),
+        ends: [&[false, true], &[false, false], &[false, true]],
+        met: false,
+        cause: Cause::Keeper,
+        last: Some((1, false)),
+        told: Some(Stored {
+            number: 1,
+            all_ended: false,
+        }),
+        first: Some(Cause::Keeper),
+    };
+    collects(&rt, alloc, &mut keeper, case)?;
+    has_kept(&rt, &keeper, &[(1, 0)]);
+    Ok(())
+}
+
+#[test]
+fn nothing_is_stored_once_a_fault_was_met(rt: HostRuntime) -> Result<(), Fail> {
+    let alloc = rt.alloc();
+    let mut keeper = keeper_of(alloc, &[])?;
+    let case = Case {
+        every: None,
+        ends: [&[true], &[false], &[true]],
+        met: true,
+        cause: Cause::Stopped,
+        last: None,
+        told: None,
+        first: Some(Cause::Link),
+    };
+    collects(&rt, alloc, &mut keeper, case)?;
+    has_kept(&rt, &keeper, &[]);
+    Ok(())
+}

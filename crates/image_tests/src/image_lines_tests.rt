@@ -1,0 +1,68 @@
+// The image of a job with one source and one task that counts.
+ghost use Rattle.std.specs.Prelude.{◌≡◌, [], ◌∷◌, IfOk};
+ghost use Rattle.flow_defs.specs.Jobs.{IsJob};
+
+use flow_defs::{AggKind, Bytes, Image, Job, ListOf, Table, TakeRun};
+use image_lines::image_lines;
+use std::alloc::{AllocError, Global};
+use std::test::Fail;
+
+fn counting_job(alloc: Global) -> Result<Job, AllocError>
+    ensures { IfOk result IsJob }
+{
+    Ok(Job {
+        sources: one(alloc, Bytes::of(alloc, b"in")?)?,
+        stages: ListOf::new(alloc),
+        agg: AggKind::Count,
+        agg_tasks: 1,
+        text: Bytes::new(alloc),
+    })
+}
+
+// A list of one item.
+fn one<T: Drop>(alloc: Global, item: T) -> Result<ListOf<T>, AllocError>
+    ensures { IfOk result (λ list. list.items ≡ item ∷ []) }
+{
+    let mut list = ListOf::new(alloc);
+    list.push(item)?;
+    Ok(list)
+}
+
+// Three records of two keys were read, sent and counted.
+fn counted_image(alloc: Global) -> Result<Image, AllocError> {
+    let mut table = Table::new(alloc);
+    table.set(b"a", 2)?;
+    table.set(b"b", 1)?;
+    let takes = one(alloc, TakeRun { from: 0, count: 3 })?;
+    Ok(Image {
+        number: 1,
+        final_one: true,
+        text: Bytes::new(alloc),
+        offsets: one(alloc, 3)?,
+        ended: one(alloc, true)?,
+        emitted: one(alloc, 3)?,
+        tables: one(alloc, table)?,
+        takes: one(alloc, takes)?,
+        saved_in: one(alloc, Bytes::new(alloc))?,
+        saved_out: one(alloc, Bytes::new(alloc))?,
+    })
+}
+
+#[test]
+fn an_image_is_shown_in_lines(rt: HostRuntime) -> Result<(), Fail> {
+    let alloc = rt.alloc();
+    let job = counting_job(alloc)?;
+    let image = counted_image(alloc)?;
+    let text = image_lines(alloc, &job, &image)?;
+    assert_eq!(rt;
+        str::from_utf8(text.as_slice())?,
+        "image 1\n\
+         last yes\n\
+         source 0 offset 3 ended yes\n\
+         task 0 0 emitted 3\n\
+         table 0 keys 2\n\
+         take 1 0 runs 1 records 3\n\
+         channel 0 0 0 in 0 out 0\n"
+    );
+    Ok(())
+}

@@ -1,0 +1,92 @@
+// The pool and the cells of a small job.
+ghost use Rattle.std.specs.Prelude.{◌≡◌, IfOk};
+ghost use Rattle.flow_defs.specs.Jobs.{IsJob};
+
+use flow_defs::{AggKind, Bytes, Exchange, Job, ListOf, Stage, StageKind, needed};
+use job_cells::{open_edges, open_pool};
+use std::alloc::{AllocError, Global};
+use std::test::Fail;
+
+// A stage of two tasks.
+fn stage_of(
+    alloc: Global,
+    kind: StageKind,
+    arg: &[u8],
+    exchange: Exchange,
+) -> Result<Stage, AllocError>
+    ensures kind { IfOk result (λ stage. stage.kind ≡ kind) }
+    ensures arg { IfOk result (λ stage. stage.arg.items ≡ arg.now) }
+    ensures tasks { IfOk result (λ stage. stage.tasks ≡ 2) }
+{
+    let arg = Bytes::of(alloc, arg)?;
+    Ok(Stage {
+        kind,
+        arg,
+        tasks: 2,
+        exchange,
+    })
+}
+
+// Two sources, `keep:GET 2` by this exchange, `field:2 2` by hash, and two tasks that count.
+fn job_of(alloc: Global, exchange: Exchange) -> Result<Job, AllocError>
+    ensures { IfOk result (λ job. IsJob job) }
+{
+    let mut sources = ListOf::new(alloc);
+    sources.push(Bytes::of(alloc, b"a")?)?;
+    sources.push(Bytes::of(alloc, b"b")?)?;
+    let mut stages = ListOf::new(alloc);
+    let keep = stage_of(alloc, StageKind::Keep, b"GET", exchange)?;
+    stages.push(keep)?;
+    let field = stage_of(alloc, StageKind::Field, b"2", Exchange::Hash)?;
+    stages.push(field)?;
+    Ok(Job {
+        sources,
+        stages,
+        agg: AggKind::Count,
+        agg_tasks: 2,
+        text: Bytes::new(alloc),
+    })
+}
+
+#[test]
+fn a_pool_of_what_is_needed_opens(rt: HostRuntime) -> Result<(), Fail> {
+    let alloc = rt.alloc();
+    let job = job_of(alloc, Exchange::Rebalance)?;
+    let segments = needed(&job);
+    assert_eq!(rt; segments, 42);
+    let (pool, grants) = open_pool(alloc, &job, segments, 64)?;
+    assert_eq!(rt; pool.size(), 64);
+    // Two partitions and two gates on each of three edges.
+    assert_eq!(rt; grants.passes.as_slice().len(), 12);
+    Ok(())
+}
+
+#[test]
+fn an_edge_has_a_pass_for_each_channel(rt: HostRuntime) -> Result<(), Fail> {
+    let alloc = rt.alloc();
+    for (exchange, segments, channels, ways) in [
+        (Exchange::Rebalance, 42, 4, 2),
+        (Exchange::Forward, 36, 2, 1),
+    ] {
+        let job = job_of(alloc, exchange)?;
+        let total = needed(&job);
+        assert_eq!(rt; total, segments);
+        assert!(rt; total > 0 && total < 100);
+        let (pool, grants) = open_pool(alloc, &job, total, 64)?;
+        let (edges, all) = open_edges(&rt, alloc, &job, &pool, grants)?;
+        let edge = edges.as_slice().first().ok_or("there is no edge")?;
+        assert_eq!(rt; edge.channels.as_slice().len(), channels);
+        let passes = all.as_slice().first().ok_or("there are no passes")?;
+        assert_eq!(rt; passes.senders.as_slice().len(), 2);
+        for own in passes.senders.as_slice() {
+            assert_eq!(rt; own.as_slice().len(), ways);
+        }
+        assert_eq!(rt; passes.gates.as_slice().len(), 2);
+        for own in passes.gates.as_slice() {
+            assert_eq!(rt; own.as_slice().len(), ways);
+        }
+        assert_eq!(rt; passes.takers.as_slice().len(), channels);
+        assert_eq!(rt; passes.tellers.as_slice().len(), channels);
+    }
+    Ok(())
+}

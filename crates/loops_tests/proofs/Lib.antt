@@ -1,0 +1,4 @@
+mod Dealt
+mod ConnGrantDealt
+mod ConnReceiveDealt
+mod ConnAnnounceDealt

@@ -1,0 +1,302 @@
+// Bytes that are written and read back over a link in memory, and segments that are asked for and given.
+ghost use Rattle.std.specs.Prelude.{◌≡◌, ◌<◌, ◌≤◌, ◌++◌, [], ◌∷◌, ⊤, length, take, Some, false, refl};
+ghost use Rattle.turn_cell.specs.Passes.{IsPassOf, opened_with};
+ghost use Rattle.segment_pool.specs.Passes.{out};
+ghost use Rattle.segment_pool.specs.Pools as pools;
+ghost use Rattle.segment_pool.specs.Pools.{limits_of, size_of};
+ghost use Rattle.local_pool.specs.Helds.{pool_of};
+ghost use Rattle.conn_parts.specs.Shares.{AreOf, HavePoolSize};
+
+use conn_parts::{Incoming, Outgoing, close_link, drain, give_segment, place_of, request_segment};
+use flow_defs::{ChannelId, ListOf};
+use local_pool::{HeldPool, LocalPool};
+use net_frames::{ArrivalKind2, Frame, FrameFault, LEN_MAX, decode};
+use outside::{Failed, LinkIn, LinkOut};
+use segment_pool::{Pool, PoolPass};
+use std::alloc::Global;
+use std::process::Abort;
+use std::sync::Wait;
+use std::test::Fail;
+use turn_cell::{Pass, TurnCell};
+
+// A link that takes at most `most` bytes in a write, and fails from one write on.
+#[derive(Drop)]
+struct SlowOut {
+    bytes: Vec<u8>,
+    most: usize,
+    fails_from: u64,
+    writes: u64,
+    faults: u64,
+    finished: bool,
+}
+
+impl LinkOut for SlowOut {
+    type Line = u64;
+
+    ghost line = { λ _. 0 };
+
+    ghost sent = { λ s. Some s.bytes.items };
+
+    ghost finished = { λ s. Some s.finished };
+
+    ghost faults = { λ s. s.faults };
+
+    ghost never_fails = { λ _. ⊥ };
+
+    ghost is_faultless = { λ old new never. absurd never };
+
+    fn write<R: Wait>(&mut self, _rt: &R, bytes: &[u8]) -> Result<usize, Failed> {
+        self.writes = self.writes.saturating_add(1);
+        let count = bytes.len().min(self.most);
+        let fails = self.writes >= self.fails_from || count == 0;
+        if fails || self.bytes.extend_from_slice(&bytes[..count]).is_err() {
+            self.faults = self.faults.saturating_add(1);
+            return Err(Failed);
+        }
+        Ok(count)
+    }
+
+    fn finish<R: Wait>(&mut self, _rt: &R) {
+        self.finished = true;
+    }
+}
+
+// A link of these bytes that gives at most `most` in a read.
+#[derive(Drop)]
+struct SlowIn {
+    bytes: Vec<u8>,
+    at: usize,
+    most: usize,
+    ended: bool,
+    ghost within: { at ≤ length bytes.items },
+}
+
+impl LinkIn for SlowIn {
+    type Line = u64;
+
+    ghost line = { λ _. 0 };
+
+    ghost got = { λ s. Some (take s.at s.bytes.items) };
+
+    ghost ended = { λ s. Some s.ended };
+
+    ghost faults = { λ _. 0 };
+
+    ghost never_fails = { λ _. ⊤ };
+
+    ghost is_faultless = { λ old new never same. refl };
+
+    fn read<R: Wait>(&mut self, _rt: &R, room: &mut [u8]) -> Result<usize, Failed> {
+        let left = &self.bytes.as_slice()[self.at..];
+        let count = left.len().min(room.len()).min(self.most);
+        room[..count].copy_from_slice(&left[..count]);
+        self.at += count;
+        if count == 0 {
+            self.ended = true;
+        }
+        Ok(count)
+    }
+}
+
+const CHANNEL: ChannelId = ChannelId {
+    edge: 3,
+    from: 1,
+    to: 2,
+};
+
+// How many large frames are sent: more bytes than the buffers have room for.
+const MANY: u8 = 40;
+
+fn send<R: Wait>(rt: &R, alloc: Global, out: &mut SlowOut) -> Result<(), Fail>
+    requires { out.old.finished ≡ false }
+{
+    let mut outgoing = Outgoing::new(alloc)?;
+    for sequence in 0..MANY {
+        if !outgoing.has_room() {
+            outgoing.write_to(rt, out)?;
+        }
+        let frame = Frame::BufferResponse {
+            channel: CHANNEL,
+            sequence: u32::from(sequence),
+            backlog: 1,
+            what: ArrivalKind2::Buffer,
+        };
+        outgoing.put(&frame, &[sequence; 4000]);
+    }
+    outgoing.write_to(rt, out)?;
+    close_link(rt, out)?;
+    Ok(())
+}
+
+// How many large frames came before the closing one.
+fn receive<R: Wait + Abort>(rt: &R, alloc: Global, input: &mut SlowIn) -> Result<u8, Fail> {
+    let mut incoming = Incoming::new(alloc)?;
+    let mut next: u8 = 0;
+    for _ in rt.forever() {
+        match decode(incoming.bytes()) {
+            Ok(found) => {
+                let content = &incoming.bytes()[found.content.from..found.content.from
+                    + found.content.len];
+                match found.frame {
+                    Frame::BufferResponse { sequence, .. } => {
+                        assert_eq!(rt; sequence, u32::from(next));
+                        assert_eq!(rt; content, [next; 4000].as_slice());
+                        next = next.saturating_add(1);
+                    }
+                    Frame::Close => break,
+                    _ => Err("another frame")?,
+                }
+                incoming.consume(found.used);
+            }
+            Err(fault) => {
+                assert_eq!(rt; fault, FrameFault::NeedMore);
+                let count = incoming.read_from(rt, input)?;
+                assert!(rt; count > 0);
+            }
+        }
+    }
+    incoming.consume(9);
+    assert_eq!(rt; incoming.bytes().len(), 0);
+    assert_eq!(rt; incoming.read_from(rt, input)?, 0);
+    Ok(next)
+}
+
+#[test]
+fn what_is_written_is_read_again(rt: HostRuntime) -> Result<(), Fail> {
+    for most in [1, 7, 100, 60_000] {
+        let mut out = SlowOut {
+            bytes: Vec::new(rt.alloc()),
+            most,
+            fails_from: u64::MAX,
+            writes: 0,
+            faults: 0,
+            finished: false,
+        };
+        send(&rt, rt.alloc(), &mut out)?;
+        assert!(rt; out.finished);
+        let SlowOut { bytes, .. } = out;
+        let mut input = SlowIn {
+            bytes,
+            at: 0,
+            most,
+            ended: false,
+        };
+        assert_eq!(rt; receive(&rt, rt.alloc(), &mut input)?, MANY);
+        assert!(rt; input.ended);
+    }
+    Ok(())
+}
+
+#[test]
+fn a_link_is_finished_though_a_write_failed(rt: HostRuntime) -> Result<(), Fail> {
+    let mut out = SlowOut {
+        bytes: Vec::new(rt.alloc()),
+        most: 7,
+        fails_from: 2,
+        writes: 0,
+        faults: 0,
+        finished: false,
+    };
+    let mut outgoing = Outgoing::new(rt.alloc())?;
+    outgoing.put(&Frame::ResumeConsumption { channel: CHANNEL }, &[]);
+    assert_eq!(rt; outgoing.write_to(&rt, &mut out), Err(Failed));
+    assert_eq!(rt; close_link(&rt, &mut out), Err(Failed));
+    assert!(rt; out.finished);
+    assert_eq!(rt;
+        out.bytes.as_slice(),
+        [0, 0, 0, 25, 0xBA, 0xDC, 0x0F].as_slice()
+    );
+    assert_eq!(rt; out.faults, 2);
+    Ok(())
+}
+
+#[test]
+fn the_rest_is_dropped(rt: HostRuntime) -> Result<(), Fail> {
+    let mut input = SlowIn {
+        bytes: vec![in rt.alloc(); 5; 10_000]?,
+        at: 0,
+        most: 4_000,
+        ended: false,
+    };
+    drain(&rt, &mut input);
+    assert!(rt; input.ended);
+    assert_eq!(rt; input.at, 10_000);
+    Ok(())
+}
+
+#[test]
+fn a_channel_has_a_place(rt: HostRuntime) {
+    let other = ChannelId { edge: 4, ..CHANNEL };
+    assert_eq!(rt; place_of(&[other, CHANNEL], CHANNEL), Some(1));
+    assert_eq!(rt; place_of(&[other], CHANNEL), None);
+}
+
+fn deal(passes: &mut ListOf<PoolPass>) -> PoolPass
+    requires { 0 < length passes.old.items }
+    ensures { passes.old.items ≡ passes.new.items ++ result ∷ [] }
+{
+    passes.pop().unwrap()
+}
+
+// A local pool that keeps one segment, in a cell with one pass.
+fn shared_pool<'p, R: Wait + Abort>(
+    rt: &R,
+    alloc: Global,
+    pool: &'p Pool,
+    pass: PoolPass,
+) -> (TurnCell<HeldPool<'p>>, Pass<HeldPool<'p>>)
+    requires pass { pools.IsPassOf pool.now pass × (out pass ≡ 0) }
+    requires limits { limits_of pool.now ≡ [] }
+    ensures pass { IsPassOf result.0 result.1 }
+    ensures size { size_of (pool_of (opened_with result.0)) ≡ size_of pool.now }
+{
+    let Ok(local) = LocalPool::new(rt, alloc, pool, pass, 1, 1) else {
+        panic!(rt; "no local pool")
+    };
+    let Ok((cell, mut passes)) = TurnCell::new(alloc, HeldPool::new(pool, local), 1) else {
+        panic!(rt; "no cell")
+    };
+    let Some(pass) = passes.pop() else {
+        panic!(rt; "no pass")
+    };
+    (cell, pass)
+}
+
+fn ask_and_give<'p, R: Wait + Abort>(
+    rt: &R,
+    cells: &[TurnCell<HeldPool<'p>>],
+    passes: &mut ListOf<Pass<HeldPool<'p>>>,
+)
+    requires passes { AreOf cells.now passes.old.items }
+    requires two { 1 < length cells.now }
+    requires sizes { HavePoolSize 64 cells.now }
+{
+    let Some(first) = request_segment(rt, cells, passes, 0, 64) else {
+        panic!(rt; "a segment was kept")
+    };
+    assert!(rt; request_segment(rt, cells, passes, 0, 64).is_none());
+    let Some(second) = request_segment(rt, cells, passes, 1, 64) else {
+        panic!(rt; "a segment was kept")
+    };
+    give_segment(rt, cells, passes, 0, 64, second);
+    // Nothing is lent there any more.
+    give_segment(rt, cells, passes, 0, 64, first);
+    assert!(rt; request_segment(rt, cells, passes, 0, 64).is_some());
+    assert!(rt; request_segment(rt, cells, passes, 1, 64).is_none());
+}
+
+#[test]
+fn a_segment_goes_back_to_the_pool_at_its_place(rt: HostRuntime) -> Result<(), Fail> {
+    let Ok((pool, mut places)) = Pool::new(rt.alloc(), 2, 64, 2) else {
+        panic!(rt; "no memory")
+    };
+    let second = deal(&mut places);
+    let first = deal(&mut places);
+    let (first_cell, first_pass) = shared_pool(&rt, rt.alloc(), &pool, first);
+    let (second_cell, second_pass) = shared_pool(&rt, rt.alloc(), &pool, second);
+    let mut passes = ListOf::new(rt.alloc());
+    passes.push(first_pass)?;
+    passes.push(second_pass)?;
+    ask_and_give(&rt, &[first_cell, second_cell], &mut passes);
+    Ok(())
+}

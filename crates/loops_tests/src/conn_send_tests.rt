@@ -1,0 +1,343 @@
+// One channel whose items are written to a link of the tests.
+ghost use Rattle.std.specs.Prelude.{◌≡◌, ◌<◌, ◌≤◌, ◌++◌, [], ◌∷◌, length, Some, IfOk, false};
+ghost use Rattle.turn_cell.specs.Passes.{IsPassOf, IsTurnOf, HasEntered, mine, number, opened_with, seen};
+ghost use Rattle.segment_pool.specs.Passes.{out as out_of};
+ghost use Rattle.segment_pool.specs.Pools as pools;
+ghost use Rattle.segment_pool.specs.Pools.{limits_of, size_of};
+ghost use Rattle.local_pool.specs.Helds.{pool_of};
+ghost use Rattle.subpartition.specs.declared.entry.SendEntry.TheVariants.{Put};
+ghost use Rattle.subpartition.specs.Sending.{is_finished};
+ghost use Rattle.subpartition.specs.Queues.{last_bytes};
+ghost use Rattle.subpartition.specs.Standing.{StandsFor};
+ghost use Rattle.reader_state.specs.Turning.{channels_in, IsReaderPass};
+ghost use Rattle.conn_parts.specs.Shares.{AreOf, HavePoolSize};
+ghost use Rattle.loops_tests.specs.declared.conn_send_tests.TheConstants.{CHANNEL};
+
+use conn_parts::{ConnShare, LoopEnd, SharePasses, request_segment};
+use conn_send::send_items;
+use flow_defs::{Cause, ChannelId, ListOf};
+use local_pool::{HeldPool, LocalPool};
+use outside::{Failed, LinkOut, StopState, tell_stop};
+use reader_state::{ReaderState, take_request};
+use segment_pool::{Pool, PoolPass, Segment};
+use std::alloc::{AllocError, Global};
+use std::marker::Brand;
+use std::process::Abort;
+use std::sync::Wait;
+use std::test::Fail;
+use subpartition::laws::{calls_add_entries, calls_tell};
+use subpartition::{Filled, SendEntry, Subpartition};
+use turn_cell::{Named, Pass, Turn, TurnCell};
+
+const CHANNEL: ChannelId = ChannelId {
+    edge: 3,
+    from: 0,
+    to: 2,
+};
+
+// A link that fails from one write on.
+#[derive(Drop)]
+struct FaultyOut {
+    bytes: Vec<u8>,
+    fails_from: u64,
+    writes: u64,
+    faults: u64,
+    finished: bool,
+}
+
+impl LinkOut for FaultyOut {
+    type Line = u64;
+
+    ghost line = { λ _. 0 };
+
+    ghost sent = { λ s. Some s.bytes.items };
+
+    ghost finished = { λ s. Some s.finished };
+
+    ghost faults = { λ s. s.faults };
+
+    ghost never_fails = { λ _. ⊥ };
+
+    ghost is_faultless = { λ old new never. absurd never };
+
+    fn write<R: Wait>(&mut self, _rt: &R, bytes: &[u8]) -> Result<usize, Failed> {
+        self.writes = self.writes.saturating_add(1);
+        let fails = self.writes >= self.fails_from;
+        if fails || self.bytes.extend_from_slice(bytes).is_err() {
+            self.faults = self.faults.saturating_add(1);
+            return Err(Failed);
+        }
+        Ok(bytes.len())
+    }
+
+    fn finish<R: Wait>(&mut self, _rt: &R) {
+        self.finished = true;
+    }
+}
+
+// Ends the turn in which the last item was put, a buffer.
+fn leave_put<E: Named<SendEntry>>(turn: Turn<Subpartition>)
+    requires entry { E.entry ≡ Put (last_bytes turn.state.items) }
+    requires turn { IsTurnOf turn.cell.now turn.pass.now }
+    requires state { StandsFor turn.state (seen turn.pass.now ++ (number turn.pass.now, Put (last_bytes turn.state.items)) ∷ []) }
+    requires size { turn.state.size ≡ (opened_with turn.cell.now).size }
+    ensures pass { IsPassOf turn.entry.cell.now turn.exit.1.0.now }
+    ensures entered { HasEntered (Put (last_bytes turn.entry.state.items)) turn.entry.pass.now turn.exit.1.0.now }
+{
+    turn.leave::<E>();
+}
+
+// A task puts a buffer of these bytes.
+fn put<R: Wait + Abort>(
+    rt: &R,
+    cell: &TurnCell<Subpartition>,
+    pass: &mut Pass<Subpartition>,
+    segment: Segment,
+    bytes: &[u8; 5],
+)
+    requires pass { IsPassOf cell.now pass.old }
+    requires task { number pass.old ≡ 0 }
+    requires open_end { is_finished (mine pass.old) ≡ false }
+    ensures pass { IsPassOf cell.now pass.new × (number pass.new ≡ 0) }
+    ensures open_end { is_finished (mine pass.new) ≡ false }
+{
+    let mut segment = segment;
+    segment.bytes_mut()[..5].copy_from_slice(bytes);
+    assert!(rt; segment.bytes().len() >= 5);
+    let filled = Filled { segment, len: 5 };
+    let mut turn = cell.enter(rt, pass);
+    calls_add_entries();
+    calls_tell();
+    assert!(rt; turn.state().spare() > 0);
+    turn.state().put(filled);
+    leave_put::<Brand>(turn);
+}
+
+// A task puts the end.
+fn end<R: Wait + Abort>(rt: &R, cell: &TurnCell<Subpartition>, pass: &mut Pass<Subpartition>)
+    requires pass { IsPassOf cell.now pass.old }
+    requires task { number pass.old ≡ 0 }
+    requires open_end { is_finished (mine pass.old) ≡ false }
+    ensures pass { IsPassOf cell.now pass.new }
+{
+    let mut turn = cell.enter(rt, pass);
+    calls_add_entries();
+    calls_tell();
+    assert!(rt; turn.state().spare() > 0);
+    turn.state().finish();
+    turn.leave::<Brand>();
+}
+
+fn deal<T: Drop>(passes: &mut ListOf<T>) -> T
+    requires { 0 < length passes.old.items }
+    ensures { passes.old.items ≡ passes.new.items ++ result ∷ [] }
+{
+    passes.pop().unwrap()
+}
+
+// A list of one item.
+fn one<T: Drop>(alloc: Global, item: T) -> Result<ListOf<T>, AllocError>
+    ensures { IfOk result (λ list. list.items ≡ item ∷ []) }
+{
+    let mut list = ListOf::new(alloc);
+    list.push(item)?;
+    Ok(list)
+}
+
+// A local pool of two segments, in a cell with one pass.
+fn shared_pool<'p, R: Wait + Abort>(
+    rt: &R,
+    alloc: Global,
+    pool: &'p Pool,
+    pass: PoolPass,
+) -> (TurnCell<HeldPool<'p>>, Pass<HeldPool<'p>>)
+    requires pass { pools.IsPassOf pool.now pass × (out_of pass ≡ 0) }
+    requires limits { limits_of pool.now ≡ [] }
+    ensures pass { IsPassOf result.0 result.1 }
+    ensures size { size_of (pool_of (opened_with result.0)) ≡ size_of pool.now }
+{
+    let Ok(local) = LocalPool::new(rt, alloc, pool, pass, 2, 2) else {
+        panic!(rt; "no local pool")
+    };
+    let Ok((cell, mut passes)) = TurnCell::new(alloc, HeldPool::new(pool, local), 1) else {
+        panic!(rt; "no cell")
+    };
+    let pass = deal(&mut passes);
+    (cell, pass)
+}
+
+// A subpartition in a cell, and the passes of the task and of the sender.
+fn shared_subpartition<R: Abort>(
+    rt: &R,
+    alloc: Global,
+) -> (
+    TurnCell<Subpartition>,
+    Pass<Subpartition>,
+    Pass<Subpartition>,
+)
+    ensures task { IsPassOf result.0 result.1 × (number result.1 ≡ 0) × (mine result.1 ≡ []) }
+    ensures sender { IsPassOf result.0 result.2 × (number result.2 ≡ 1) }
+{
+    calls_add_entries();
+    let Ok(queue) = Subpartition::new(alloc, 64, 4) else {
+        panic!(rt; "no subpartition")
+    };
+    let Ok((cell, mut passes)) = TurnCell::new(alloc, queue, 2) else {
+        panic!(rt; "no cell")
+    };
+    let sender = deal(&mut passes);
+    let task = deal(&mut passes);
+    (cell, task, sender)
+}
+
+// The readers of the channel in a cell, and the passes of the writer of items and of the reader of control
+// frames.
+fn shared_readers<R: Abort>(
+    rt: &R,
+    alloc: Global,
+) -> (TurnCell<ReaderState>, Pass<ReaderState>, Pass<ReaderState>)
+    ensures channels { channels_in result.0 ≡ CHANNEL ∷ [] }
+    ensures writer { IsReaderPass result.0 0 result.1 × (mine result.1 ≡ []) }
+    ensures control { IsReaderPass result.0 1 result.2 }
+{
+    let Ok(state) = ReaderState::new(alloc, &[CHANNEL]) else {
+        panic!(rt; "no readers")
+    };
+    let Ok((cell, mut passes)) = TurnCell::new(alloc, state, 2) else {
+        panic!(rt; "no cell")
+    };
+    let control = deal(&mut passes);
+    let writer = deal(&mut passes);
+    (cell, writer, control)
+}
+
+// A stop cell, and two passes of it.
+fn shared_stop<R: Abort>(
+    rt: &R,
+    alloc: Global,
+) -> (TurnCell<StopState>, Pass<StopState>, Pass<StopState>)
+    ensures { IsPassOf result.0 result.1 × IsPassOf result.0 result.2 }
+{
+    let Ok((cell, mut passes)) = TurnCell::new(alloc, StopState::new(), 2) else {
+        panic!(rt; "no cell")
+    };
+    let other = deal(&mut passes);
+    let own = deal(&mut passes);
+    (cell, own, other)
+}
+
+// A task puts two buffers and the end.
+fn fill<'p, R: Wait + Abort>(
+    rt: &R,
+    pools: &[TurnCell<HeldPool<'p>>],
+    givers: &mut ListOf<Pass<HeldPool<'p>>>,
+    cell: &TurnCell<Subpartition>,
+    task: Pass<Subpartition>,
+)
+    requires givers { AreOf pools.now givers.old.items }
+    requires some { 0 < length pools.now }
+    requires sizes { HavePoolSize 64 pools.now }
+    requires task { IsPassOf cell.now task × (number task ≡ 0) × (mine task ≡ []) }
+    ensures givers { AreOf pools.now givers.new.items }
+{
+    let mut task = task;
+    let Some(first) = request_segment(rt, pools, givers, 0, 64) else {
+        panic!(rt; "no segment")
+    };
+    let Some(second) = request_segment(rt, pools, givers, 0, 64) else {
+        panic!(rt; "no segment")
+    };
+    put(rt, cell, &mut task, first, b"\0\0\0\x01a");
+    put(rt, cell, &mut task, second, b"\0\0\0\x01b");
+    end(rt, cell, &mut task);
+}
+
+// A run of the loop over the channel, which has two credits. It may be stopped from the start.
+fn run<'p, R: Wait + Abort>(
+    rt: &R,
+    alloc: Global,
+    pool: &'p Pool,
+    place: PoolPass,
+    out: FaultyOut,
+    stopped: bool,
+) -> Result<(FaultyOut, Cause), Fail>
+    requires place { pools.IsPassOf pool.now place × (out_of place ≡ 0) }
+    requires pool { (limits_of pool.now ≡ []) × (size_of pool.now ≡ 64) }
+    requires unfinished { out.finished ≡ false }
+{
+    let (pool_cell, giver) = shared_pool(rt, alloc, pool, place);
+    let (cell, task, sender) = shared_subpartition(rt, alloc);
+    let (readers, writer, mut control) = shared_readers(rt, alloc);
+    let (stop, stop_pass, mut other) = shared_stop(rt, alloc);
+    let pools = [pool_cell];
+    let mut givers = one(alloc, giver)?;
+    fill(rt, &pools, &mut givers, &cell, task);
+    assert!(rt; take_request(rt, &readers, &mut control, CHANNEL, 2).is_ok());
+    if stopped {
+        tell_stop(rt, &stop, &mut other, Cause::Memory);
+    }
+    let takers = one(alloc, sender)?;
+    let share = ConnShare {
+        channels: &[CHANNEL],
+        size: 64,
+        readers: &readers,
+        subpartitions: &[cell],
+        inputs: &[],
+        pools: &pools,
+        stop: &stop,
+        passes: SharePasses {
+            readers: Some(writer),
+            subpartitions: takers,
+            inputs: ListOf::new(alloc),
+            pools: givers,
+            stop: stop_pass,
+        },
+    };
+    let ended = send_items(rt, alloc, out, share);
+    let LoopEnd {
+        half,
+        passes: _passes,
+        cause,
+    } = ended;
+    Ok((half, cause))
+}
+
+// The frames of the two buffers and of the end, with sequence numbers 0, 1, 2 and backlogs 1, 0, 0, and
+// the closing frame.
+static FRAMES: [u8; 136] = [
+    0, 0, 0, 44, 0xBA, 0xDC, 0x0F, 0xFE, 0, 0, 0, 0, 3, 0, 0, 0, 0, 0, 0, 0, 2, 0, 0, 0, 0, 0, 0,
+    0, 0, 0, 0, 0, 1, 0, 0, 0, 0, 0, 5, 0, 0, 0, 1, b'a', 0, 0, 0, 44, 0xBA, 0xDC, 0x0F, 0xFE, 0,
+    0, 0, 0, 3, 0, 0, 0, 0, 0, 0, 0, 2, 0, 0, 0, 0, 0, 0, 0, 1, 0, 0, 0, 0, 0, 0, 0, 0, 0, 5, 0, 0,
+    0, 1, b'b', 0, 0, 0, 39, 0xBA, 0xDC, 0x0F, 0xFE, 0, 0, 0, 0, 3, 0, 0, 0, 0, 0, 0, 0, 2, 0, 0,
+    0, 0, 0, 0, 0, 2, 0, 0, 0, 0, 3, 0, 0, 0, 0, 0, 0, 0, 0, 9, 0xBA, 0xDC, 0x0F, 0xFE, 5,
+];
+
+#[test]
+fn a_channel_is_written_to_its_end(rt: HostRuntime) -> Result<(), Fail> {
+    // From which write on the link fails, whether a fault was met before, the bytes that are written and
+    // the cause.
+    let rows = [
+        (u64::MAX, false, FRAMES.as_slice(), Cause::Done),
+        (2, false, &FRAMES[..127], Cause::Link),
+        (1, false, &[], Cause::Link),
+        (u64::MAX, true, &FRAMES[127..], Cause::Stopped),
+    ];
+    for (fails_from, stopped, bytes, cause) in rows {
+        let Ok((pool, mut places)) = Pool::new(rt.alloc(), 2, 64, 1) else {
+            panic!(rt; "no memory")
+        };
+        let place = deal(&mut places);
+        let out = FaultyOut {
+            bytes: Vec::new(rt.alloc()),
+            fails_from,
+            writes: 0,
+            faults: 0,
+            finished: false,
+        };
+        let (out, met) = run(&rt, rt.alloc(), &pool, place, out, stopped)?;
+        assert_eq!(rt; out.bytes.as_slice(), bytes);
+        assert_eq!(rt; met, cause);
+        assert!(rt; out.finished);
+    }
+    Ok(())
+}

@@ -1,5 +1,0 @@
-use Rattle.record_writer.proofs.Marking.{next_of_new}
-use Rattle.record_writer.proofs.tests.run.Goals as goal
-
-pub write-written-requires-clause-next : goal.write-written-requires-clause-next
-write-written-requires-clause-next g c = next_of_new c.in-Ok.writer c.in-Ok.ensures.new.0

@@ -1,6 +1,0 @@
-use Rattle.std.proofs.Common.{◌≡◌}
-use Rattle.turn_cell.specs.Passes.{IsPassOf, number}
-use Rattle.record_writer.proofs.tests.takes.Given as goal
-
-abbrev pub invariant-loop-number : goal.invariant-loop-number
-invariant-loop-number g l = IsPassOf l.cell l.sender × (number l.sender ≡ 1)

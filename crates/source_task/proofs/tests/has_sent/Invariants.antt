@@ -1,6 +1,0 @@
-use Rattle.std.proofs.Common.{◌≡◌}
-use Rattle.turn_cell.specs.Passes.{IsPassOf, number}
-use Rattle.source_task.proofs.tests.has_sent.Given as goal
-
-abbrev pub invariant-barriers : goal.invariant-barriers
-invariant-barriers g l = IsPassOf l.fn.cell l.sender × (number l.sender ≡ 1)

@@ -1,0 +1,7 @@
+mod Dealt
+mod TestLaws
+mod Samples
+mod CountingJob
+mod OneChannel
+mod StageTaskOneChannel
+mod RaisingJob

@@ -1,0 +1,27 @@
+use Rattle.std.proofs.Common.{[], ◌∷◌, refl, sym, subst, ◌∙◌, arith}
+use Rattle.conn_parts.specs.Shares.{AreNew}
+use Rattle.record_writer.specs.Writers.{AreOwnAt, HaveSizeAt}
+use Rattle.tasks_tests.proofs.Samples.{both_own, both_new, both_sizes, two_tasks, two_ways}
+use Rattle.tasks_tests.proofs.record_writer_tests.write_over_two.Goals as goal
+
+pub run-written-requires-clause-partition : goal.run-written-requires-clause-partition
+run-written-requires-clause-partition g c =
+    let job = c.in_ok-job.job in let made = c.in_ok-job.ensures in let pool = c.shared_pool-pool_cell in
+    let one = c.shared_subpartition-one in let two = c.shared_subpartition-two in let is = sym c.in_ok-subpartitions.ensures in
+    let cells = one.result.0 ∷ two.result.0 ∷ [] in
+    let ways = sym (two_ways job _ made.edges made.tasks refl c.args.edge c.requires.edge) in
+    let tasks = two_tasks job _ made.edges made.tasks c.args.edge c.requires.edge in record {
+      is_job = made.job.0;
+      edge = omega (arith, made.job.1, c.requires.edge);
+      index = omega (arith, tasks);
+      passes = record {
+        own =
+            subst (λ n. AreOwnAt cells 0 1 n c.in_ok-subpartitions.subpartitions.items) ways
+            (subst (AreOwnAt cells 0 1 2) is (both_own one.result.0 two.result.0 one.result.1 two.result.1 one.ensures.task two.ensures.task));
+        pool = pool.ensures.pass;
+      };
+      new = subst AreNew is (both_new one.result.0 two.result.0 one.result.1 two.result.1 one.ensures.task two.ensures.task);
+      sizes = subst (λ n. HaveSizeAt cells 0 1 n 64) ways (both_sizes one.result.0 two.result.0 one.result.1 two.result.1 one.ensures.size two.ensures.size);
+      pool_size = pool.ensures.size ∙ c.requires.pool.1;
+      few = omega arith;
+    }

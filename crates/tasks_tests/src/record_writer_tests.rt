@@ -1,0 +1,540 @@
+// Writers over cells and a small pool, with one thread.
+ghost use Rattle.std.specs.Prelude.{◌≡◌, ℕ, ◌<◌, ◌≤◌, [], ◌∷◌, ◌++◌, length, IfOk, OnOk};
+ghost use Rattle.std.specs.Option.{option_to_list};
+ghost use Rattle.turn_cell.specs.Passes.{IsPassOf, mine, number, opened_with};
+ghost use Rattle.flow_defs.specs.declared.job.Exchange.TheVariants.{Hash};
+ghost use Rattle.flow_defs.specs.Jobs.{IsJob, last_edge, tasks, exchange as exchange_on};
+ghost use Rattle.segment_pool.specs.Passes.{out};
+ghost use Rattle.segment_pool.specs.Pools as pools;
+ghost use Rattle.segment_pool.specs.Pools.{limits_of, size_of};
+ghost use Rattle.local_pool.specs.Helds.{pool_of};
+ghost use Rattle.record_writer.specs.Partitions.{IsPartitionOf};
+ghost use Rattle.record_writer.specs.Writers.{IsOpen, IsSame, IsNextBarrier};
+
+use flow_defs::{
+    AggKind, BarrierKind, Bytes, Cause, Exchange, Job, ListOf, RECORD_MAX, Stage, StageKind,
+};
+use local_pool::{HeldPool, LocalPool};
+use outside::{StopState, tell_stop};
+use record_writer::{Partition, PartitionPasses, RecordWriter, WriterStopped};
+use segment_pool::{Pool, PoolPass};
+use std::alloc::{AllocError, Global};
+use std::marker::Brand;
+use std::process::Abort;
+use std::sync::Wait;
+use std::test::Fail;
+use subpartition::laws::calls_add_entries;
+use subpartition::{Item, Subpartition};
+use turn_cell::{Pass, TurnCell};
+
+const LONG: &[u8] =
+    b"To be, or not to be, that is the question: whether 'tis nobler in the mind to suffer the slings and ";
+
+const SHORT: &[u8] = b"arrows";
+
+const LAST: &[u8] =
+    b"of outrageous fortune, or to take arms against a sea of troubles and by opposing end them.";
+
+// A job of two sources, a stage of two tasks into which records come by this exchange, and two tasks of the
+// aggregate.
+fn job_of(alloc: Global, exchange: Exchange) -> Result<Job, AllocError>
+    ensures job { IfOk result (λ job. IsJob job × (last_edge job ≡ 1)) }
+    ensures edges { IfOk result (λ job. (exchange_on job 0 ≡ exchange) × (exchange_on job 1 ≡ Hash)) }
+    ensures tasks { IfOk result (λ job. (tasks job 0 ≡ 2) × (tasks job 1 ≡ 2) × (tasks job 2 ≡ 2)) }
+{
+    let mut sources = ListOf::new(alloc);
+    sources.push(Bytes::new(alloc))?;
+    sources.push(Bytes::new(alloc))?;
+    let mut stages = ListOf::new(alloc);
+    stages.push(Stage {
+        kind: StageKind::Upper,
+        arg: Bytes::new(alloc),
+        tasks: 2,
+        exchange,
+    })?;
+    Ok(Job {
+        sources,
+        stages,
+        agg: AggKind::Count,
+        agg_tasks: 2,
+        text: Bytes::new(alloc),
+    })
+}
+
+// Takes the last of these passes.
+fn deal<T: Drop>(passes: &mut ListOf<T>) -> T
+    requires { 0 < length passes.old.items }
+    ensures { passes.old.items ≡ passes.new.items ++ result ∷ [] }
+{
+    passes.pop().unwrap()
+}
+
+// A local pool of so many segments, in a cell with one pass.
+fn shared_pool<'p, R: Wait + Abort>(
+    rt: &R,
+    alloc: Global,
+    pool: &'p Pool,
+    place: PoolPass,
+    need: u32,
+) -> (TurnCell<HeldPool<'p>>, Pass<HeldPool<'p>>)
+    requires place { pools.IsPassOf pool.now place × (out place ≡ 0) }
+    requires limits { limits_of pool.now ≡ [] }
+    ensures pass { IsPassOf result.0 result.1 }
+    ensures size { size_of (pool_of (opened_with result.0)) ≡ size_of pool.now }
+{
+    let Ok(local) = LocalPool::new(rt, alloc, pool, place, need, need) else {
+        panic!(rt; "no local pool")
+    };
+    let Ok((cell, mut passes)) = TurnCell::new(alloc, HeldPool::new(pool, local), 1) else {
+        panic!(rt; "no cell")
+    };
+    let pass = deal(&mut passes);
+    (cell, pass)
+}
+
+// A subpartition in a cell, and the passes of the task and of the sender.
+fn shared_subpartition<R: Abort>(
+    rt: &R,
+    alloc: Global,
+) -> (
+    TurnCell<Subpartition>,
+    Pass<Subpartition>,
+    Pass<Subpartition>,
+)
+    ensures task { IsPassOf result.0 result.1 × (number result.1 ≡ 0) × (mine result.1 ≡ []) }
+    ensures sender { IsPassOf result.0 result.2 × (number result.2 ≡ 1) }
+    ensures size { (opened_with result.0).size ≡ 64 }
+{
+    calls_add_entries();
+    let Ok(queue) = Subpartition::new(alloc, 64, 8) else {
+        panic!(rt; "no subpartition")
+    };
+    let Ok((cell, mut passes)) = TurnCell::new(alloc, queue, 2) else {
+        panic!(rt; "no cell")
+    };
+    let sender = deal(&mut passes);
+    let task = deal(&mut passes);
+    (cell, task, sender)
+}
+
+// A stop cell, and two passes of it.
+fn shared_stop<R: Abort>(
+    rt: &R,
+    alloc: Global,
+) -> (TurnCell<StopState>, Pass<StopState>, Pass<StopState>)
+    ensures { IsPassOf result.0 result.1 × IsPassOf result.0 result.2 }
+{
+    let Ok((cell, mut passes)) = TurnCell::new(alloc, StopState::new(), 2) else {
+        panic!(rt; "no cell")
+    };
+    let other = deal(&mut passes);
+    let own = deal(&mut passes);
+    (cell, own, other)
+}
+
+// The passes of one channel or of two.
+fn list_of(
+    alloc: Global,
+    first: Pass<Subpartition>,
+    second: Option<Pass<Subpartition>>,
+) -> Result<ListOf<Pass<Subpartition>>, AllocError>
+    ensures { IfOk result (λ list. list.items ≡ first ∷ option_to_list second) }
+{
+    let mut list = ListOf::new(alloc);
+    list.push(first)?;
+    if let Some(second) = second {
+        list.push(second)?;
+    }
+    Ok(list)
+}
+
+// Takes these buffers out of a subpartition.
+fn take_buffers<R: Wait + Abort>(
+    rt: &R,
+    cell: &TurnCell<Subpartition>,
+    sender: &mut Pass<Subpartition>,
+    buffers: &[&[u8]],
+)
+    requires { IsPassOf cell.now sender.old × (number sender.old ≡ 1) }
+    ensures { IsPassOf cell.now sender.new × (number sender.new ≡ 1) }
+{
+    for bytes in buffers {
+        match take(rt, cell, sender) {
+            Some(Item::Buffer(filled)) => assert_eq!(rt; filled.bytes(), *bytes),
+            _ => panic!(rt; "no buffer"),
+        }
+    }
+}
+
+// Takes what stands in a subpartition: the buffers of each stretch, an inline barrier between two of them, and
+// then the end, if it was put.
+fn takes<R: Wait + Abort>(
+    rt: &R,
+    cell: &TurnCell<Subpartition>,
+    sender: Pass<Subpartition>,
+    stretches: &[&[&[u8]]],
+    ended: bool,
+)
+    requires { IsPassOf cell.now sender × (number sender ≡ 1) }
+{
+    assert!(rt; !stretches.is_empty());
+    let mut sender = sender;
+    take_buffers(rt, cell, &mut sender, stretches[0]);
+    for number in 1..stretches.len() {
+        match take(rt, cell, &mut sender) {
+            Some(
+                Item::Barrier {
+                    k,
+                    kind: BarrierKind::Inline,
+                },
+            ) => assert_eq!(rt; k, number as u64),
+            _ => panic!(rt; "no barrier"),
+        }
+        take_buffers(rt, cell, &mut sender, stretches[number]);
+    }
+    if ended {
+        assert!(rt; matches!(take(rt, cell, &mut sender), Some(Item::End)));
+    }
+    assert!(rt; take(rt, cell, &mut sender).is_none());
+}
+
+// Takes the first item in a turn of the sender.
+fn take<R: Wait>(
+    rt: &R,
+    cell: &TurnCell<Subpartition>,
+    sender: &mut Pass<Subpartition>,
+) -> Option<Item>
+    requires { IsPassOf cell.now sender.old × (number sender.old ≡ 1) }
+    ensures { IsPassOf cell.now sender.new × (number sender.new ≡ 1) }
+{
+    let mut turn = cell.enter(rt, sender);
+    calls_add_entries();
+    let item = turn.state().take();
+    turn.leave::<Brand>();
+    item
+}
+
+// How many segments a pool has lent.
+fn lent<'p, R: Wait>(rt: &R, cell: &TurnCell<HeldPool<'p>>, pass: Pass<HeldPool<'p>>) -> u32
+    requires { IsPassOf cell.now pass }
+{
+    let (held, turn) = cell.enter_owned(rt, pass);
+    let lent = held.lent();
+    turn.leave_as_is(held);
+    lent
+}
+
+// What a writer is made of.
+#[derive(Drop)]
+struct Task<'a, 'p> {
+    job: &'a Job,
+    edge: u32,
+    index: u32,
+    partition: Partition<'a, 'p>,
+    stop: &'a TurnCell<StopState>,
+    stop_pass: Pass<StopState>,
+}
+
+// Emits these records.
+fn emit_all<'a, 'p, R: Wait + Abort>(
+    rt: &R,
+    writer: &mut RecordWriter<'a, 'p>,
+    records: &[&[u8]],
+) -> Result<(), WriterStopped>
+    requires { IsOpen writer.old }
+    ensures same { IsSame writer.old writer.new }
+    ensures is_open { OnOk result (IsOpen writer.new) }
+    ensures next { (k : ℕ) → IsNextBarrier writer.old k → IsNextBarrier writer.new k }
+{
+    for line in records {
+        assert!(rt; line.len() <= RECORD_MAX);
+        match writer.emit(rt, line) {
+            Ok(()) => {}
+            Err(stopped) => return Err(stopped),
+        }
+    }
+    Ok(())
+}
+
+// Emits the records of each stretch, puts a barrier between two of them, and finishes where it is asked to.
+fn write<'a, 'p, R: Wait + Abort>(
+    rt: &R,
+    writer: &mut RecordWriter<'a, 'p>,
+    stretches: &[&[&[u8]]],
+    finish: bool,
+) -> Result<(), WriterStopped>
+    requires is_open { IsOpen writer.old }
+    requires next { IsNextBarrier writer.old 1 }
+    ensures { IsSame writer.old writer.new }
+{
+    assert!(rt; !stretches.is_empty());
+    emit_all(rt, writer, stretches[0])?;
+    for number in 1..stretches.len() {
+        writer.mark(rt, number as u64)?;
+        emit_all(rt, writer, stretches[number])?;
+    }
+    if finish {
+        return writer.finish(rt);
+    }
+    Ok(())
+}
+
+// Makes a writer, writes these stretches, finishes where it is asked to, and ends the writer. Answers whether
+// it was stopped, how many records it emitted, and the pass of its pool.
+fn run<'a, 'p, R: Wait + Abort>(
+    rt: &R,
+    alloc: Global,
+    task: Task<'a, 'p>,
+    stretches: &[&[&[u8]]],
+    finish: bool,
+) -> (Result<(), WriterStopped>, u64, Pass<HeldPool<'p>>)
+    requires partition { IsPartitionOf task.job.now task.edge task.index task.partition }
+    requires stop { IsPassOf task.stop.now task.stop_pass }
+    ensures { IsPassOf task.entry.partition.pool.now result.2 }
+{
+    let Task {
+        job,
+        edge,
+        index,
+        partition,
+        stop,
+        stop_pass,
+    } = task;
+    let Ok(mut writer) = RecordWriter::new(alloc, job, edge, index, partition, stop, stop_pass)
+    else {
+        panic!(rt; "no memory")
+    };
+    let written = write(rt, &mut writer, stretches, finish);
+    let emitted = writer.emitted();
+    let (passes, _stop_pass) = writer.into_passes(rt);
+    let PartitionPasses {
+        subpartitions: _,
+        pool,
+    } = passes;
+    (written, emitted, pool)
+}
+
+// How many records there are in these stretches.
+fn records_in(stretches: &[&[&[u8]]]) -> u64 {
+    let mut count: u64 = 0;
+    for records in stretches {
+        count = count.wrapping_add(records.len() as u64);
+    }
+    count
+}
+
+// A task of index 0 whose channels are two writes the records of these stretches, each buffer of 64 bytes,
+// over an edge of the job. They are then what stands in its two subpartitions. Answers how many segments are
+// lent.
+fn write_over_two<R: Wait + Abort>(
+    rt: &R,
+    alloc: Global,
+    pool: &Pool,
+    place: PoolPass,
+    edge: u32,
+    stretches: &[&[&[u8]]],
+    finish: bool,
+    first: &[&[&[u8]]],
+    second: &[&[&[u8]]],
+) -> Result<u32, Fail>
+    requires place { pools.IsPassOf pool.now place × (out place ≡ 0) }
+    requires pool { (limits_of pool.now ≡ []) × (size_of pool.now ≡ 64) }
+    requires edge { edge ≤ 1 }
+{
+    let job = job_of(alloc, Exchange::Rebalance)?;
+    let (pool_cell, lender) = shared_pool(rt, alloc, pool, place, 6);
+    let (one, one_task, one_sender) = shared_subpartition(rt, alloc);
+    let (two, two_task, two_sender) = shared_subpartition(rt, alloc);
+    let (stop, stop_pass, _other) = shared_stop(rt, alloc);
+    let subpartitions = list_of(alloc, one_task, Some(two_task))?;
+    let cells = [one, two];
+    let partition = Partition {
+        subpartitions: &cells,
+        first: 0,
+        stride: 1,
+        pool: &pool_cell,
+        size: 64,
+        passes: PartitionPasses {
+            subpartitions,
+            pool: lender,
+        },
+    };
+    let task = Task {
+        job: &job,
+        edge,
+        index: 0,
+        partition,
+        stop: &stop,
+        stop_pass,
+    };
+    let (written, emitted, lender) = run(rt, alloc, task, stretches, finish);
+    assert!(rt; written.is_ok());
+    assert_eq!(rt; emitted, records_in(stretches));
+    takes(rt, &cells[0], one_sender, first, finish);
+    takes(rt, &cells[1], two_sender, second, finish);
+    Ok(lent(rt, &pool_cell, lender))
+}
+
+// A task of index 1 whose channel is one writes this record over an edge to the task of the same index. It is
+// then what stands in the second subpartition. A pool of no segments lets it wait until it is stopped.
+fn write_over_one<R: Wait + Abort>(
+    rt: &R,
+    alloc: Global,
+    pool: &Pool,
+    place: PoolPass,
+    segments: u32,
+    stretches: &[&[&[u8]]],
+) -> Result<Result<(), WriterStopped>, Fail>
+    requires place { pools.IsPassOf pool.now place × (out place ≡ 0) }
+    requires pool { (limits_of pool.now ≡ []) × (size_of pool.now ≡ 64) }
+{
+    let job = job_of(alloc, Exchange::Forward)?;
+    let (pool_cell, lender) = shared_pool(rt, alloc, pool, place, segments);
+    let (one, _one_task, _one_sender) = shared_subpartition(rt, alloc);
+    let (two, two_task, two_sender) = shared_subpartition(rt, alloc);
+    let (stop, stop_pass, mut other) = shared_stop(rt, alloc);
+    tell_stop(rt, &stop, &mut other, Cause::Memory);
+    let subpartitions = list_of(alloc, two_task, None)?;
+    let cells = [one, two];
+    let partition = Partition {
+        subpartitions: &cells,
+        first: 1,
+        stride: 2,
+        pool: &pool_cell,
+        size: 64,
+        passes: PartitionPasses {
+            subpartitions,
+            pool: lender,
+        },
+    };
+    let task = Task {
+        job: &job,
+        edge: 0,
+        index: 1,
+        partition,
+        stop: &stop,
+        stop_pass,
+    };
+    let (written, _emitted, _lender) = run(rt, alloc, task, &[&[SHORT]], true);
+    takes(rt, &cells[1], two_sender, stretches, written.is_ok());
+    Ok(written)
+}
+
+// A pool of eight segments of 64 bytes, and a pass of it with nothing out.
+fn pool_of_eight<R: Abort>(rt: &R, alloc: Global) -> (Pool, PoolPass)
+    ensures place { pools.IsPassOf result.0 result.1 × (out result.1 ≡ 0) }
+    ensures pool { (limits_of result.0 ≡ []) × (size_of result.0 ≡ 64) }
+{
+    let Ok((pool, mut places)) = Pool::new(alloc, 8, 64, 1) else {
+        panic!(rt; "no memory")
+    };
+    let place = deal(&mut places);
+    (pool, place)
+}
+
+#[test]
+fn records_go_over_two_channels_in_turn(rt: HostRuntime) -> Result<(), Fail> {
+    let (pool, place) = pool_of_eight(&rt, rt.alloc());
+    let first: [&[u8]; 4] = [
+        b"\0\0\0\x64To be, or not to be, that is the question: whether 'tis nobl",
+        b"er in the mind to suffer the slings and \0\0\0\x5aof outrageous fortun",
+        b"e, or to take arms against a sea of troubles and by opposing end",
+        b" them.",
+    ];
+    let second: [&[u8]; 1] = [b"\0\0\0\x06arrows"];
+    let lent = write_over_two(
+        &rt,
+        rt.alloc(),
+        &pool,
+        place,
+        0,
+        &[&[LONG, SHORT, LAST]],
+        true,
+        &[&first],
+        &[&second],
+    )?;
+    assert_eq!(rt; lent, 5);
+    Ok(())
+}
+
+#[test]
+fn records_go_to_the_aggregate_by_the_hash_of_their_key(rt: HostRuntime) -> Result<(), Fail> {
+    let (pool, place) = pool_of_eight(&rt, rt.alloc());
+    // FNV-1a of "cherry" and of "a" is even, that of "pear" odd.
+    let lent = write_over_two(
+        &rt,
+        rt.alloc(),
+        &pool,
+        place,
+        1,
+        &[&[b"cherry", b"pear", b"a", b"pear"]],
+        true,
+        &[&[b"\0\0\0\x06cherry\0\0\0\x01a"]],
+        &[&[b"\0\0\0\x04pear\0\0\0\x04pear"]],
+    )?;
+    assert_eq!(rt; lent, 2);
+    Ok(())
+}
+
+#[test]
+fn segments_that_are_being_filled_go_back(rt: HostRuntime) -> Result<(), Fail> {
+    let (pool, place) = pool_of_eight(&rt, rt.alloc());
+    let first: [&[u8]; 1] = [
+        b"\0\0\0\x64To be, or not to be, that is the question: whether 'tis nobl",
+    ];
+    let lent = write_over_two(
+        &rt,
+        rt.alloc(),
+        &pool,
+        place,
+        0,
+        &[&[LONG, SHORT]],
+        false,
+        &[&first],
+        &[&[]],
+    )?;
+    assert_eq!(rt; lent, 1);
+    Ok(())
+}
+
+#[test]
+fn a_barrier_goes_behind_what_was_emitted_before(rt: HostRuntime) -> Result<(), Fail> {
+    let (pool, place) = pool_of_eight(&rt, rt.alloc());
+    let one: [&[u8]; 2] = [
+        b"\0\0\0\x64To be, or not to be, that is the question: whether 'tis nobl",
+        b"er in the mind to suffer the slings and ",
+    ];
+    let two: [&[u8]; 2] = [
+        b"\0\0\0\x5aof outrageous fortune, or to take arms against a sea of trou",
+        b"bles and by opposing end them.",
+    ];
+    let lent = write_over_two(
+        &rt,
+        rt.alloc(),
+        &pool,
+        place,
+        0,
+        &[&[LONG, SHORT], &[LAST], &[]],
+        true,
+        &[&one, &two, &[]],
+        &[&[b"\0\0\0\x06arrows"], &[], &[]],
+    )?;
+    assert_eq!(rt; lent, 5);
+    Ok(())
+}
+
+#[test]
+fn forward_has_one_channel(rt: HostRuntime) -> Result<(), Fail> {
+    let (pool, place) = pool_of_eight(&rt, rt.alloc());
+    let written = write_over_one(&rt, rt.alloc(), &pool, place, 2, &[&[b"\0\0\0\x06arrows"]])?;
+    assert_eq!(rt; written, Ok(()));
+    Ok(())
+}
+
+#[test]
+fn a_writer_that_waits_is_stopped(rt: HostRuntime) -> Result<(), Fail> {
+    let (pool, place) = pool_of_eight(&rt, rt.alloc());
+    let written = write_over_one(&rt, rt.alloc(), &pool, place, 0, &[&[]])?;
+    assert_eq!(rt; written, Err(WriterStopped));
+    Ok(())
+}

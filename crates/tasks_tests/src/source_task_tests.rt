@@ -1,0 +1,363 @@
+// A source of a job with one source and one task that counts, over a partition of one channel and a small
+// pool, with one thread.
+ghost use Rattle.std.specs.Prelude.{◌≡◌, ◌<◌, ◌≤◌, [], ◌∷◌, ◌++◌, length, IfOk, IfSome};
+ghost use Rattle.turn_cell.specs.Passes.{IsPassOf, mine, number, opened_with};
+ghost use Rattle.flow_defs.specs.declared.job.Exchange.TheVariants.{Hash};
+ghost use Rattle.flow_defs.specs.Jobs.{IsJob, tasks, exchange};
+ghost use Rattle.checkpoint_laws.specs.Chapters.{task_at};
+ghost use Rattle.segment_pool.specs.Passes.{out};
+ghost use Rattle.segment_pool.specs.Pools as pools;
+ghost use Rattle.segment_pool.specs.Pools.{limits_of, size_of};
+ghost use Rattle.local_pool.specs.Helds.{pool_of};
+ghost use Rattle.snapshot_channel.specs.Passes.{IsCollecting, IsFresh, opening_of, task_of};
+ghost use Rattle.source_task.specs.Sources.{IsLent};
+
+use flow_defs::{AggKind, BarrierKind, Bytes, Cause, Job, ListOf, TaskId};
+use local_pool::{HeldPool, LocalPool};
+use outside::{LastImage, MemorySource, StopState, Stored, tell_stored};
+use record_writer::{Partition, PartitionPasses};
+use segment_pool::{Pool, PoolPass};
+use snapshot_channel::{CollectingPass, Opened, SnapshotChannel, TaskPass};
+use source_task::{SourceWorld, run_source};
+use std::alloc::{AllocError, Global};
+use std::marker::Brand;
+use std::process::Abort;
+use std::sync::Wait;
+use std::test::Fail;
+use subpartition::laws::calls_add_entries;
+use subpartition::{Item, Subpartition};
+use turn_cell::{Pass, TurnCell};
+
+fn counting_job(alloc: Global) -> Result<Job, AllocError>
+    ensures job { IfOk result (λ job. IsJob job × (job.stages.items ≡ []) × (length job.sources.items ≡ 1) × (job.agg_tasks ≡ 1)) }
+    ensures ways { IfOk result (λ job. (exchange job 0 ≡ Hash) × (tasks job 0 ≡ 1) × (tasks job 1 ≡ 1)) }
+{
+    let mut sources = ListOf::new(alloc);
+    sources.push(Bytes::new(alloc))?;
+    Ok(Job {
+        sources,
+        stages: ListOf::new(alloc),
+        agg: AggKind::Count,
+        agg_tasks: 1,
+        text: Bytes::new(alloc),
+    })
+}
+
+// Takes the last of these passes.
+fn deal<T: Drop>(passes: &mut ListOf<T>) -> T
+    requires { 0 < length passes.old.items }
+    ensures { passes.old.items ≡ passes.new.items ++ result ∷ [] }
+{
+    passes.pop().unwrap()
+}
+
+// A pool of four segments of 64 bytes, and a pass of it with nothing out.
+fn pool_of_four<R: Abort>(rt: &R, alloc: Global) -> (Pool, PoolPass)
+    ensures place { pools.IsPassOf result.0 result.1 × (out result.1 ≡ 0) }
+    ensures pool { (limits_of result.0 ≡ []) × (size_of result.0 ≡ 64) }
+{
+    let Ok((pool, mut places)) = Pool::new(alloc, 4, 64, 1) else {
+        panic!(rt; "no memory")
+    };
+    let place = deal(&mut places);
+    (pool, place)
+}
+
+// A local pool of these segments, in a cell with one pass.
+fn shared_pool<'p, R: Wait + Abort>(
+    rt: &R,
+    alloc: Global,
+    pool: &'p Pool,
+    place: PoolPass,
+) -> (TurnCell<HeldPool<'p>>, Pass<HeldPool<'p>>)
+    requires place { pools.IsPassOf pool.now place × (out place ≡ 0) }
+    requires limits { limits_of pool.now ≡ [] }
+    ensures pass { IsPassOf result.0 result.1 }
+    ensures size { size_of (pool_of (opened_with result.0)) ≡ size_of pool.now }
+{
+    let Ok(local) = LocalPool::new(rt, alloc, pool, place, 4, 4) else {
+        panic!(rt; "no local pool")
+    };
+    let Ok((cell, mut passes)) = TurnCell::new(alloc, HeldPool::new(pool, local), 1) else {
+        panic!(rt; "no cell")
+    };
+    let pass = deal(&mut passes);
+    (cell, pass)
+}
+
+// A subpartition in a cell, and the passes of the task and of the sender.
+fn shared_subpartition<R: Abort>(
+    rt: &R,
+    alloc: Global,
+) -> (
+    TurnCell<Subpartition>,
+    Pass<Subpartition>,
+    Pass<Subpartition>,
+)
+    ensures task { IsPassOf result.0 result.1 × (number result.1 ≡ 0) × (mine result.1 ≡ []) }
+    ensures sender { IsPassOf result.0 result.2 × (number result.2 ≡ 1) }
+    ensures size { (opened_with result.0).size ≡ 64 }
+{
+    calls_add_entries();
+    let Ok(queue) = Subpartition::new(alloc, 64, 8) else {
+        panic!(rt; "no subpartition")
+    };
+    let Ok((cell, mut passes)) = TurnCell::new(alloc, queue, 2) else {
+        panic!(rt; "no cell")
+    };
+    let sender = deal(&mut passes);
+    let task = deal(&mut passes);
+    (cell, task, sender)
+}
+
+// A stop cell with one pass.
+fn shared_stop<R: Abort>(rt: &R, alloc: Global) -> (TurnCell<StopState>, Pass<StopState>)
+    ensures { IsPassOf result.0 result.1 × (mine result.1 ≡ []) }
+{
+    let Ok((cell, mut passes)) = TurnCell::new(alloc, StopState::new(), 1) else {
+        panic!(rt; "no cell")
+    };
+    let pass = deal(&mut passes);
+    (cell, pass)
+}
+
+// The cell of the last image, which is this one, if there is one, and the pass of a source.
+fn shared_last<R: Wait + Abort>(
+    rt: &R,
+    alloc: Global,
+    stored: Option<Stored>,
+) -> (TurnCell<LastImage>, Pass<LastImage>)
+    ensures { IsPassOf result.0 result.1 }
+{
+    let Ok((cell, mut passes)) = TurnCell::new(alloc, LastImage::new(), 2) else {
+        panic!(rt; "no cell")
+    };
+    let reading = deal(&mut passes);
+    let mut collecting = deal(&mut passes);
+    if let Some(stored) = stored {
+        tell_stored(rt, &cell, &mut collecting, stored);
+    }
+    (cell, reading)
+}
+
+// The pass of one channel.
+fn list_of(
+    alloc: Global,
+    pass: Pass<Subpartition>,
+) -> Result<ListOf<Pass<Subpartition>>, AllocError>
+    ensures { IfOk result (λ list. list.items ≡ pass ∷ []) }
+{
+    let mut list = ListOf::new(alloc);
+    list.push(pass)?;
+    Ok(list)
+}
+
+// A channel of snapshots, and the passes of the collecting worker and the source.
+#[derive(Drop)]
+struct Ends {
+    channel: SnapshotChannel,
+    collecting: CollectingPass,
+    of_source: TaskPass,
+}
+
+fn open_ends(alloc: Global, job: &Job, every: Option<u64>) -> Result<Ends, Fail>
+    requires is_job { IsJob job.now }
+    requires counting { (job.now.stages.items ≡ []) × (length job.now.sources.items ≡ 1) × (job.now.agg_tasks ≡ 1) }
+    ensures opening { IfOk result (λ ends. ((opening_of ends.channel).base ≡ 0) × ((opening_of ends.channel).every ≡ every)) }
+    ensures collecting { IfOk result (λ ends. IsCollecting ends.channel ends.collecting) }
+    ensures source { IfOk result (λ ends. IsFresh ends.channel ends.of_source × (task_of ends.of_source ≡ task_at 0 0)) }
+{
+    let Opened {
+        channel,
+        collecting,
+        mut passes,
+    } = SnapshotChannel::open(alloc, job, 0, every)?;
+    let Some(_of_count) = passes.pop() else {
+        return Err("there is no pass".into());
+    };
+    let Some(of_source) = passes.pop() else {
+        return Err("there is one pass".into());
+    };
+    Ok(Ends {
+        channel,
+        collecting,
+        of_source,
+    })
+}
+
+// Takes the first item in a turn of the sender.
+fn take<R: Wait>(
+    rt: &R,
+    cell: &TurnCell<Subpartition>,
+    sender: &mut Pass<Subpartition>,
+) -> Option<Item>
+    requires { IsPassOf cell.now sender.old × (number sender.old ≡ 1) }
+    ensures { IsPassOf cell.now sender.new × (number sender.new ≡ 1) }
+{
+    let mut turn = cell.enter(rt, sender);
+    calls_add_entries();
+    let item = turn.state().take();
+    turn.leave::<Brand>();
+    item
+}
+
+// What a source reads, and what it is to send: a buffer of these bytes, so many barriers, and the end.
+#[derive(Clone, Copy)]
+struct Case<'a> {
+    input: &'a [u8],
+    every: Option<u64>,
+    stored: Option<Stored>,
+    buffer: &'a [u8],
+    barriers: u64,
+}
+
+// What stands in a subpartition is one buffer of these bytes, the barriers up to this number, and the end.
+fn has_sent<R: Wait + Abort>(
+    rt: &R,
+    cell: &TurnCell<Subpartition>,
+    sender: Pass<Subpartition>,
+    bytes: &[u8],
+    barriers: u64,
+)
+    requires { IsPassOf cell.now sender × (number sender ≡ 1) }
+{
+    let mut sender = sender;
+    match take(rt, cell, &mut sender) {
+        Some(Item::Buffer(filled)) => assert_eq!(rt; filled.bytes(), bytes),
+        _ => panic!(rt; "no buffer"),
+    }
+    'barriers: for number in 1..=barriers {
+        match take(rt, cell, &mut sender) {
+            Some(Item::Barrier { k, kind }) => {
+                assert_eq!(rt; (k, kind), (number, BarrierKind::Inline));
+            }
+            _ => panic!(rt; "no barrier"),
+        }
+    }
+    assert!(rt; matches!(take(rt, cell, &mut sender), Some(Item::End)));
+    assert!(rt; take(rt, cell, &mut sender).is_none());
+}
+
+// The snapshots on the channel are those up to this number, each at the source's end, behind so many lines.
+fn has_told<R: Wait + Abort>(
+    rt: &R,
+    channel: &SnapshotChannel,
+    collecting: CollectingPass,
+    barriers: u64,
+    lines: u64,
+)
+    requires { IsCollecting channel.now collecting }
+{
+    let mut collecting = collecting;
+    'snapshots: for number in 1..=barriers {
+        let Some(got) = channel.receive(rt, &mut collecting) else {
+            panic!(rt; "no snapshot")
+        };
+        assert_eq!(rt; got.task, TaskId { stage: 0, index: 0 });
+        assert_eq!(rt;
+            (got.number, got.offset, got.ended, got.emitted),
+            (number, lines, true, lines)
+        );
+    }
+    assert!(rt; channel.receive(rt, &mut collecting).is_none());
+}
+
+// Runs a source, and answers why it ended.
+fn source<'a, 'p, R: Wait>(
+    rt: &R,
+    alloc: Global,
+    input: MemorySource,
+    every: Option<u64>,
+    world: SourceWorld<'a, 'p>,
+) -> Cause
+    requires { IsLent 0 every world }
+{
+    let mut input = input;
+    run_source(rt, alloc, &mut input, 0, every, world).cause
+}
+
+// Runs a source, sees what it has sent, and answers why it ended.
+fn source_sends<R: Wait + Abort>(
+    rt: &R,
+    alloc: Global,
+    pool: &Pool,
+    place: PoolPass,
+    case: Case<'_>,
+    lines: u64,
+) -> Result<Cause, Fail>
+    requires place { pools.IsPassOf pool.now place × (out place ≡ 0) }
+    requires pool { (limits_of pool.now ≡ []) × (size_of pool.now ≡ 64) }
+    requires interval { IfSome case.every (λ n. 1 ≤ n) }
+{
+    let job = counting_job(alloc)?;
+    let Ends {
+        channel,
+        collecting,
+        of_source,
+    } = open_ends(alloc, &job, case.every)?;
+    let (pool_cell, lender) = shared_pool(rt, alloc, pool, place);
+    let (cell, task, sender) = shared_subpartition(rt, alloc);
+    let (stop, stop_pass) = shared_stop(rt, alloc);
+    let (last_image, last_pass) = shared_last(rt, alloc, case.stored);
+    let subpartitions = list_of(alloc, task)?;
+    let cells = [cell];
+    let partition = Partition {
+        subpartitions: &cells,
+        first: 0,
+        stride: 1,
+        pool: &pool_cell,
+        size: 64,
+        passes: PartitionPasses {
+            subpartitions,
+            pool: lender,
+        },
+    };
+    let input = MemorySource::new(Bytes::of(alloc, case.input)?, 3, ListOf::new(alloc));
+    let world = SourceWorld {
+        job: &job,
+        partition,
+        snapshots: &channel,
+        snapshot_pass: of_source,
+        last_image: &last_image,
+        last_pass,
+        stop: &stop,
+        stop_pass,
+    };
+    let cause = source(rt, alloc, input, case.every, world);
+    has_sent(rt, &cells[0], sender, case.buffer, case.barriers);
+    has_told(rt, &channel, collecting, case.barriers, lines);
+    Ok(cause)
+}
+
+#[test]
+fn a_source_without_an_interval_sends_one_snapshot(rt: HostRuntime) -> Result<(), Fail> {
+    let (pool, place) = pool_of_four(&rt, rt.alloc());
+    let case = Case {
+        input: b"a\nb\na\n",
+        every: None,
+        stored: None,
+        buffer: b"\0\0\0\x01a\0\0\0\x01b\0\0\0\x01a",
+        barriers: 1,
+    };
+    let cause = source_sends(&rt, rt.alloc(), &pool, place, case, 3)?;
+    assert_eq!(rt; cause, Cause::Done);
+    Ok(())
+}
+
+#[test]
+fn a_source_with_an_interval_waits_for_each_image(rt: HostRuntime) -> Result<(), Fail> {
+    let (pool, place) = pool_of_four(&rt, rt.alloc());
+    let case = Case {
+        input: b"a\n",
+        every: Some(2),
+        stored: Some(Stored {
+            number: 1,
+            all_ended: true,
+        }),
+        buffer: b"\0\0\0\x01a",
+        barriers: 2,
+    };
+    let cause = source_sends(&rt, rt.alloc(), &pool, place, case, 1)?;
+    assert_eq!(rt; cause, Cause::Done);
+    Ok(())
+}

@@ -1,0 +1,510 @@
+// The task of a stage behind two sources, over a partition of one channel and a small pool, with one thread.
+ghost use Rattle.std.specs.Prelude.{◌≡◌, ◌<◌, ◌≤◌, [], ◌∷◌, ◌++◌, false, length, IfOk, IfSome};
+ghost use Rattle.turn_cell.specs.Passes.{IsPassOf, mine, number, opened_with};
+ghost use Rattle.flow_defs.specs.declared.job.AggKind.TheVariants.{Count};
+ghost use Rattle.flow_defs.specs.declared.job.Exchange.TheVariants.{Hash};
+ghost use Rattle.flow_defs.specs.declared.job.StageKind.TheVariants.{Upper};
+ghost use Rattle.flow_defs.specs.Jobs.{IsJob, last_edge, tasks, exchange};
+ghost use Rattle.stage_fns.specs.Functions.{Functions, HasStage, HasAgg};
+ghost use Rattle.stage_fns.specs.Kinds.{kinds};
+ghost use Rattle.job_plan.specs.Plans.{CanRun};
+ghost use Rattle.checkpoint_laws.specs.Chapters.{task_at};
+ghost use Rattle.segment_pool.specs.Passes.{out};
+ghost use Rattle.segment_pool.specs.Pools as pools;
+ghost use Rattle.segment_pool.specs.Pools.{limits_of, size_of};
+ghost use Rattle.local_pool.specs.Helds.{pool_of};
+ghost use Rattle.snapshot_channel.specs.Passes.{IsCollecting, IsFresh, opening, opening_of, task_of};
+ghost use Rattle.task_taking.specs.Samples.{account_of};
+ghost use Rattle.stage_task.specs.Stages.{IsStageTask, IsLent};
+
+use crate::stage_task_list_gate::{ListGate, Piece, gate_of};
+use flow_defs::{
+    AggKind, BarrierKind, Bytes, Cause, Exchange, Job, ListOf, PeerFault, Stage, StageKind,
+    TakeRun, TaskId,
+};
+use local_pool::{HeldPool, LocalPool};
+use outside::{LastImage, StopState, Stored, tell_stop, tell_stored};
+use record_writer::{Partition, PartitionPasses};
+use segment_pool::{Pool, PoolPass};
+use snapshot_channel::{CollectingPass, Opened, SnapshotChannel, TaskPass};
+use stage_fns::{AggFn, FnTable, StageFn, count, upper};
+use stage_task::{StageTaskEnd, StageWorld, run_stage};
+use std::alloc::{AllocError, Global};
+use std::marker::Brand;
+use std::process::Abort;
+use std::sync::Wait;
+use std::test::Fail;
+use subpartition::laws::calls_add_entries;
+use subpartition::{Item, Subpartition};
+use turn_cell::{Pass, TurnCell};
+
+// A job of two sources, a stage of one task that raises letters, and one task of the aggregate.
+fn raising_job(alloc: Global) -> Result<Job, AllocError>
+    ensures job { IfOk result (λ job. IsJob job × (last_edge job ≡ 1)) }
+    ensures edges { IfOk result (λ job. (exchange job 0 ≡ Hash) × (exchange job 1 ≡ Hash)) }
+    ensures tasks { IfOk result (λ job. (tasks job 0 ≡ 2) × (tasks job 1 ≡ 1) × (tasks job 2 ≡ 1)) }
+    ensures ready { IfOk result (λ job. (functions : Functions) → HasStage functions Upper → HasAgg functions Count → CanRun functions job) }
+{
+    let mut sources = ListOf::new(alloc);
+    sources.push(Bytes::new(alloc))?;
+    sources.push(Bytes::new(alloc))?;
+    let mut stages = ListOf::new(alloc);
+    stages.push(Stage {
+        kind: StageKind::Upper,
+        arg: Bytes::new(alloc),
+        tasks: 1,
+        exchange: Exchange::Hash,
+    })?;
+    Ok(Job {
+        sources,
+        stages,
+        agg: AggKind::Count,
+        agg_tasks: 1,
+        text: Bytes::new(alloc),
+    })
+}
+
+// Takes the last of these passes.
+fn deal<T: Drop>(passes: &mut ListOf<T>) -> T
+    requires { 0 < length passes.old.items }
+    ensures { passes.old.items ≡ passes.new.items ++ result ∷ [] }
+{
+    passes.pop().unwrap()
+}
+
+// A pool of four segments of 64 bytes, and a pass of it with nothing out.
+fn pool_of_four<R: Abort>(rt: &R, alloc: Global) -> (Pool, PoolPass)
+    ensures place { pools.IsPassOf result.0 result.1 × (out result.1 ≡ 0) }
+    ensures pool { (limits_of result.0 ≡ []) × (size_of result.0 ≡ 64) }
+{
+    let Ok((pool, mut places)) = Pool::new(alloc, 4, 64, 1) else {
+        panic!(rt; "no memory")
+    };
+    let place = deal(&mut places);
+    (pool, place)
+}
+
+// A local pool of these segments, in a cell with one pass.
+fn shared_pool<'p, R: Wait + Abort>(
+    rt: &R,
+    alloc: Global,
+    pool: &'p Pool,
+    place: PoolPass,
+) -> (TurnCell<HeldPool<'p>>, Pass<HeldPool<'p>>)
+    requires place { pools.IsPassOf pool.now place × (out place ≡ 0) }
+    requires limits { limits_of pool.now ≡ [] }
+    ensures pass { IsPassOf result.0 result.1 }
+    ensures size { size_of (pool_of (opened_with result.0)) ≡ size_of pool.now }
+{
+    let Ok(local) = LocalPool::new(rt, alloc, pool, place, 4, 4) else {
+        panic!(rt; "no local pool")
+    };
+    let Ok((cell, mut passes)) = TurnCell::new(alloc, HeldPool::new(pool, local), 1) else {
+        panic!(rt; "no cell")
+    };
+    let pass = deal(&mut passes);
+    (cell, pass)
+}
+
+// A subpartition in a cell, and the passes of the task and of the sender.
+fn shared_subpartition<R: Abort>(
+    rt: &R,
+    alloc: Global,
+) -> (
+    TurnCell<Subpartition>,
+    Pass<Subpartition>,
+    Pass<Subpartition>,
+)
+    ensures task { IsPassOf result.0 result.1 × (number result.1 ≡ 0) × (mine result.1 ≡ []) }
+    ensures sender { IsPassOf result.0 result.2 × (number result.2 ≡ 1) }
+    ensures size { (opened_with result.0).size ≡ 64 }
+{
+    calls_add_entries();
+    let Ok(queue) = Subpartition::new(alloc, 64, 8) else {
+        panic!(rt; "no subpartition")
+    };
+    let Ok((cell, mut passes)) = TurnCell::new(alloc, queue, 2) else {
+        panic!(rt; "no cell")
+    };
+    let sender = deal(&mut passes);
+    let task = deal(&mut passes);
+    (cell, task, sender)
+}
+
+// A stop cell, in which a fault was told or not, and the pass of a task.
+fn shared_stop<R: Wait + Abort>(
+    rt: &R,
+    alloc: Global,
+    stopped: bool,
+) -> (TurnCell<StopState>, Pass<StopState>)
+    ensures { IsPassOf result.0 result.1 × (mine result.1 ≡ []) }
+{
+    let Ok((cell, mut passes)) = TurnCell::new(alloc, StopState::new(), 2) else {
+        panic!(rt; "no cell")
+    };
+    let mut other = deal(&mut passes);
+    let own = deal(&mut passes);
+    if stopped {
+        tell_stop(rt, &cell, &mut other, Cause::Memory);
+    }
+    (cell, own)
+}
+
+// The cell of the last image, which is this one, if there is one, and the pass of a task.
+fn shared_last<R: Wait + Abort>(
+    rt: &R,
+    alloc: Global,
+    stored: Option<Stored>,
+) -> (TurnCell<LastImage>, Pass<LastImage>)
+    ensures { IsPassOf result.0 result.1 }
+{
+    let Ok((cell, mut passes)) = TurnCell::new(alloc, LastImage::new(), 2) else {
+        panic!(rt; "no cell")
+    };
+    let reading = deal(&mut passes);
+    let mut collecting = deal(&mut passes);
+    if let Some(stored) = stored {
+        tell_stored(rt, &cell, &mut collecting, stored);
+    }
+    (cell, reading)
+}
+
+// The pass of one channel.
+fn list_of(
+    alloc: Global,
+    pass: Pass<Subpartition>,
+) -> Result<ListOf<Pass<Subpartition>>, AllocError>
+    ensures { IfOk result (λ list. list.items ≡ pass ∷ []) }
+{
+    let mut list = ListOf::new(alloc);
+    list.push(pass)?;
+    Ok(list)
+}
+
+// A channel of snapshots, and the passes of the collecting worker and the stage's task.
+#[derive(Drop)]
+struct Ends {
+    channel: SnapshotChannel,
+    collecting: CollectingPass,
+    of_stage: TaskPass,
+}
+
+fn open_ends(alloc: Global, job: &Job, every: Option<u64>) -> Result<Ends, Fail>
+    requires is_job { IsJob job.now × (last_edge job.now ≡ 1) }
+    requires tasks { (tasks job.now 0 ≡ 2) × (tasks job.now 1 ≡ 1) × (tasks job.now 2 ≡ 1) }
+    ensures opening { IfOk result (λ ends. opening_of ends.channel ≡ opening job.now 0 every) }
+    ensures collecting { IfOk result (λ ends. IsCollecting ends.channel ends.collecting) }
+    ensures stage { IfOk result (λ ends. IsFresh ends.channel ends.of_stage × (task_of ends.of_stage ≡ task_at 1 0)) }
+{
+    let Opened {
+        channel,
+        collecting,
+        mut passes,
+    } = SnapshotChannel::open(alloc, job, 0, every)?;
+    let Some(_of_count) = passes.pop() else {
+        return Err("there is no pass".into());
+    };
+    let Some(of_stage) = passes.pop() else {
+        return Err("there is one pass".into());
+    };
+    Ok(Ends {
+        channel,
+        collecting,
+        of_stage,
+    })
+}
+
+// Takes the first item in a turn of the sender.
+fn take<R: Wait>(
+    rt: &R,
+    cell: &TurnCell<Subpartition>,
+    sender: &mut Pass<Subpartition>,
+) -> Option<Item>
+    requires { IsPassOf cell.now sender.old × (number sender.old ≡ 1) }
+    ensures { IsPassOf cell.now sender.new × (number sender.new ≡ 1) }
+{
+    let mut turn = cell.enter(rt, sender);
+    calls_add_entries();
+    let item = turn.state().take();
+    turn.leave::<Brand>();
+    item
+}
+
+// What a stage takes, and what it is to send: a buffer of these bytes, if there are some, so many barriers, and
+// the end or not.
+#[derive(Clone, Copy)]
+struct Case<'a> {
+    pieces: &'a [(u32, Piece)],
+    every: Option<u64>,
+    stored: Option<Stored>,
+    stopped: bool,
+    buffer: &'a [u8],
+    barriers: u64,
+    ended: bool,
+}
+
+// What stands in a subpartition is a buffer of these bytes, if there are some, the barriers up to this number,
+// and the end or not.
+fn has_sent<R: Wait + Abort>(
+    rt: &R,
+    cell: &TurnCell<Subpartition>,
+    sender: Pass<Subpartition>,
+    case: Case<'_>,
+)
+    requires { IsPassOf cell.now sender × (number sender ≡ 1) }
+{
+    let mut sender = sender;
+    if !case.buffer.is_empty() {
+        match take(rt, cell, &mut sender) {
+            Some(Item::Buffer(filled)) => assert_eq!(rt; filled.bytes(), case.buffer),
+            _ => panic!(rt; "no buffer"),
+        }
+    }
+    'barriers: for number in 1..=case.barriers {
+        match take(rt, cell, &mut sender) {
+            Some(Item::Barrier { k, kind }) => {
+                assert_eq!(rt; (k, kind), (number, BarrierKind::Inline));
+            }
+            _ => panic!(rt; "no barrier"),
+        }
+    }
+    if case.ended {
+        assert!(rt; matches!(take(rt, cell, &mut sender), Some(Item::End)));
+    }
+    assert!(rt; take(rt, cell, &mut sender).is_none());
+}
+
+// The snapshots on the channel are those up to this number, of a stage that took two records before the first
+// barrier and none behind it.
+fn has_told<R: Wait + Abort>(
+    rt: &R,
+    channel: &SnapshotChannel,
+    collecting: CollectingPass,
+    barriers: u64,
+)
+    requires { IsCollecting channel.now collecting }
+{
+    let mut collecting = collecting;
+    'snapshots: for number in 1..=barriers {
+        let Some(got) = channel.receive(rt, &mut collecting) else {
+            panic!(rt; "no snapshot")
+        };
+        let takes = [TakeRun { from: 0, count: 1 }, TakeRun { from: 1, count: 1 }];
+        assert_eq!(rt; got.task, TaskId { stage: 1, index: 0 });
+        assert_eq!(rt; (got.number, got.emitted, got.ended), (number, 2, false));
+        if number == 1 {
+            assert_eq!(rt; got.takes.as_slice(), takes.as_slice());
+        } else {
+            assert!(rt; got.takes.as_slice().is_empty());
+        }
+    }
+    assert!(rt; channel.receive(rt, &mut collecting).is_none());
+}
+
+// Runs the stage's task. Answers why it ended, and how many runs were left.
+fn stage<'a, 'p, R: Wait>(
+    rt: &R,
+    alloc: Global,
+    gate: ListGate,
+    every: Option<u64>,
+    world: StageWorld<'a, 'p>,
+) -> (Cause, usize)
+    requires task { IsStageTask world.job.now 0 0 (account_of gate.given.items gate.first gate.second gate.over) }
+    requires functions { CanRun (kinds world.functions.now) world.job.now }
+    requires lent { IsLent world.job.now 0 0 every world.partition world.snapshots.now world.snapshot_pass }
+    requires last_image { IsPassOf world.last_image.now world.last_pass }
+    requires stop { IsPassOf world.stop.now world.stop_pass × (mine world.stop_pass ≡ []) }
+{
+    let StageTaskEnd {
+        gate: _,
+        partition: _,
+        snapshot_pass: _,
+        last_pass: _,
+        stop_pass: _,
+        takes,
+        cause,
+    } = run_stage(rt, alloc, gate, 0, 0, every, world);
+    (cause, takes.as_slice().len())
+}
+
+// Runs the stage's task, sees what it has sent, and answers likewise.
+fn stage_sends<R: Wait + Abort>(
+    rt: &R,
+    alloc: Global,
+    pool: &Pool,
+    place: PoolPass,
+    case: Case<'_>,
+) -> Result<(Cause, usize), Fail>
+    requires place { pools.IsPassOf pool.now place × (out place ≡ 0) }
+    requires pool { (limits_of pool.now ≡ []) × (size_of pool.now ≡ 64) }
+    requires interval { IfSome case.every (λ n. 1 ≤ n) }
+{
+    let job = raising_job(alloc)?;
+    let mut functions = FnTable::new(alloc);
+    let f: StageFn = Box::new(
+        alloc,
+        |alloc: Global, arg: &[u8], record: &[u8], list: &mut ListOf<Bytes>| upper(
+            alloc, arg, record, list,
+        ),
+    )?;
+    functions.add_stage(StageKind::Upper, f)?;
+    let f: AggFn = Box::new(alloc, |record: &[u8], old: u64| count(record, old))?;
+    functions.add_agg(AggKind::Count, f)?;
+    let Ends {
+        channel,
+        collecting,
+        of_stage,
+    } = open_ends(alloc, &job, case.every)?;
+    let gate = gate_of(alloc, case.pieces)?;
+    let (pool_cell, lender) = shared_pool(rt, alloc, pool, place);
+    let (cell, task, sender) = shared_subpartition(rt, alloc);
+    let (stop, stop_pass) = shared_stop(rt, alloc, case.stopped);
+    let (last_image, last_pass) = shared_last(rt, alloc, case.stored);
+    let subpartitions = list_of(alloc, task)?;
+    let cells = [cell];
+    let partition = Partition {
+        subpartitions: &cells,
+        first: 0,
+        stride: 1,
+        pool: &pool_cell,
+        size: 64,
+        passes: PartitionPasses {
+            subpartitions,
+            pool: lender,
+        },
+    };
+    let world = StageWorld {
+        job: &job,
+        functions: &functions,
+        partition,
+        snapshots: &channel,
+        snapshot_pass: of_stage,
+        last_image: &last_image,
+        last_pass,
+        stop: &stop,
+        stop_pass,
+    };
+    let end = stage(rt, alloc, gate, case.every, world);
+    has_sent(rt, &cells[0], sender, case);
+    has_told(rt, &channel, collecting, case.barriers);
+    Ok(end)
+}
+
+// A stage that takes two records before the first barriers, and then the barriers up to this number.
+static RECORDS: [(u32, Piece); 4] = [
+    (0, Piece::Text("pear")),
+    (1, Piece::Text("fig")),
+    (0, Piece::Stop(1)),
+    (1, Piece::Stop(1)),
+];
+
+static TWO_BARRIERS: [(u32, Piece); 6] = [
+    (0, Piece::Text("pear")),
+    (1, Piece::Text("fig")),
+    (0, Piece::Stop(1)),
+    (1, Piece::Stop(1)),
+    (1, Piece::Stop(2)),
+    (0, Piece::Stop(2)),
+];
+
+static LINE_BEHIND: [(u32, Piece); 5] = [
+    (0, Piece::Text("pear")),
+    (1, Piece::Text("fig")),
+    (0, Piece::Stop(1)),
+    (1, Piece::Stop(1)),
+    (1, Piece::Text("plum")),
+];
+
+const WRONG_BARRIER: Cause = Cause::Peer {
+    fault: PeerFault::Barrier,
+};
+
+const BUFFER: &[u8] = b"\0\0\0\x04PEAR\0\0\0\x03FIG";
+
+#[test]
+fn a_stage_without_an_interval_sends_one_snapshot(rt: HostRuntime) -> Result<(), Fail> {
+    let (pool, place) = pool_of_four(&rt, rt.alloc());
+    let case = Case {
+        pieces: &RECORDS,
+        every: None,
+        stored: None,
+        stopped: false,
+        buffer: BUFFER,
+        barriers: 1,
+        ended: true,
+    };
+    let end = stage_sends(&rt, rt.alloc(), &pool, place, case)?;
+    assert_eq!(rt; end, (Cause::Done, 0));
+    Ok(())
+}
+
+#[test]
+fn the_checkpoint_behind_an_image_with_all_ended_is_the_last(rt: HostRuntime) -> Result<(), Fail> {
+    let (pool, place) = pool_of_four(&rt, rt.alloc());
+    let case = Case {
+        pieces: &TWO_BARRIERS,
+        every: Some(1),
+        stored: Some(Stored {
+            number: 1,
+            all_ended: true,
+        }),
+        stopped: false,
+        buffer: BUFFER,
+        barriers: 2,
+        ended: true,
+    };
+    let end = stage_sends(&rt, rt.alloc(), &pool, place, case)?;
+    assert_eq!(rt; end, (Cause::Done, 0));
+    Ok(())
+}
+
+#[test]
+fn ends_before_the_last_checkpoint_are_a_fault(rt: HostRuntime) -> Result<(), Fail> {
+    let (pool, place) = pool_of_four(&rt, rt.alloc());
+    let case = Case {
+        pieces: &[],
+        every: None,
+        stored: None,
+        stopped: false,
+        buffer: b"",
+        barriers: 0,
+        ended: false,
+    };
+    let end = stage_sends(&rt, rt.alloc(), &pool, place, case)?;
+    assert_eq!(rt; end, (WRONG_BARRIER, 0));
+    Ok(())
+}
+
+#[test]
+fn a_line_behind_the_last_checkpoint_is_a_fault(rt: HostRuntime) -> Result<(), Fail> {
+    let (pool, place) = pool_of_four(&rt, rt.alloc());
+    let case = Case {
+        pieces: &LINE_BEHIND,
+        every: None,
+        stored: None,
+        stopped: false,
+        buffer: BUFFER,
+        barriers: 1,
+        ended: false,
+    };
+    let end = stage_sends(&rt, rt.alloc(), &pool, place, case)?;
+    assert_eq!(rt; end, (WRONG_BARRIER, 1));
+    Ok(())
+}
+
+#[test]
+fn a_task_that_was_done_is_stopped_by_a_fault_before(rt: HostRuntime) -> Result<(), Fail> {
+    let (pool, place) = pool_of_four(&rt, rt.alloc());
+    let case = Case {
+        pieces: &RECORDS,
+        every: None,
+        stored: None,
+        stopped: true,
+        buffer: BUFFER,
+        barriers: 1,
+        ended: true,
+    };
+    let end = stage_sends(&rt, rt.alloc(), &pool, place, case)?;
+    assert_eq!(rt; end, (Cause::Stopped, 0));
+    Ok(())
+}

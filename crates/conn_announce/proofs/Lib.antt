@@ -6,3 +6,4 @@ mod Ends
 mod Opening
 mod Account
 mod Both
+mod Dealt

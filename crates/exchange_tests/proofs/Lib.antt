@@ -1,3 +1,2 @@
-mod InOrder
 mod Dealt
 mod SubpartitionDealt

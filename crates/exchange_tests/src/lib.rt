@@ -1,4 +1,4 @@
-//! Tests of what an exchange is made of, over the built crates: net_frames, segment_pool, local_pool, subpartition,
+//! Tests of what an exchange is made of, over the built crates: net_frames, local_pool, subpartition,
 //! input_channel and exchange_core.
 #![tactic(auto)]
 
@@ -10,8 +10,6 @@ mod input_channel_tests;
 mod local_pool_tests;
 #[cfg(test)]
 mod net_frames_tests;
-#[cfg(test)]
-mod segment_pool_tests;
 #[cfg(test)]
 mod subpartition_tests;
 #[cfg(test)]

@@ -1,4 +1,3 @@
 mod Dealt
 mod ConnGrantDealt
 mod ConnReceiveDealt
-mod ConnAnnounceDealt

@@ -1,9 +1,7 @@
-//! Tests of the loops of a connection, each alone and over the built crates: conn_parts, conn_send, conn_grant, conn_receive
-//! and conn_announce.
+//! Tests of the loops of a connection, each alone and over the built crates: conn_parts, conn_send, conn_grant and
+//! conn_receive.
 #![tactic(auto)]
 
-#[cfg(test)]
-mod conn_announce_tests;
 #[cfg(test)]
 mod conn_grant_tests;
 #[cfg(test)]

@@ -1,5 +1,6 @@
 mod Counting
 mod Dealings
 mod Dealt
+mod InOrder
 mod Sums
 mod Own

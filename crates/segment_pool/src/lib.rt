@@ -14,6 +14,8 @@ mod places;
 mod pool;
 mod segment;
 mod stock;
+#[cfg(test)]
+mod tests;
 mod turns;
 
 pub use calls::Counts;

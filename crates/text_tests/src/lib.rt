@@ -1,4 +1,4 @@
-//! Tests of lines, records, texts and stage functions, over the built crates: flow_defs, record_spans, stage_fns, job_plan,
+//! Tests of lines, records and texts, over the built crates: flow_defs, record_spans, job_plan,
 //! job_text, script_text and line_generator.
 #![tactic(auto)]
 
@@ -14,5 +14,3 @@ mod line_generator_tests;
 mod record_spans_tests;
 #[cfg(test)]
 mod script_text_tests;
-#[cfg(test)]
-mod stage_fns_tests;

@@ -1,19 +1,16 @@
 -- What a gate tells of the passes that it has, and what a gate is when it is made.
-use Rattle.std.proofs.Common.{◌≡◌, ◌≢◌, ◌⊎◌, inl, inr, ℕ, zero, suc, ◌+◌, ◌-◌, ◌<◌, ◌≤◌, Bool, true, false, List, [], ◌∷◌, ◌++◌, map, length, get_or, take, drop, reverse, refl, sym, ap, subst, ◌∙◌, arith, Result, Ok, Err, Option, Some, None, true≢false, append-nil, append_assoc}
+use Rattle.std.proofs.Common.{◌≡◌, ◌≢◌, ℕ, zero, suc, ◌+◌, ◌<◌, Bool, true, false, List, [], ◌∷◌, ◌++◌, map, length, get_or, take, drop, reverse, refl, sym, ap, subst, ◌∙◌, arith, Result, Ok, Err, Option, Some, None, true≢false, append-nil}
 use Rattle.std.specs.Prelude.{slice_get, All, IfSome, IfOk, OnOk, is_some, is_err}
 use Rattle.input_gate.specs.declared.gate.GateEnd.{GateEnd}
 use Rattle.input_gate.specs.States.{GateState, LookedFirst, AllCameBack}
 use Rattle.std.specs.List.{AllByRecursion}
-use Rattle.std.specs.Option.{option_map_or}
 use Rattle.std.proofs.lemmas.List.{length-map, drop_more, take_more, reverse-reverse, reverse-append}
 use Rattle.std.proofs.lemmas.List.Elements.{recursion_from_All, All-from_recursion}
 use Rattle.turn_cell.specs.Passes.{IsPassOf, opened_with, number, seen, mine}
 use Rattle.flow_defs.specs.Parcels.{data_of, has_end, barriers_of}
-use Rattle.flow_defs.specs.Records.{all_encoded, spans, IsShort}
+use Rattle.flow_defs.specs.Records.{all_encoded, IsShort}
 use Rattle.flow_defs.specs.declared.cause.Cause.{Cause}
-use Rattle.conn_parts.specs.Shares.{AreOf, AreOwn, AreNew, seen_at, mine_at}
-use Rattle.input_channel.specs.declared.entry.ReceiveEntry.{ReceiveEntry}
-use Rattle.input_channel.specs.declared.held.HeldBuf.{HeldBuf}
+use Rattle.conn_parts.specs.Shares.{AreOwn, AreNew, seen_at, mine_at}
 use Rattle.input_channel.specs.Legal.{polled_with, returned, asks, inline_in}
 use Rattle.outside.specs.declared.stop.StopEntry.{StopEntry}
 use Rattle.outside.specs.Stops.{first_met}
@@ -21,20 +18,20 @@ use Rattle.input_gate.specs.declared.gate.GateItem.{GateItem}
 use Rattle.input_gate.specs.declared.gate.GateItem.TheVariants as items
 use Rattle.input_gate.specs.declared.lane.Lane.{Lane}
 use Rattle.input_gate.specs.Gates.{Account, IsNew, lines_in}
-use Rattle.input_gate.specs.Turning.{InputCell, InputPass, IsEven, Looked, given_in, given_to}
+use Rattle.input_gate.specs.Turning.{InputCell, InputPass, IsEven, Looked, looks_at, given_in, given_to}
 use Rattle.input_gate.specs.Told.{told, IsRead}
 use Rattle.input_gate.specs.Lanes.{IsLane, polled, left_of, told_by, barriers_by, resumed_by, ready_bytes, spare_bytes, weight, due_back}
-use Rattle.input_gate.specs.Channels.{AreLanes, AreQuiet, HaveNoSpare, account_of, at_of, cells_in, passes_in, seen_in, LookedIn}
+use Rattle.input_gate.specs.Channels.{AreLanes, AreQuiet, HaveNoSpare, account_of, at_of, cells_in, passes_in, looks_in, LookedIn}
 use Rattle.input_gate.specs.Making.{IsFreshLane, AreFreshLanes}
 use Rattle.input_gate.proofs.Growing.{gives-all, all-short, spans-all}
-use Rattle.input_gate.proofs.RoundLaws.{looked_through, same_of}
+use Rattle.input_gate.proofs.RoundLaws.{looked_through}
 
 -- ---- passes by their place
 
-pub seen_at_is : (ls : List Lane) (c : ℕ) → seen_at c (passes_in ls) ≡ seen_in ls c
-seen_at_is [] c = refl
-seen_at_is (l ∷ ls) zero = refl
-seen_at_is (l ∷ ls) (suc c) = seen_at_is ls c
+pub looks_at_is : (ls : List Lane) (c : ℕ) → looks_at c (passes_in ls) ≡ looks_in ls c
+looks_at_is [] c = refl
+looks_at_is (l ∷ ls) zero = refl
+looks_at_is (l ∷ ls) (suc c) = looks_at_is ls c
 
 pub cells_length : (ls ms : List Lane) → cells_in ms ≡ cells_in ls → length ms ≡ length ls
 cells_length ls ms e = sym (length-map ms (λ (lane : Lane). lane.cell.now)) ∙ ap length e ∙ length-map ls (λ (lane : Lane). lane.cell.now)
@@ -126,6 +123,7 @@ module _ (size : ℕ) (c : InputCell) (p : InputPass) (l : Lane) (f : IsFreshLan
     even = subst (λ es. IsEven (es ++ due_back l.spare)) (sym mine_none) (subst (λ s. IsEven (due_back s)) (sym f.spare_is) even_none_yet);
     spare_size = subst (λ s. IfSome s (λ buf. length buf.segment ≡ size)) (sym f.spare_is) tt;
     short = subst (λ r. IfSome r (λ line. IsShort line.items)) (sym f.ready_is) tt;
+    clear_is = λ e. absurd (true≢false (sym e ∙ f.clear_is));
   }
 
   pub new_told : told_by l ≡ []
@@ -238,7 +236,7 @@ dealt cells passes left i c p l ls many low e f fs =
 
 pub looked_first : (hold : Bool) (a b : GateState) (result : Result GateItem GateEnd) → IfOk result (λ item. LookedIn hold a.lanes item b.lanes) → IfOk result (λ item. LookedFirst hold a b item)
 looked_first hold a b (Ok (items.Line c line)) k = λ d low free may still.
-    subst (λ z. Looked z (seen_at d (passes_in b.lanes))) (sym (seen_at_is a.lanes d)) (subst (λ z. Looked (seen_in a.lanes d) z) (sym (seen_at_is b.lanes d)) (k d low free may still))
+    subst (λ z. Looked z (looks_at d (passes_in b.lanes))) (sym (looks_at_is a.lanes d)) (subst (λ z. Looked (looks_in a.lanes d) z) (sym (looks_at_is b.lanes d)) (k d low free may still))
 looked_first hold a b (Ok (items.Barrier c n kind)) k = tt
 looked_first hold a b (Ok items.AllEnded) k = tt
 looked_first hold a b (Err end) k = tt

@@ -12,11 +12,10 @@ use Rattle.flow_defs.specs.declared.TheConstants.{RECORD_MAX}
 use Rattle.flow_defs.specs.Records.{length_bytes, encoded, all_encoded, spans, spans_within, first_record, IsShort}
 use Rattle.flow_defs.specs.declared.parcel.Parcel.{Parcel}
 use Rattle.flow_defs.specs.declared.parcel.Parcel.TheVariants.{Data, Barrier, End}
-use Rattle.flow_defs.specs.declared.task.BarrierKind.{BarrierKind}
 use Rattle.flow_defs.specs.declared.task.BarrierKind.TheVariants.{Inline, Front}
 use Rattle.flow_defs.specs.Parcels.{data_of, has_end}
 use Rattle.input_channel.specs.Legal.{inline_in}
-use Rattle.record_spans.specs.Spans.{HasNoRecord, BeginsWith, BeginsTooLong}
+use Rattle.record_spans.specs.Spans.{BeginsWith, BeginsTooLong}
 use Rattle.input_gate.specs.Gates.{Told, Line, Stop, lines_in, stops_in}
 use Rattle.input_gate.specs.Told.{behind_spans, left_within, current, past, but, told, IsRead}
 

@@ -1,13 +1,11 @@
 -- What a step makes of what is kept of a channel.
-use Rattle.std.proofs.Common.{Bool, true, false, cond, ◌≡◌, ◌≢◌, ℕ, zero, suc, ◌+◌, ◌<◌, ◌≤◌, List, [], ◌∷◌, ◌++◌, length, Option, Some, None, refl, sym, ap, subst, ◌∙◌, arith, append_assoc, append-nil, length-append, true≢false}
-use Rattle.std.specs.Prelude.{count_by, if◌then◌else◌, MatchOption, IfSome, option_to_list}
+use Rattle.std.proofs.Common.{Bool, true, false, cond, ◌≡◌, ℕ, suc, ◌+◌, ◌<◌, List, [], ◌∷◌, ◌++◌, length, Option, Some, None, refl, sym, ap, subst, ◌∙◌, arith, append_assoc, append-nil, length-append, true≢false}
+use Rattle.std.specs.Prelude.{count_by, if◌then◌else◌, MatchOption, IfSome}
 use Rattle.std.proofs.lemmas.List.Sums.{sum_by-cons, sum_by-append}
-use Rattle.turn_cell.specs.History.{StartsWith}
-use Rattle.turn_cell.specs.Passes.{seen, mine, opened_with}
+use Rattle.turn_cell.specs.Passes.{seen, mine}
 use Rattle.flow_defs.specs.Items.{Items}
 use Rattle.flow_defs.specs.declared.parcel.Parcel.{Parcel}
 use Rattle.flow_defs.specs.declared.parcel.Parcel.TheVariants as parcels
-use Rattle.flow_defs.specs.declared.task.BarrierKind.{BarrierKind}
 use Rattle.flow_defs.specs.declared.task.BarrierKind.TheVariants.{Inline, Front}
 use Rattle.flow_defs.specs.Parcels.{barriers_of, has_end}
 use Rattle.flow_defs.specs.Records.{encoded, IsShort, first_record}
@@ -21,11 +19,11 @@ use Rattle.input_channel.specs.Contents.{content}
 use Rattle.input_channel.specs.Legal.{gives_kind, returns_kind, is_ask, polled_with, returned, asks, inline_in}
 use Rattle.input_channel.proofs.KeptLemmas.{barriers_of-append}
 use Rattle.input_gate.specs.declared.lane.Lane.{Lane}
-use Rattle.input_gate.specs.Gates.{Told, Line, Stop}
-use Rattle.input_gate.specs.Turning.{InputPass, InputCell, IsGatePass, IsEven, given_to}
+use Rattle.input_gate.specs.Gates.{Line}
+use Rattle.input_gate.specs.Turning.{InputPass, IsGatePass, IsEven, IsLater, NoFront, given_to}
 use Rattle.input_gate.specs.Told.{told, IsRead}
 use Rattle.input_gate.specs.Lanes.{polled, left_of, ready_bytes, spare_bytes, told_by, barriers_by, resumed_by, weight, due_back, IsLane, IsIdle, IsQuiet, Gives, GivesBarrier, IsResumed}
-use Rattle.input_gate.proofs.TurnLaws.{starts_then, starts_refl}
+use Rattle.input_gate.proofs.TurnLaws.{later_then, later_refl}
 use Rattle.input_gate.proofs.Growing.{read-data, told-data, read-line, told-line, read-inline, told-inline, read-front, told-front, read-end, told-end, ends_at, ends_still, inline_in-append}
 
 -- ---- counts of the gate's own entries
@@ -132,24 +130,24 @@ out_now exclusive es even =
 -- ---- turns that give nothing
 
 pub idle_refl : (p : InputPass) → IsIdle p p
-idle_refl p = record { later = starts_refl (seen p); given = refl; asked = refl; even = λ h. h }
+idle_refl p = record { later = later_refl p; given = refl; asked = refl; even = λ h. h }
 
 pub idle_then : (p q r : InputPass) → IsIdle p q → IsIdle q r → IsIdle p r
-idle_then p q r h k = record { later = starts_then (seen p) (seen q) (seen r) h.later k.later; given = k.given ∙ h.given; asked = k.asked ∙ h.asked; even = λ e. k.even (h.even e) }
+idle_then p q r h k = record { later = later_then p q r h.later k.later; given = k.given ∙ h.given; asked = k.asked ∙ h.asked; even = λ e. k.even (h.even e) }
 
-pub idle_added : (p q : InputPass) → StartsWith (seen q) (seen p) → given_to q ≡ given_to p → mine q ≡ mine p ++ Added ∷ [] → IsIdle p q
+pub idle_added : (p q : InputPass) → IsLater p q → given_to q ≡ given_to p → mine q ≡ mine p ++ Added ∷ [] → IsIdle p q
 idle_added p q later given entered = record { later = later; given = given; asked = asks_other Added refl (mine p) (mine q) entered; even = even_added (mine p) (mine q) entered }
 
-pub idle_same : (p q : InputPass) → StartsWith (seen q) (seen p) → given_to q ≡ given_to p → mine q ≡ mine p → IsIdle p q
+pub idle_same : (p q : InputPass) → IsLater p q → given_to q ≡ given_to p → mine q ≡ mine p → IsIdle p q
 idle_same p q later given same = record { later = later; given = given; asked = ap asks same; even = λ e. subst IsEven (sym same) e }
 
 -- ---- lanes
 
 pub quiet_refl : (a : Lane) → IsQuiet a a
-quiet_refl a = record { cell = refl; later = starts_refl (seen a.pass); told = refl; barriers = refl; resumed = refl; blocked = refl }
+quiet_refl a = record { cell = refl; later = later_refl a.pass; told = refl; barriers = refl; resumed = refl; blocked = refl }
 
 pub quiet_then : (a b c : Lane) → IsQuiet a b → IsQuiet b c → IsQuiet a c
-quiet_then a b c h k = record { cell = k.cell ∙ h.cell; later = starts_then (seen a.pass) (seen b.pass) (seen c.pass) h.later k.later; told = k.told ∙ h.told; barriers = k.barriers ∙ h.barriers; resumed = k.resumed ∙ h.resumed; blocked = k.blocked ∙ h.blocked }
+quiet_then a b c h k = record { cell = k.cell ∙ h.cell; later = later_then a.pass b.pass c.pass h.later k.later; told = k.told ∙ h.told; barriers = k.barriers ∙ h.barriers; resumed = k.resumed ∙ h.resumed; blocked = k.blocked ∙ h.blocked }
 
 apart : (b : Bool) → b ≡ true → b ≡ false → ⊥
 apart b h k = true≢false (sym h ∙ k)
@@ -159,14 +157,14 @@ asked_same a b w ps ps' e h i = ap (λ n. n + weight w) e ∙ h ∙ sym i
 
 -- What a buffer that was polled makes of the lane.
 module _ (size : ℕ) (a : Lane) (p : InputPass) (hold : Bool) (buf : HeldBuf) (h : IsLane size a)
-    (no_spare : a.spare ≡ None) (no_ready : a.ready ≡ None) (pass : IsGatePass a.cell.now p) (later : StartsWith (seen p) (seen a.pass))
+    (no_spare : a.spare ≡ None) (no_ready : a.ready ≡ None) (pass : IsGatePass a.cell.now p) (later : IsLater a.pass p)
     (given : given_to p ≡ polled a ++ parcels.Data (content buf) ∷ []) (entered : mine p ≡ mine a.pass ++ Poll hold (gave_for buf.exclusive) ∷ []) where
   rest_is : ready_bytes a.ready ++ (a.reader ++ content buf) ≡ left_of a ++ content buf
   rest_is =
       let e : left_of a ≡ ready_bytes a.ready ++ (a.reader ++ []) = ap (λ s. ready_bytes a.ready ++ (a.reader ++ spare_bytes s)) no_spare in
       sym (append_assoc (ready_bytes a.ready) a.reader (content buf)) ∙ ap (λ z. (ready_bytes a.ready ++ z) ++ content buf) (sym (append-nil a.reader)) ∙ ap (λ z. z ++ content buf) (sym e)
 
-  pub lane_buffer : length buf.segment ≡ size → IsLane size (record a { pass = p; spare = Some buf })
+  pub lane_buffer : length buf.segment ≡ size → IsLane size (record a { clear = false; pass = p; spare = Some buf })
   lane_buffer fits = record {
     pass = pass;
     size_is = h.size_is;
@@ -178,9 +176,10 @@ module _ (size : ℕ) (a : Lane) (p : InputPass) (hold : Bool) (buf : HeldBuf) (
     even = even_polled hold buf.exclusive (mine a.pass) (mine p) entered (subst (λ s. IsEven (mine a.pass ++ due_back s)) no_spare h.even);
     spare_size = fits;
     short = h.short;
+    clear_is = λ (e : false ≡ true). absurd (cc);
   }
 
-  pub quiet_buffer : IsQuiet a (record a { pass = p; spare = Some buf })
+  pub quiet_buffer : IsQuiet a (record a { clear = false; pass = p; spare = Some buf })
   quiet_buffer = record {
     cell = refl;
     later = later;
@@ -192,7 +191,7 @@ module _ (size : ℕ) (a : Lane) (p : InputPass) (hold : Bool) (buf : HeldBuf) (
 
 -- What a poll that gave no buffer makes of the lane.
 module _ (size : ℕ) (a : Lane) (p : InputPass) (hold : Bool) (h : IsLane size a) (no_spare : a.spare ≡ None)
-    (pass : IsGatePass a.cell.now p) (later : StartsWith (seen p) (seen a.pass)) (entered : mine p ≡ mine a.pass ++ Poll hold NoBuffer ∷ []) where
+    (pass : IsGatePass a.cell.now p) (later : IsLater a.pass p) (entered : mine p ≡ mine a.pass ++ Poll hold NoBuffer ∷ []) where
   even_still : IsEven (mine p ++ due_back a.spare)
   even_still =
       let before = subst IsEven (append-nil (mine a.pass)) (subst (λ s. IsEven (mine a.pass ++ due_back s)) no_spare h.even) in
@@ -202,7 +201,7 @@ module _ (size : ℕ) (a : Lane) (p : InputPass) (hold : Bool) (h : IsLane size 
   resumed_still = asks_other (Poll hold NoBuffer) refl (mine a.pass) (mine p) entered
 
   -- nothing
-  pub lane_nothing : given_to p ≡ polled a → IsLane size (record a { pass = p })
+  pub lane_nothing : given_to p ≡ polled a → IsLane size (record a { clear = false; pass = p })
   lane_nothing given = record {
     pass = pass;
     size_is = h.size_is;
@@ -213,13 +212,14 @@ module _ (size : ℕ) (a : Lane) (p : InputPass) (hold : Bool) (h : IsLane size 
     even = even_still;
     spare_size = h.spare_size;
     short = h.short;
+    clear_is = λ (e : false ≡ true). absurd (cc);
   }
 
-  pub quiet_nothing : given_to p ≡ polled a → IsQuiet a (record a { pass = p })
+  pub quiet_nothing : given_to p ≡ polled a → IsQuiet a (record a { clear = false; pass = p })
   quiet_nothing given = record { cell = refl; later = later; told = ap (λ ps. told ps (left_of a)) given; barriers = ap barriers_of given; resumed = resumed_still; blocked = refl }
 
   -- the end
-  pub lane_end : given_to p ≡ polled a ++ parcels.End ∷ [] → IsLane size (record a { pass = p; ended = true })
+  pub lane_end : given_to p ≡ polled a ++ parcels.End ∷ [] → IsLane size (record a { clear = false; pass = p; ended = true })
   lane_end given = record {
     pass = pass;
     size_is = h.size_is;
@@ -231,9 +231,10 @@ module _ (size : ℕ) (a : Lane) (p : InputPass) (hold : Bool) (h : IsLane size 
     even = even_still;
     spare_size = h.spare_size;
     short = h.short;
+    clear_is = λ (e : false ≡ true). absurd (cc);
   }
 
-  pub quiet_end : given_to p ≡ polled a ++ parcels.End ∷ [] → IsQuiet a (record a { pass = p; ended = true })
+  pub quiet_end : given_to p ≡ polled a ++ parcels.End ∷ [] → IsQuiet a (record a { clear = false; pass = p; ended = true })
   quiet_end given = record {
     cell = refl;
     later = later;
@@ -248,7 +249,7 @@ module _ (size : ℕ) (a : Lane) (p : InputPass) (hold : Bool) (h : IsLane size 
     barriers_more : barriers_of (given_to p) ≡ barriers_by a ++ (k, Front) ∷ []
     barriers_more = ap barriers_of given ∙ barriers_of-append (polled a) (parcels.Barrier k Front ∷ [])
 
-    pub lane_front : IsLane size (record a { pass = p; barriers = k })
+    pub lane_front : IsLane size (record a { clear = false; pass = p; barriers = k })
     lane_front = record {
       pass = pass;
       size_is = h.size_is;
@@ -260,9 +261,10 @@ module _ (size : ℕ) (a : Lane) (p : InputPass) (hold : Bool) (h : IsLane size 
       even = even_still;
       spare_size = h.spare_size;
       short = h.short;
+      clear_is = λ (e : false ≡ true). absurd (cc);
     }
 
-    pub gives_front : a.blocked ≡ false → (held : Bool) → held ≡ false → GivesBarrier held a (record a { pass = p; barriers = k }) k Front
+    pub gives_front : a.blocked ≡ false → (held : Bool) → held ≡ false → GivesBarrier held a (record a { clear = false; pass = p; barriers = k }) k Front
     gives_front free held not_held = record {
       gives = record {
         cell = refl;
@@ -289,7 +291,7 @@ module _ (size : ℕ) (a : Lane) (p : InputPass) (hold : Bool) (h : IsLane size 
     stops_more : barriers_of (given_to p) ≡ barriers_by a ++ (k, Inline) ∷ []
     stops_more = ap barriers_of given ∙ barriers_of-append (polled a) (parcels.Barrier k Inline ∷ [])
 
-    pub lane_inline : IsLane size (record a { pass = p; barriers = k; blocked = true })
+    pub lane_inline : IsLane size (record a { clear = false; pass = p; barriers = k; blocked = true })
     lane_inline = record {
       pass = pass;
       size_is = h.size_is;
@@ -304,9 +306,10 @@ module _ (size : ℕ) (a : Lane) (p : InputPass) (hold : Bool) (h : IsLane size 
       even = even_still;
       spare_size = h.spare_size;
       short = h.short;
+      clear_is = λ (e : false ≡ true). absurd (cc);
     }
 
-    pub gives_inline : (held : Bool) → held ≡ false → GivesBarrier held a (record a { pass = p; barriers = k; blocked = true }) k Inline
+    pub gives_inline : (held : Bool) → held ≡ false → GivesBarrier held a (record a { clear = false; pass = p; barriers = k; blocked = true }) k Inline
     gives_inline held not_held = record {
       gives = record {
         cell = refl;
@@ -332,7 +335,7 @@ module _ (size : ℕ) (a : Lane) (buf : HeldBuf) (h : IsLane size a) (spare : a.
   pub spare_fits : length buf.segment ≡ size
   spare_fits = subst (λ s. IfSome s (λ buf. length buf.segment ≡ size)) spare h.spare_size
 
-  module _ (reader : List ℕ) (fed : reader ≡ a.reader ++ content buf) (p q : InputPass) (pass : IsGatePass a.cell.now q) (later : StartsWith (seen p) (seen a.pass)) (given : given_to p ≡ polled a)
+  module _ (reader : List ℕ) (fed : reader ≡ a.reader ++ content buf) (p q : InputPass) (pass : IsGatePass a.cell.now q) (later : IsLater a.pass p) (given : given_to p ≡ polled a)
       (entered : mine p ≡ mine a.pass ++ Returned buf.exclusive ∷ []) (idle : IsIdle p q) where
     given_back : given_to q ≡ polled a
     given_back = idle.given ∙ given
@@ -340,7 +343,7 @@ module _ (size : ℕ) (a : Lane) (buf : HeldBuf) (h : IsLane size a) (spare : a.
     resumed_back : asks (mine q) ≡ resumed_by a
     resumed_back = idle.asked ∙ asks_other (Returned buf.exclusive) refl (mine a.pass) (mine p) entered
 
-    lane_read : IsLane size (record a { pass = q; reader = reader; spare = None })
+    lane_read : IsLane size (record a { clear = false; pass = q; reader = reader; spare = None })
     lane_read = record {
       pass = pass;
       size_is = h.size_is;
@@ -351,15 +354,16 @@ module _ (size : ℕ) (a : Lane) (buf : HeldBuf) (h : IsLane size a) (spare : a.
       even = subst IsEven (sym (append-nil (mine q))) (idle.even (subst IsEven (sym entered) (subst (λ s. IsEven (mine a.pass ++ due_back s)) spare h.even)));
       spare_size = tt;
       short = h.short;
+      clear_is = λ (e : false ≡ true). absurd (cc);
     }
 
-    pub lane_back : (now : Option HeldBuf) → now ≡ None → IsLane size (record a { pass = q; reader = reader; spare = now })
-    lane_back now none = subst (λ s. IsLane size (record a { pass = q; reader = reader; spare = s })) (sym none) lane_read
+    pub lane_back : (now : Option HeldBuf) → now ≡ None → IsLane size (record a { clear = false; pass = q; reader = reader; spare = now })
+    lane_back now none = subst (λ s. IsLane size (record a { clear = false; pass = q; reader = reader; spare = s })) (sym none) lane_read
 
-    pub quiet_back : IsQuiet a (record a { pass = q; reader = reader; spare = None })
+    pub quiet_back : IsQuiet a (record a { clear = false; pass = q; reader = reader; spare = None })
     quiet_back = record {
       cell = refl;
-      later = starts_then (seen a.pass) (seen p) (seen q) later idle.later;
+      later = later_then a.pass p q later idle.later;
       told = ap (λ ps. told ps (ready_bytes a.ready ++ (reader ++ []))) given_back ∙ ap (told (polled a)) (read_left reader fed);
       barriers = ap barriers_of given_back;
       resumed = resumed_back;
@@ -385,13 +389,14 @@ module _ (size : ℕ) (a : Lane) (line : Items ℕ) (h : IsLane size a) (ready :
     even = h.even;
     spare_size = h.spare_size;
     short = tt;
+    clear_is = h.clear_is;
   }
 
   pub gives_line : a.blocked ≡ false → Gives a (record a { ready = None }) (Line line.items ∷ []) [] × IsShort line.items
   gives_line free = (
     record {
       cell = refl;
-      later = starts_refl (seen a.pass);
+      later = later_refl a.pass;
       free = free;
       told = told-line (polled a) (left_of a) line.items (a.reader ++ spare_bytes a.spare) line_left line_short h.read;
       barriers_are = sym (append-nil (barriers_by a));
@@ -434,7 +439,7 @@ even_between es ds now is even kind =
     no_poll false = refl
 
 module _ (size : ℕ) (a : Lane) (p : InputPass) (h : IsLane size a) (blocked : a.blocked ≡ true) (given : given_to p ≡ polled a) (entered : mine p ≡ mine a.pass ++ Ask ∷ []) where
-  pub lane_resumed : IsGatePass a.cell.now p → IsLane size (record a { pass = p; blocked = false })
+  pub lane_resumed : IsGatePass a.cell.now p → IsLane size (record a { clear = false; pass = p; blocked = false })
   lane_resumed pass = record {
     pass = pass;
     size_is = h.size_is;
@@ -449,18 +454,19 @@ module _ (size : ℕ) (a : Lane) (p : InputPass) (h : IsLane size a) (blocked : 
     even = even_between (mine a.pass) (due_back a.spare) (mine p) entered h.even;
     spare_size = h.spare_size;
     short = h.short;
+    clear_is = λ (e : false ≡ true). absurd (cc);
   }
 
-  pub is_resumed : IsResumed a (record a { pass = p; blocked = false })
+  pub is_resumed : IsResumed a (record a { clear = false; pass = p; blocked = false })
   is_resumed = record { cell = refl; told = ap (λ ps. told ps (left_of a)) given; barriers = ap barriers_of given; resumed = asks_more (mine a.pass) (mine p) entered; ended = refl; left = refl }
 
 pub owed_at : (size : ℕ) (a : Lane) → IsLane size a → a.blocked ≡ true → asks (mine a.pass) < inline_in (polled a)
 owed_at size a h blocked = let w : resumed_by a + 1 ≡ inline_in (polled a) = ap (λ b. resumed_by a + weight b) (sym blocked) ∙ h.asked in omega (arith, w)
 
 -- A look that found nothing.
-module _ (size : ℕ) (a : Lane) (p : InputPass) (h : IsLane size a) (later : StartsWith (seen p) (seen a.pass)) (given : given_to p ≡ polled a) (entered : mine p ≡ mine a.pass) where
-  pub lane_looked : IsGatePass a.cell.now p → IsLane size (record a { pass = p })
-  lane_looked pass = record {
+module _ (size : ℕ) (a : Lane) (p : InputPass) (h : IsLane size a) (later : IsLater a.pass p) (given : given_to p ≡ polled a) (entered : mine p ≡ mine a.pass) where
+  pub lane_looked : IsGatePass a.cell.now p → NoFront (seen p) → IsLane size (record a { clear = true; pass = p })
+  lane_looked pass none = record {
     pass = pass;
     size_is = h.size_is;
     read = subst (λ ps. IsRead ps (left_of a)) (sym given) h.read;
@@ -470,7 +476,8 @@ module _ (size : ℕ) (a : Lane) (p : InputPass) (h : IsLane size a) (later : St
     even = subst (λ es. IsEven (es ++ due_back a.spare)) (sym entered) h.even;
     spare_size = h.spare_size;
     short = h.short;
+    clear_is = λ e. none;
   }
 
-  pub quiet_looked : IsQuiet a (record a { pass = p })
+  pub quiet_looked : IsQuiet a (record a { clear = true; pass = p })
   quiet_looked = record { cell = refl; later = later; told = ap (λ ps. told ps (left_of a)) given; barriers = ap barriers_of given; resumed = ap asks entered; blocked = refl }

@@ -1,18 +1,15 @@
 -- What a step at one channel makes of all channels.
-use Rattle.std.proofs.Common.{◌≡◌, ◌≢◌, ◌⊎◌, inl, inr, ℕ, zero, suc, max, ◌+◌, ◌<◌, ◌≤◌, Bool, true, false, List, [], ◌∷◌, ◌++◌, map, length, get_or, refl, sym, ap, subst, ◌∙◌, arith, Result, Ok, Err, Option, Some, None, true≢false}
+use Rattle.std.proofs.Common.{◌≡◌, ◌≢◌, ◌⊎◌, inl, inr, ℕ, zero, suc, max, ◌+◌, ◌<◌, ◌≤◌, Bool, true, false, List, [], ◌∷◌, ◌++◌, length, get_or, refl, sym, ap, subst, ◌∙◌, arith, append_assoc, Result, Ok, Err, Option, Some, None}
 use Rattle.std.specs.Prelude.{slice_set, MatchOption, IfNone, IfErr, OnOk}
 use Rattle.flow_defs.specs.Items.{Items}
 use mathlib.Core.Logic.{dite}
 use native.Mathlib.Decide.{ℕ_discrete}
 use Rattle.turn_cell.specs.History.{StartsWith}
-use Rattle.turn_cell.specs.Passes.{seen}
 use Rattle.flow_defs.specs.declared.task.BarrierKind.{BarrierKind}
 use Rattle.flow_defs.specs.declared.task.BarrierKind.TheVariants.{Inline, Front}
 use Rattle.flow_defs.specs.Records.{IsShort}
 use Rattle.record_spans.specs.Spans.{HasNoRecord}
-use Rattle.input_channel.specs.declared.entry.ReceiveEntry.{ReceiveEntry}
 use Rattle.input_channel.specs.declared.held.HeldBuf.{HeldBuf}
-use Rattle.input_channel.specs.Legal.{inline_in}
 use Rattle.input_gate.specs.declared.gate.GateItem.{GateItem}
 use Rattle.input_gate.specs.declared.gate.GateItem.TheVariants as items
 use Rattle.input_gate.specs.declared.gate.GateEnd.{GateEnd}
@@ -22,13 +19,13 @@ use Rattle.input_gate.specs.declared.lane.LaneFault.{LaneFault}
 use Rattle.input_gate.specs.declared.lane.LaneFault.TheVariants.{Memory, TooLong, Left}
 use Rattle.input_gate.specs.declared.lane.LaneStep.{LaneStep}
 use Rattle.input_gate.specs.declared.lane.LaneStep.TheVariants.{Nothing, Found, Barrier}
-use Rattle.input_gate.specs.Gates.{Told, Line, Account, GaveOf, GaveNothing, Gave, IsNext, Ended, IsFree, AllOver, Resumed, stops_in}
-use Rattle.input_gate.specs.Turning.{InputCell, Looked}
-use Rattle.input_gate.specs.Lanes.{IsLane, IsQuiet, Gives, GivesBarrier, IsFault, IsResumed, Came, told_by, barriers_by, resumed_by, left_of, polled, weight, stop_of}
-use Rattle.input_gate.specs.Channels.{AreLanes, AreQuiet, HaveNoSpare, account_of, at_of, cells_in, passes_in, seen_in, IsMost, MayGive, CameAt, LookedAt, HasLooked, HaveNoSpareBelow, GaveUp, end_of}
+use Rattle.input_gate.specs.Gates.{Told, Line, Account, GaveOf, GaveNothing, Gave, IsNext, Ended, IsFree, Resumed, stops_in}
+use Rattle.input_gate.specs.Turning.{Looks, looks_of, Looked}
+use Rattle.input_gate.specs.Lanes.{IsLane, IsQuiet, Gives, GivesBarrier, IsFault, IsResumed, Came, told_by, barriers_by, resumed_by, left_of, polled, weight}
+use Rattle.input_gate.specs.Channels.{AreLanes, AreQuiet, HaveNoSpare, account_of, at_of, cells_in, looks_in, IsMost, MayGive, CameAt, LookedAt, HasLooked, HaveNoSpareBelow, GaveUp, end_of}
 use Rattle.input_gate.proofs.Growing.{told-stops}
 use Rattle.input_gate.proofs.LaneLaws.{quiet_refl, quiet_then}
-use Rattle.input_gate.proofs.TurnLaws.{starts_then, starts_refl}
+use Rattle.input_gate.proofs.TurnLaws.{starts_refl}
 
 order : (m b : ℕ) → (m < b) ⊎ (b ≤ m)
 order zero zero = inr (omega arith)
@@ -264,9 +261,9 @@ module _ (size : ℕ) (ls : List Lane) (i : ℕ) (x y l : Lane) (e : y ≡ get_o
   fault_at (TooLong len) f = (low, subst (λ b. Rattle.record_spans.specs.Spans.BeginsTooLong b len) (sym (at_here left_of [] ls i l low)) f)
   fault_at (Left len) f = (low, at_here (λ (lane : Lane). lane.ended) false ls i l low ∙ f.0, ap length (at_here left_of [] ls i l low) ∙ f.1, f.2, subst HasNoRecord (sym (at_here left_of [] ls i l low)) f.3)
 
-  pub looked_at : (hold : Bool) (gate : Account) → Looked (seen y.pass) (seen l.pass) → HasLooked hold gate ls (slice_set ls i l) i
-  looked_at hold gate k = λ free may still. subst (λ s. Looked s (seen_in (slice_set ls i l) i)) (sym (at_get (λ (lane : Lane). seen lane.pass) [] ls i x y e low))
-      (subst (λ s. Looked (seen y.pass) s) (sym (at_here (λ (lane : Lane). seen lane.pass) [] ls i l low)) k)
+  pub looked_at : (hold : Bool) (gate : Account) → Looked (looks_of y.pass) (looks_of l.pass) → HasLooked hold gate ls (slice_set ls i l) i
+  looked_at hold gate k = λ free may still. subst (λ s. Looked s (looks_in (slice_set ls i l) i)) (sym (at_get (λ (lane : Lane). looks_of lane.pass) ([], []) ls i x y e low))
+      (subst (λ s. Looked (looks_of y.pass) s) (sym (at_here (λ (lane : Lane). looks_of lane.pass) ([], []) ls i l low)) k)
 
   pub resumed_of : IsResumed y l → Resumed (account_of ls) (account_of (slice_set ls i l)) i
   resumed_of r = record {
@@ -335,7 +332,7 @@ module _ (size : ℕ) (ls : List Lane) (i : ℕ) (x y l : Lane) (e : y ≡ get_o
   look_cell None m = m.cell
   look_cell (Some k) m = m.gives.cell
 
-  pub look_looked : (hold : Bool) (r : Option ℕ) → IfNone r (Looked (seen y.pass) (seen l.pass)) → IfNone r (HasLooked hold (account_of ls) ls (slice_set ls i l) i)
+  pub look_looked : (hold : Bool) (r : Option ℕ) → IfNone r (Looked (looks_of y.pass) (looks_of l.pass)) → IfNone r (HasLooked hold (account_of ls) ls (slice_set ls i l) i)
   look_looked hold None m = looked_at size ls i x y l e low h hold (account_of ls) m
   look_looked hold (Some k) m = tt
 
@@ -353,31 +350,35 @@ gave_on ls ms ns hold item q g = gave_then (account_of ls) (account_of ms) (acco
 pub most_on : (ls ms : List Lane) (most : ℕ) → AreQuiet ls ms → IsMost (account_of ls) most → IsMost (account_of ms) most
 most_on ls ms most q m = most_then (account_of ls) (account_of ms) most (same_of ls ms q) m
 
-pub seen_later : (ls ms : List Lane) → AreQuiet ls ms → (d : ℕ) → StartsWith (seen_in ms d) (seen_in ls d)
-seen_later [] [] h d = starts_refl []
-seen_later [] (m ∷ ms) h d = absurd h
-seen_later (l ∷ ls) [] h d = absurd h
-seen_later (l ∷ ls) (m ∷ ms) h zero = h.0.later
-seen_later (l ∷ ls) (m ∷ ms) h (suc d) = seen_later ls ms h.1 d
+pub looks_later : (ls ms : List Lane) → AreQuiet ls ms → (d : ℕ) → StartsWith (looks_in ms d).1 (looks_in ls d).1
+looks_later [] [] h d = starts_refl []
+looks_later [] (m ∷ ms) h d = absurd h
+looks_later (l ∷ ls) [] h d = absurd h
+looks_later (l ∷ ls) (m ∷ ms) h zero = h.0.later.1
+looks_later (l ∷ ls) (m ∷ ms) h (suc d) = looks_later ls ms h.1 d
 
-pub looked_wide : (before since now : List (ℕ × ReceiveEntry)) → StartsWith since before → Looked since now → Looked before now
-looked_wide before since now s k = record { history = k.history; later = starts_then before since k.history s k.later; earlier = k.earlier; no_front = k.no_front }
+pub looked_wide : (before since now : Looks) → StartsWith since.1 before.1 → Looked since now → Looked before now
+looked_wide before since now s k = record {
+  earlier = s.0 ++ k.earlier;
+  grew = k.grew ∙ ap (λ l. l ++ (k.earlier ++ now.0 ∷ [])) s.1 ∙ append_assoc before.1 s.0 (k.earlier ++ now.0 ∷ []) ∙ ap (λ l. before.1 ++ l) (sym (append_assoc s.0 k.earlier (now.0 ∷ [])));
+  no_front = k.no_front;
+}
 
 module _ (hold : Bool) (ls ms ns os : List Lane) (q : AreQuiet ls ms)
-    (same : (d : ℕ) → (seen_in os d ≡ seen_in ns d) × (at_of (λ lane. lane.ended) false os d ≡ at_of (λ lane. lane.ended) false ns d)) where
+    (same : (d : ℕ) → (looks_in os d ≡ looks_in ns d) × (at_of (λ lane. lane.ended) false os d ≡ at_of (λ lane. lane.ended) false ns d)) where
   pub looked_through : (d : ℕ) → HasLooked hold (account_of ms) ms ns d → HasLooked hold (account_of ls) ls os d
   looked_through d looked free may still =
       let s = same_of ls ms q in
       let k = looked (free_then (account_of ls) (account_of ms) d s free) (may_then (account_of ls) (account_of ms) hold d s may) (sym (same d).1 ∙ still) in
-      subst (λ z. Looked (seen_in ls d) z) (sym (same d).0) (looked_wide (seen_in ls d) (seen_in ms d) (seen_in ns d) (seen_later ls ms q d) k)
+      subst (λ z. Looked (looks_in ls d) z) (sym (same d).0) (looked_wide (looks_in ls d) (looks_in ms d) (looks_in ns d) (looks_later ls ms q d) k)
 
 -- one channel more was looked at
 module _ (hold : Bool) (ls ms ns : List Lane) (i : ℕ) (q : AreQuiet ls ms)
-    (others : (d : ℕ) → d ≢ i → (seen_in ns d ≡ seen_in ms d) × (at_of (λ lane. lane.ended) false ns d ≡ at_of (λ lane. lane.ended) false ms d)) where
+    (others : (d : ℕ) → d ≢ i → (looks_in ns d ≡ looks_in ms d) × (at_of (λ lane. lane.ended) false ns d ≡ at_of (λ lane. lane.ended) false ms d)) where
   pub looked_more : ((d : ℕ) → d < i → HasLooked hold (account_of ls) ls ms d) → HasLooked hold (account_of ms) ms ns i → (d : ℕ) → d < i + 1 → HasLooked hold (account_of ls) ls ns d
   looked_more below here d low = dite (ℕ_discrete d i)
       (λ is. subst (λ d. HasLooked hold (account_of ls) ls ns d) (sym is) (looked_through hold ls ms ns ns q (λ d. (refl, refl)) i here))
-      (λ ne. λ free may still. subst (λ z. Looked (seen_in ls d) z) (sym (others d ne).0) (below d (lower d i low ne) free may (sym (others d ne).1 ∙ still)))
+      (λ ne. λ free may still. subst (λ z. Looked (looks_in ls d) z) (sym (others d ne).0) (below d (lower d i low ne) free may (sym (others d ne).1 ∙ still)))
     where
       lower : (c i : ℕ) → c < i + 1 → c ≢ i → c < i
       lower c i low ne = omega (arith, ne)

@@ -1,31 +1,30 @@
 -- What a turn makes of the gate's pass.
-use Rattle.std.proofs.Common.{◌≡◌, ◌≢◌, inl, inr, ℕ, zero, suc, ◌+◌, ◌<◌, Bool, true, false, cond, eqb, drop, List, [], ◌∷◌, ◌++◌, map, length, Some, None, refl, sym, ap, subst, ◌∙◌, append_assoc, append-nil, arith}
-use Rattle.std.specs.Prelude.{option_to_list, if◌then◌else◌}
+use Rattle.std.proofs.Common.{◌≡◌, ℕ, zero, suc, ◌+◌, ◌<◌, Bool, true, false, cond, eqb, drop, List, [], ◌∷◌, ◌++◌, map, length, Some, refl, sym, ap, subst, ◌∙◌, append_assoc, append-nil, arith}
+use Rattle.std.specs.Prelude.{option_to_list, MatchBool}
 use Rattle.std.specs.List.{filter, range_with_len}
-use Rattle.std.proofs.lemmas.List.{append_cancel_left, map-append}
-use Rattle.turn_cell.specs.declared.pass.Pass.{Pass}
-use Rattle.turn_cell.specs.History.{by, entries_of, StartsWith, IsHistory}
-use Rattle.turn_cell.specs.Passes.{IsSamePass, HasEntered, HasRested, IsPassOf, number, seen, mine}
+use Rattle.std.proofs.lemmas.List.{append_cancel_left}
+use Rattle.turn_cell.specs.History.{by, entries_of, StartsWith}
+use Rattle.turn_cell.specs.Passes.{IsSamePass, HasEntered, HasRested, HasSighted, number, seen, mine, sights}
 use Rattle.flow_defs.specs.declared.parcel.Parcel.{Parcel}
 use Rattle.flow_defs.specs.declared.parcel.Parcel.TheVariants.{Data, Barrier, End}
 use Rattle.flow_defs.specs.declared.task.BarrierKind.{BarrierKind}
 use Rattle.flow_defs.specs.declared.task.BarrierKind.TheVariants.{Inline, Front}
 use Rattle.flow_defs.specs.Parcels.{barriers_of}
 use Rattle.input_channel.specs.declared.entry.ReceiveEntry.{ReceiveEntry}
-use Rattle.input_channel.specs.declared.entry.ReceiveEntry.TheVariants.{Poll, Returned, Added, Ask}
+use Rattle.input_channel.specs.declared.entry.ReceiveEntry.TheVariants.{Poll}
 use Rattle.input_channel.specs.declared.entry.Gave.{Gave}
 use Rattle.input_channel.specs.declared.held.HeldBuf.{HeldBuf}
 use Rattle.input_channel.specs.declared.polled.Polled.{Polled}
 use Rattle.input_channel.specs.declared.polled.Polled.TheVariants as answers
-use Rattle.input_channel.specs.Answers.{gave_of, given_by, IsAnswer}
+use Rattle.input_channel.specs.Answers.{given_by, IsAnswer}
 use Rattle.input_channel.specs.Inboxes.{inbox, Inbox, received_one, waiting, front_waits, due, first_barrier, poll_gives}
-use Rattle.input_channel.specs.Legal.{may_receive, ReceivedByPasses, MayReceive, polled_with, returned, asks, inline_in}
+use Rattle.input_channel.specs.Legal.{may_receive, ReceivedByPasses, polled_with, returned, asks, inline_in}
 use Rattle.input_channel.specs.States.{ChannelState, StandsFor, Allows, after}
 use Rattle.input_channel.specs.Theorems.{CallsAreLegal, CallsAddEntries, PassesAreKept, EntriesAreLegal, PollTells, GivenStays, GateTellsBuffers, BarriersComeInOrder, ArrivalsAreNumbered, AnswerIsGiven}
 use Rattle.input_channel.proofs.HistoryLemmas.{entries_of-append}
 use Rattle.input_channel.proofs.InboxLaws.{inbox-more}
 use Rattle.input_channel.proofs.KeptLemmas.{barriers_of-append}
-use Rattle.input_gate.specs.Turning.{InputPass, given_in, given_to, Fits, Looked}
+use Rattle.input_gate.specs.Turning.{InputPass, IsLater, given_in, given_to, looks_of, Fits, NoFront, Looked}
 
 -- ---- histories
 
@@ -53,6 +52,12 @@ starts_then xs ys zs h k = (h.0 ++ k.0, k.1 ∙ ap (λ l. l ++ k.0) h.1 ∙ appe
 pub starts_refl : {A : Type 0} (xs : List A) → StartsWith xs xs
 starts_refl xs = ([], sym (append-nil xs))
 
+pub later_refl : (p : InputPass) → IsLater p p
+later_refl p = (starts_refl (seen p), starts_refl (sights p))
+
+pub later_then : (p q r : InputPass) → IsLater p q → IsLater q r → IsLater p r
+later_then p q r h k = (starts_then (seen p) (seen q) (seen r) h.0 k.0, starts_then (sights p) (sights q) (sights r) h.1 k.1)
+
 -- Others' turns give nothing.
 pub same_given : (stays : GivenStays) (before turn : List (ℕ × ReceiveEntry)) (own : List ReceiveEntry) →
     ReceivedByPasses turn → by 0 before ≡ own → by 0 turn ≡ own → StartsWith turn before → given_in turn ≡ given_in before
@@ -75,6 +80,7 @@ pub record Begun (p t : InputPass) (state : ChannelState) : Type 0 where
   pub first : number p ≡ 0
   pub same : IsSamePass p t
   pub later : StartsWith (seen t) (seen p)
+  pub looked : HasSighted p t
   pub own_before : by (number p) (seen p) ≡ mine p
   pub own : by (number t) (seen t) ≡ mine t
   pub stands : StandsFor state (seen t)
@@ -93,11 +99,11 @@ module _ (p t : InputPass) (state : ChannelState) (b : Begun p t state) where
       subst (λ m. StandsFor new (seen t ++ (m, e) ∷ [])) (sym (b.same.0 ∙ b.first))
       (subst (λ c. StandsFor c (seen t ++ (0, e) ∷ [])) (sym made) (adds old (seen t) 0 e s (may, legal old (seen t) e s allows)))
 
-  pub more : (q : InputPass) (e : ReceiveEntry) → HasEntered e t q → StartsWith (seen q) (seen p)
-  more q e h = starts_more (seen p) (seen t) (seen q) (number t, e) b.later h.1
+  pub more : (q : InputPass) (e : ReceiveEntry) → HasEntered e t q → IsLater p q
+  more q e h = (starts_more (seen p) (seen t) (seen q) (number t, e) b.later h.1, (seen t ∷ [], h.3 ∙ b.looked))
 
-  pub rested : (q : InputPass) → HasRested t q → StartsWith (seen q) (seen p)
-  rested q h = starts_same (seen p) (seen t) (seen q) b.later h.1
+  pub rested : (q : InputPass) → HasRested t q → IsLater p q
+  rested q h = (starts_same (seen p) (seen t) (seen q) b.later h.1, (seen t ∷ [], h.2 ∙ b.looked))
 
   pub mine_more : (q : InputPass) (e : ReceiveEntry) → HasEntered e t q → mine q ≡ mine p ++ e ∷ []
   mine_more q e h = h.2 ∙ ap (λ es. es ++ e ∷ []) b.same.1
@@ -173,13 +179,32 @@ pub front_due : (ps : List Parcel) → front_waits ps ≡ true → (k : ℕ) × 
 front_due ps h = let f = front_first ps h in (f.0, ap (λ b. cond b (first_barrier ps) (Rattle.input_channel.specs.Inboxes.first_parcel ps)) h ∙ f.1)
 
 -- Where the turn ended as it began, and no front barrier waited.
-pub looked : (p t q : InputPass) (state : ChannelState) → Begun p t state → HasRested t q → front_waits state.queue ≡ false → Looked (seen p) (seen q)
+pub looked : (p t q : InputPass) (state : ChannelState) → Begun p t state → HasRested t q → front_waits state.queue ≡ false → Looked (looks_of p) (looks_of q)
 looked p t q state b h none = record {
-  history = seen t;
-  later = b.later;
-  earlier = ([], h.1 ∙ sym (append-nil (seen t)));
-  no_front = ap front_waits (sym b.stands.keeps.queue) ∙ none;
+  earlier = [];
+  grew = h.2 ∙ b.looked ∙ ap (λ s. sights p ++ s ∷ []) (sym h.1);
+  no_front = ap (λ s. front_waits (waiting (inbox (entries_of s)).arrivals)) h.1 ∙ ap front_waits (sym b.stands.keeps.queue) ∙ none;
 }
+
+-- A look that took no turn.
+pub when_true : (p t : InputPass) (b : Bool) → b ≡ true → MatchBool b (HasSighted p t) (sights t ≡ sights p) → HasSighted p t
+when_true p t b is h = subst (λ z. MatchBool z (HasSighted p t) (sights t ≡ sights p)) is h
+
+pub when_false : (p t : InputPass) (b : Bool) → b ≡ false → MatchBool b (HasSighted p t) (sights t ≡ sights p) → sights t ≡ sights p
+when_false p t b is h = subst (λ z. MatchBool z (HasSighted p t) (sights t ≡ sights p)) is h
+
+module _ (p t : InputPass) (same : seen t ≡ seen p) where
+  pub later_once : HasSighted p t → IsLater p t
+  later_once s = (([], same ∙ sym (append-nil (seen p))), (seen t ∷ [], s))
+
+  pub later_same : sights t ≡ sights p → IsLater p t
+  later_same s = (([], same ∙ sym (append-nil (seen p))), ([], s ∙ sym (append-nil (sights p))))
+
+  pub looks_same : sights t ≡ sights p → looks_of t ≡ looks_of p
+  looks_same s = λ i. (same i, s i)
+
+  pub looks_once : HasSighted p t → NoFront (seen p) → Looked (looks_of p) (looks_of t)
+  looks_once s none = record { earlier = []; grew = s; no_front = subst NoFront (sym same) none }
 
 barrier_front : (k j : ℕ) (kind : BarrierKind) → Some (Barrier k kind) ≡ Some (Barrier j Front) → kind ≡ Front
 barrier_front k j kind e = cc

@@ -1,11 +1,7 @@
 -- All channels of a gate, in their order. That they are told by functions of the channel's number is this project's own choice.
 use Rattle.std.specs.Prelude.{◌≡◌, ◌≢◌, ℕ, zero, suc, ⊤, ◌<◌, ◌≤◌, Bool, true, false, List, [], ◌∷◌, map, length, Option, Some, None, Result, Ok, Err}
 use Rattle.std.specs.List.{AllByRecursion}
-use Rattle.turn_cell.specs.Passes.{seen}
-use Rattle.flow_defs.specs.declared.task.BarrierKind.{BarrierKind}
 use Rattle.flow_defs.specs.declared.task.BarrierKind.TheVariants.{Front}
-use Rattle.input_channel.specs.declared.entry.ReceiveEntry.{ReceiveEntry}
-use Rattle.input_channel.specs.declared.held.HeldBuf.{HeldBuf}
 use Rattle.input_gate.specs.declared.gate.GateItem.{GateItem}
 use Rattle.input_gate.specs.declared.gate.GateItem.TheVariants as items
 use Rattle.input_gate.specs.declared.gate.GateEnd.{GateEnd}
@@ -19,8 +15,8 @@ use Rattle.input_gate.specs.declared.rounds.Round.{Round}
 use Rattle.input_gate.specs.declared.rounds.Round.TheVariants as rounds
 use Rattle.input_gate.specs.declared.rounds.Taken.{Taken}
 use Rattle.input_gate.specs.declared.rounds.Taken.TheVariants as takes
-use Rattle.input_gate.specs.Gates.{Told, Account, Gave, Ended, IsFree, AllOver}
-use Rattle.input_gate.specs.Turning.{InputCell, InputPass, Looked}
+use Rattle.input_gate.specs.Gates.{Account, Gave, Ended, IsFree}
+use Rattle.input_gate.specs.Turning.{InputCell, InputPass, Looks, looks_of, Looked}
 use Rattle.input_gate.specs.Lanes.{IsLane, IsQuiet, told_by, barriers_by, resumed_by, left_of}
 
 -- What is kept of each fits what its pass tells.
@@ -58,9 +54,9 @@ cells_in lanes = map (λ lane. lane.cell.now) lanes
 abbrev pub passes_in : List Lane → List InputPass
 passes_in lanes = map (λ lane. lane.pass) lanes
 
--- What the pass of a channel has seen.
-abbrev pub seen_in : List Lane → ℕ → List (ℕ × ReceiveEntry)
-seen_in lanes c = at_of (λ lane. seen lane.pass) [] lanes c
+-- What the pass of a channel has seen, and its looks.
+abbrev pub looks_in : List Lane → ℕ → Looks
+looks_in lanes c = at_of (λ lane. looks_of lane.pass) ([], []) lanes c
 
 -- No buffer is out that was polled.
 abbrev pub HaveNoSpare : List Lane → Type 0
@@ -102,7 +98,7 @@ LookedAt hold c before (Some k) after = Gave (account_of before) (account_of aft
 
 -- Where a barrier of the channel may be given and its end was not polled, there was a look between that found no front barrier.
 abbrev pub HasLooked : Bool → Account → List Lane → List Lane → ℕ → Type 0
-HasLooked hold gate before after c = IsFree gate c → MayGive hold gate c → at_of (λ lane. lane.ended) false after c ≡ false → Looked (seen_in before c) (seen_in after c)
+HasLooked hold gate before after c = IsFree gate c → MayGive hold gate c → at_of (λ lane. lane.ended) false after c ≡ false → Looked (looks_in before c) (looks_in after c)
 
 -- ---- what a round gave
 

@@ -1,8 +1,5 @@
 -- One channel of a gate, with what was polled there and not given. What a gate keeps of a channel is this project's own choice.
 use Rattle.std.specs.Prelude.{◌≡◌, ℕ, suc, ◌+◌, ◌<◌, Bool, true, false, List, [], ◌∷◌, ◌++◌, length, Option, Some, None, IfSome, IsSomeAnd, Result, Ok, Err}
-use Rattle.turn_cell.specs.declared.cell.TurnCell.{TurnCell}
-use Rattle.turn_cell.specs.declared.pass.Pass.{Pass}
-use Rattle.turn_cell.specs.History.{StartsWith}
 use Rattle.turn_cell.specs.Passes.{IsPassOf, opened_with, seen, mine}
 use Rattle.flow_defs.specs.Items.{Items}
 use Rattle.flow_defs.specs.declared.parcel.Parcel.{Parcel}
@@ -24,8 +21,8 @@ use Rattle.input_gate.specs.declared.lane.LaneFault.TheVariants.{Memory, TooLong
 use Rattle.input_gate.specs.declared.lane.LaneStep.{LaneStep}
 use Rattle.input_gate.specs.declared.lane.LaneStep.TheVariants.{Nothing, Found, Barrier}
 use Rattle.input_gate.specs.declared.lender.Lender.{Lender}
-use Rattle.input_gate.specs.Gates.{Told, Line, Stop}
-use Rattle.input_gate.specs.Turning.{InputPass, IsGatePass, IsEven, given_to}
+use Rattle.input_gate.specs.Gates.{Told, Stop}
+use Rattle.input_gate.specs.Turning.{InputPass, IsGatePass, IsEven, IsLater, NoFront, given_to}
 use Rattle.input_gate.specs.Told.{told, IsRead}
 
 -- ---- the gate's pool
@@ -87,12 +84,13 @@ pub record IsLane (size : ℕ) (lane : Lane) : Type 0 where
   pub even : IsEven (mine lane.pass ++ due_back lane.spare)
   pub spare_size : IfSome lane.spare (λ buf. length buf.segment ≡ size)
   pub short : IfSome lane.ready (λ line. IsShort line.items)
+  pub clear_is : lane.clear ≡ true → NoFront (seen lane.pass)
 
 -- ---- what a step makes of it
 
 -- The pass took turns that gave nothing.
 pub record IsIdle (p q : InputPass) : Type 0 where
-  pub later : StartsWith (seen q) (seen p)
+  pub later : IsLater p q
   pub given : given_to q ≡ given_to p
   pub asked : asks (mine q) ≡ asks (mine p)
   pub even : IsEven (mine p) → IsEven (mine q)
@@ -100,7 +98,7 @@ pub record IsIdle (p q : InputPass) : Type 0 where
 -- Nothing was given.
 pub record IsQuiet (a b : Lane) : Type 0 where
   pub cell : b.cell ≡ a.cell
-  pub later : StartsWith (seen b.pass) (seen a.pass)
+  pub later : IsLater a.pass b.pass
   pub told : told_by b ≡ told_by a
   pub barriers : barriers_by b ≡ barriers_by a
   pub resumed : resumed_by b ≡ resumed_by a
@@ -109,7 +107,7 @@ pub record IsQuiet (a b : Lane) : Type 0 where
 -- This was given of a channel that no inline barrier blocked.
 pub record Gives (a b : Lane) (more : List Told) (barriers : List (ℕ × BarrierKind)) : Type 0 where
   pub cell : b.cell ≡ a.cell
-  pub later : StartsWith (seen b.pass) (seen a.pass)
+  pub later : IsLater a.pass b.pass
   pub free : a.blocked ≡ false
   pub told : told_by b ≡ told_by a ++ more
   pub barriers_are : barriers_by b ≡ barriers_by a ++ barriers

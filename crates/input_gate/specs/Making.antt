@@ -14,6 +14,7 @@ pub record IsFreshLane (cell : InputCell) (pass : InputPass) (lane : Lane) : Typ
   pub barriers_are : lane.barriers ≡ 0
   pub blocked_is : lane.blocked ≡ false
   pub ended_is : lane.ended ≡ false
+  pub clear_is : lane.clear ≡ false
 
 -- One of each cell, with its pass.
 abbrev pub AreFreshLanes : List InputCell → List InputPass → List Lane → Type 0

@@ -1,16 +1,10 @@
 -- What contracts see of a gate over cells. That a gate has a cell for each channel, one for its pool and one for what stops all workers is
 -- this project's own choice.
-use Rattle.std.specs.Prelude.{◌≡◌, ◌≢◌, ℕ, ◌<◌, ◌^◌, Bool, true, false, List, [], length, All, Option, Some, None, Result, Ok, Err, IsSomeAnd, IfSome}
-use Rattle.turn_cell.specs.declared.cell.TurnCell.{TurnCell}
-use Rattle.turn_cell.specs.declared.pass.Pass.{Pass}
-use Rattle.turn_cell.specs.Passes.{IsPassOf, opened_with, number, seen, mine}
-use Rattle.segment_pool.specs.declared.pool.Pool.{Pool}
-use Rattle.segment_pool.specs.Pools.{size_of}
-use Rattle.local_pool.specs.declared.held.HeldPool.{HeldPool}
-use Rattle.local_pool.specs.declared.held.NoEntry.{NoEntry}
-use Rattle.local_pool.specs.Helds.{pool_of}
+use Rattle.std.specs.Prelude.{◌≡◌, ℕ, ◌<◌, ◌^◌, Bool, false, List, [], length}
+use Rattle.turn_cell.specs.Passes.{IsPassOf, number, mine}
+pub use Rattle.local_pool.specs.Lending.{PoolCell, PoolPass}
 use Rattle.flow_defs.specs.declared.parcel.Parcel.{Parcel}
-use Rattle.conn_parts.specs.Shares.{AreOwn, AreNew, seen_at, mine_at}
+use Rattle.conn_parts.specs.Shares.{seen_at, mine_at}
 use Rattle.conn_parts.specs.Stopping.{StopCell, StopPass}
 use Rattle.input_channel.specs.Legal.{polled_with, returned}
 use Rattle.input_gate.specs.declared.gate.GateItem.{GateItem}
@@ -19,16 +13,9 @@ use Rattle.input_gate.specs.declared.lane.Lane.{Lane}
 use Rattle.input_gate.specs.declared.lender.Lender.{Lender}
 use Rattle.input_gate.specs.declared.passes.GateEnds.{GateEnds}
 use Rattle.input_gate.specs.Gates.{Account, IsFree}
-use Rattle.input_gate.specs.Turning.{InputCell, InputPass, Looked, given_in}
+use Rattle.input_gate.specs.Turning.{InputCell, InputPass, Looked, looks_at, given_in}
 use Rattle.input_gate.specs.Lanes.{IsLender, lent_size}
 use Rattle.input_gate.specs.Channels.{AreLanes, account_of, cells_in, passes_in, MayGive}
-
--- The cell of the gate's pool, and a pass of it.
-abbrev pub PoolCell : Type 0
-PoolCell = TurnCell HeldPool NoEntry (Pool × ℕ)
-
-abbrev pub PoolPass : Type 0
-PoolPass = Pass HeldPool NoEntry (Pool × ℕ)
 
 -- The channels, the pool, and the cell that stops all workers, with the gate's pass of it.
 pub record GateState : Type 0 where
@@ -63,11 +50,11 @@ given_at gate c = given_in (seen_at c (passes_of gate))
 abbrev pub AllCameBack : GateState → Type 0
 AllCameBack gate = (c : ℕ) (exclusive : Bool) → returned exclusive (mine_at c (passes_of gate)) ≡ polled_with exclusive (mine_at c (passes_of gate))
 
--- Before a line is given there was, in the same call, a turn of each channel at which no front barrier waited. None was needed where no
+-- Before a line is given each channel was looked at in the same call, and its last look found no front barrier. None was needed where no
 -- barrier of the channel may be given, or its end was polled.
 abbrev pub LookedFirst : Bool → GateState → GateState → GateItem → Type 0
 LookedFirst hold before after (items.Line c line) = (d : ℕ) → d < (account_in before).channels → IsFree (account_in before) d → MayGive hold (account_in before) d →
-    (account_in after).ended d ≡ false → Looked (seen_at d (passes_of before)) (seen_at d (passes_of after))
+    (account_in after).ended d ≡ false → Looked (looks_at d (passes_of before)) (looks_at d (passes_of after))
 LookedFirst hold before after (items.Barrier c k kind) = Unit {0}
 LookedFirst hold before after items.AllEnded = Unit {0}
 

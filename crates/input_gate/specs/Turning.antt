@@ -1,14 +1,13 @@
 -- What a turn of a gate at a channel does to its pass. Polls, and buffers that come back, are those of Flink's input channels; that they are
 -- told by the pass's own lists is this project's own choice.
-use Rattle.std.specs.Prelude.{◌≡◌, ◌≢◌, ℕ, suc, Bool, true, false, List, [], ◌∷◌, ◌++◌, length, Option, Some, None}
+use Rattle.std.specs.Prelude.{◌≡◌, ℕ, zero, suc, Bool, false, List, [], ◌∷◌, ◌++◌, length}
 use Rattle.turn_cell.specs.declared.cell.TurnCell.{TurnCell}
 use Rattle.turn_cell.specs.declared.pass.Pass.{Pass}
 use Rattle.turn_cell.specs.History.{StartsWith, entries_of}
-use Rattle.turn_cell.specs.Passes.{IsPassOf, number, seen, mine}
+use Rattle.turn_cell.specs.Passes.{IsPassOf, number, seen, sights}
 use Rattle.flow_defs.specs.declared.parcel.Parcel.{Parcel}
 use Rattle.flow_defs.specs.Parcels.{barriers_of}
 use Rattle.input_channel.specs.declared.entry.ReceiveEntry.{ReceiveEntry}
-use Rattle.input_channel.specs.declared.held.HeldBuf.{HeldBuf}
 use Rattle.input_channel.specs.declared.polled.Polled.{Polled}
 use Rattle.input_channel.specs.declared.polled.Polled.TheVariants.{Buffer, Barrier, End, Empty, Held}
 use Rattle.input_channel.specs.Inboxes.{inbox, waiting, front_waits}
@@ -33,12 +32,31 @@ given_to pass = given_in (seen pass)
 abbrev pub IsGatePass : InputCell → InputPass → Type 0
 IsGatePass cell pass = IsPassOf cell pass × (number pass ≡ 0)
 
--- Between these two histories there is one at whose end no front barrier was the first barrier that waited.
-pub record Looked (before after : List (ℕ × ReceiveEntry)) : Type 0 where
-  pub history : List (ℕ × ReceiveEntry)
-  pub later : StartsWith history before
-  pub earlier : StartsWith after history
-  pub no_front : front_waits (waiting (inbox (entries_of history)).arrivals) ≡ false
+-- What a pass has seen, and what it saw at each of its looks.
+abbrev pub Looks : Type 0
+Looks = List (ℕ × ReceiveEntry) × List (List (ℕ × ReceiveEntry))
+
+abbrev pub looks_of : InputPass → Looks
+looks_of pass = (seen pass, sights pass)
+
+abbrev pub looks_at : ℕ → List InputPass → Looks
+looks_at c [] = ([], [])
+looks_at zero (pass ∷ passes) = looks_of pass
+looks_at (suc c) (pass ∷ passes) = looks_at c passes
+
+-- At the end of this history no front barrier is the first barrier that waits.
+abbrev pub NoFront : List (ℕ × ReceiveEntry) → Type 0
+NoFront history = front_waits (waiting (inbox (entries_of history)).arrivals) ≡ false
+
+-- The pass has looked since then, and the last of these looks saw what the pass has seen now. There no front barrier was the first barrier that waited.
+pub record Looked (before after : Looks) : Type 0 where
+  pub earlier : List (List (ℕ × ReceiveEntry))
+  pub grew : after.1 ≡ before.1 ++ (earlier ++ after.0 ∷ [])
+  pub no_front : NoFront after.0
+
+-- The pass has seen what it had seen, or more, and looked as often as it had, or more often.
+abbrev pub IsLater : InputPass → InputPass → Type 0
+IsLater before after = StartsWith (seen after) (seen before) × StartsWith (sights after) (sights before)
 
 -- Of each kind of buffers as many came back as polls gave.
 abbrev pub IsEven : List ReceiveEntry → Type 0

@@ -31,8 +31,9 @@ use turn_cell::{Pass, TurnCell};
 /// A gate over the cells of its channels. It takes round robin: of each channel a line, and where none is
 /// there it polls.
 ///
-/// Contracts see it as a `GateState`. A line that is whole costs one turn at each channel, of which a
-/// barrier may be given; a buffer costs two, and two for each floating segment that its channel is given.
+/// Contracts see it as a `GateState`. A line that is whole costs one look at each channel of which a
+/// barrier may be given: a load where nothing came since the look before, and else a turn. A buffer costs
+/// two turns, and two for each floating segment that its channel is given.
 #[derive(Drop)]
 pub struct CellGate<'a, 'p> {
     lanes: Vec<Lane<'a>>,
@@ -87,6 +88,7 @@ fn deal_lanes<'a>(
             barriers: 0,
             blocked: false,
             ended: false,
+            clear: false,
         };
         let Ok(()) = lanes.push(lane) else {
             unreachable!()

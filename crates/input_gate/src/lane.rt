@@ -1,18 +1,18 @@
 // One channel of a gate.
 ghost use Rattle.std.specs.Prelude.{◌≡◌, ◌⊎◌, [], ◌∷◌, ◌++◌, true, false, None, IsSome, IfNone, IfOk, IfErr, OnOk, OnErr, MatchBool, MatchOption};
-ghost use Rattle.turn_cell.specs.Passes.{opened_with, seen};
+ghost use Rattle.turn_cell.specs.Passes.{opened_with};
 ghost use Rattle.flow_defs.specs.declared.task.BarrierKind.TheVariants.{Front};
 ghost use Rattle.record_spans.specs.Spans.{HasNoRecord};
 ghost use Rattle.flow_defs.specs.Records.{IsShort};
 ghost use Rattle.input_channel.specs.Contents.{content};
 ghost use Rattle.input_gate.specs.Gates.{Line};
-ghost use Rattle.input_gate.specs.Turning.{IsGatePass, Looked};
+ghost use Rattle.input_gate.specs.Turning.{IsGatePass, Looked, looks_of};
 ghost use Rattle.input_gate.specs.Lanes.{IsLane, IsLender, lent_size, IsIdle, IsQuiet, Gives, GivesBarrier, IsFault, IsResumed, Stepped, Came, left_of};
 
 use crate::lender::{Lender, give, request};
 use crate::passes::{InputCell, InputPass};
 use crate::rest::rest_len;
-use crate::turns::{add_in_turn, ask_in_turn, poll_in_turn, return_in_turn, take_front};
+use crate::turns::{add_in_turn, ask_in_turn, find_front, poll_in_turn, return_in_turn};
 use flow_defs::{BarrierKind, Bytes};
 use input_channel::{HeldBuf, Polled};
 use record_spans::{NextFault, Reader};
@@ -35,6 +35,8 @@ pub(crate) struct Lane<'a> {
     pub(crate) blocked: bool,
     /// Whether the end was polled.
     pub(crate) ended: bool,
+    /// Whether it is known that no front barrier waited at the end of what the pass has seen.
+    pub(crate) clear: bool,
 }
 
 /// Why a channel gives nothing: want of memory, a length that is no record's, or an end in the middle of
@@ -111,6 +113,7 @@ pub(crate) fn refill<R: Wait>(
             return Err(fault);
         }
     }
+    lane.clear = false;
     let (free, wants) = return_in_turn(rt, lane.cell, &mut lane.pass, buf);
     if let Some(segment) = free {
         give(rt, lender, segment);
@@ -166,6 +169,7 @@ fn poll_lane<R: Wait>(rt: &R, lane: &mut Lane<'_>, hold: bool) -> LaneStep
     ensures came { Stepped hold lane.old result lane.new }
     ensures spare { (result ≡ LaneStep.Found) ⊎ (lane.new.spare ≡ None) }
 {
+    lane.clear = false;
     match poll_in_turn(rt, lane.cell, &mut lane.pass, hold) {
         Polled::Buffer(buf) => {
             lane.spare = Some(buf);
@@ -240,22 +244,27 @@ pub(crate) fn step<R: Wait>(
     }
 }
 
-/// Takes the first barrier that waits, where that is front, in one turn. Else it only looks.
+/// Takes the first barrier that waits, where that is front, in one turn. Else it only looks, by one load
+/// where no front barrier waited before and nothing came since.
 pub(crate) fn look<R: Wait>(rt: &R, lane: &mut Lane<'_>) -> Option<u64>
     requires lane { (size : _) × IsLane size lane.old }
     requires free { lane.old.blocked ≡ false }
     requires spare { lane.old.spare ≡ None }
     ensures lane { (size : _) → IsLane size lane.old → IsLane size lane.new }
     ensures given { MatchOption result (IsQuiet lane.old lane.new) (λ k. GivesBarrier false lane.old lane.new k Front) }
-    ensures looked { IfNone result (Looked (seen lane.old.pass) (seen lane.new.pass)) }
+    ensures looked { IfNone result (Looked (looks_of lane.old.pass) (looks_of lane.new.pass)) }
     ensures same { (lane.new.spare ≡ lane.old.spare) × (lane.new.ended ≡ lane.old.ended) }
 {
-    match take_front(rt, lane.cell, &mut lane.pass) {
+    match find_front(rt, lane.cell, &mut lane.pass, lane.clear) {
         Some(k) => {
             lane.barriers = k;
+            lane.clear = false;
             Some(k)
         }
-        None => None,
+        None => {
+            lane.clear = true;
+            None
+        }
     }
 }
 
@@ -267,6 +276,7 @@ pub(crate) fn go_on<R: Wait>(rt: &R, lane: &mut Lane<'_>)
     ensures resumed { IsResumed lane.old lane.new }
     ensures spare { lane.new.spare ≡ lane.old.spare }
 {
+    lane.clear = false;
     ask_in_turn(rt, lane.cell, &mut lane.pass);
     lane.blocked = false;
 }

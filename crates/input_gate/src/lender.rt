@@ -2,7 +2,7 @@
 ghost use Rattle.std.specs.Prelude.{◌≡◌, length, IfSome};
 ghost use Rattle.input_gate.specs.Lanes.{IsLender, lent_size};
 
-use local_pool::HeldPool;
+use local_pool::{HeldPool, give_in_turn, request_in_turn};
 use segment_pool::Segment;
 use std::sync::Wait;
 use turn_cell::{Pass, TurnCell};
@@ -23,9 +23,7 @@ pub(crate) fn request<R: Wait>(rt: &R, lender: &mut Lender<'_, '_>) -> Option<Se
     let Some(pass) = lender.pass.take() else {
         unreachable!()
     };
-    let (mut pool, turn) = lender.cell.enter_owned(rt, pass);
-    let segment = pool.request(rt);
-    let pass = turn.leave_as_is(pool);
+    let (pass, segment) = request_in_turn(rt, lender.cell, pass);
     lender.pass = Some(pass);
     segment
 }
@@ -39,10 +37,5 @@ pub(crate) fn give<R: Wait>(rt: &R, lender: &mut Lender<'_, '_>, segment: Segmen
     let Some(pass) = lender.pass.take() else {
         unreachable!()
     };
-    let (mut pool, turn) = lender.cell.enter_owned(rt, pass);
-    if pool.lent() > 0 {
-        pool.give(rt, segment);
-    }
-    let pass = turn.leave_as_is(pool);
-    lender.pass = Some(pass);
+    lender.pass = Some(give_in_turn(rt, lender.cell, pass, segment));
 }

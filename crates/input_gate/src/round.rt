@@ -1,11 +1,11 @@
 // Steps at one channel of a gate.
 ghost use Rattle.std.specs.Prelude.{◌≡◌, ◌≢◌, ◌<◌, ◌≤◌, ◌^◌, ℕ, suc, true, false, [], ◌∷◌, length, Ok, None, IfOk, IfErr, IfSome, IfNone, OnOk, OnErr, MatchOption};
-ghost use Rattle.turn_cell.specs.Passes.{seen};
+ghost use Rattle.input_gate.specs.Turning.{looks_of};
 ghost use Rattle.input_gate.specs.declared.gate.GateItem.TheVariants as items;
 ghost use Rattle.input_gate.specs.Gates.{Gave, GaveOf, AllOver, Line, Ended, Resumed, stops_in};
 ghost use Rattle.flow_defs.specs.Records.{IsShort};
 ghost use Rattle.input_gate.specs.Lanes.{IsLender, lent_size};
-ghost use Rattle.input_gate.specs.Channels.{AreLanes, AreQuiet, HaveNoSpare, account_of, cells_in, passes_in, seen_in, at_of, IsMost, MayGive, CameAt, LookedAt, HasLooked, end_of};
+ghost use Rattle.input_gate.specs.Channels.{AreLanes, AreQuiet, HaveNoSpare, account_of, cells_in, passes_in, looks_in, at_of, IsMost, MayGive, CameAt, LookedAt, HasLooked, end_of};
 
 use crate::gate::GateEnd;
 use crate::lane::{
@@ -62,7 +62,7 @@ pub(crate) fn line_at(lanes: &mut Vec<Lane<'_>>, at: usize) -> Option<Bytes>
     ensures lanes { (size : ℕ) → AreLanes size lanes.old.items → AreLanes size lanes.new.items }
     ensures given { MatchOption result (AreQuiet lanes.old.items lanes.new.items) (λ line. GaveOf (account_of lanes.old.items) (account_of lanes.new.items) at (Line line.items ∷ []) [] × IsShort line.items) }
     ensures cells { cells_in lanes.new.items ≡ cells_in lanes.old.items }
-    ensures same { (d : ℕ) → (seen_in lanes.new.items d ≡ seen_in lanes.old.items d) × (at_of (λ lane. lane.ended) false lanes.new.items d ≡ at_of (λ lane. lane.ended) false lanes.old.items d) }
+    ensures same { (d : ℕ) → (looks_in lanes.new.items d ≡ looks_in lanes.old.items d) × (at_of (λ lane. lane.ended) false lanes.new.items d ≡ at_of (λ lane. lane.ended) false lanes.old.items d) }
     ensures spare { HaveNoSpare lanes.new.items }
 {
     if lanes[at].blocked {
@@ -124,7 +124,7 @@ pub(crate) fn look_at<R: Wait>(
     ensures came { LookedAt hold at lanes.old.items result lanes.new.items }
     ensures cells { cells_in lanes.new.items ≡ cells_in lanes.old.items }
     ensures looked { IfNone result (HasLooked hold (account_of lanes.old.items) lanes.old.items lanes.new.items at) }
-    ensures others { (d : ℕ) → d ≢ at → (seen_in lanes.new.items d ≡ seen_in lanes.old.items d) × (at_of (λ lane. lane.ended) false lanes.new.items d ≡ at_of (λ lane. lane.ended) false lanes.old.items d) }
+    ensures others { (d : ℕ) → d ≢ at → (looks_in lanes.new.items d ≡ looks_in lanes.old.items d) × (at_of (λ lane. lane.ended) false lanes.new.items d ≡ at_of (λ lane. lane.ended) false lanes.old.items d) }
     ensures spare { HaveNoSpare lanes.new.items }
 {
     let lane = &lanes[at];

@@ -1,7 +1,6 @@
 // Turns of a gate at the cell of a channel.
-ghost use Rattle.std.specs.Prelude.{◌≡◌, ◌<◌, suc, false, [], ◌∷◌, ◌++◌, length, IfSome, IfNone, MatchOption};
+ghost use Rattle.std.specs.Prelude.{◌≡◌, ◌<◌, suc, true, false, [], ◌∷◌, ◌++◌, length, IfSome, IfNone, MatchOption};
 ghost use Rattle.std.specs.Option.{option_to_list};
-ghost use Rattle.turn_cell.specs.History.{StartsWith};
 ghost use Rattle.turn_cell.specs.Passes.{IsPassOf, IsTurnOf, HasEntered, opened_with, mine, number, seen};
 ghost use Rattle.flow_defs.specs.declared.task.BarrierKind.TheVariants.{Front};
 ghost use Rattle.flow_defs.specs.declared.parcel.Parcel.TheVariants as parcels;
@@ -11,7 +10,7 @@ ghost use Rattle.input_channel.specs.declared.entry.ReceiveEntry.TheVariants.{Po
 ghost use Rattle.input_channel.specs.Answers.{gave_of, given_by};
 ghost use Rattle.input_channel.specs.Legal.{polled_with, returned, asks, inline_in};
 ghost use Rattle.input_channel.specs.States.{StandsFor};
-ghost use Rattle.input_gate.specs.Turning.{IsGatePass, Fits, given_to, Looked};
+ghost use Rattle.input_gate.specs.Turning.{IsGatePass, IsLater, Fits, Looked, NoFront, given_to, looks_of};
 
 use crate::passes::{InputCell, InputPass};
 use input_channel::laws::{
@@ -60,7 +59,7 @@ pub(crate) fn poll_in_turn<R: Wait>(
 ) -> Polled
     requires { IsGatePass cell.now pass.old }
     ensures pass { IsGatePass cell.now pass.new }
-    ensures later { StartsWith (seen pass.new) (seen pass.old) }
+    ensures later { IsLater pass.old pass.new }
     ensures given { given_to pass.new ≡ given_to pass.old ++ option_to_list (given_by result) }
     ensures entered { mine pass.new ≡ mine pass.old ++ Poll hold (gave_of result) ∷ [] }
     ensures fits { Fits (opened_with cell.now).size hold (given_to pass.old) result }
@@ -90,7 +89,7 @@ pub(crate) fn return_in_turn<R: Wait>(
     requires size { length buf.segment ≡ (opened_with cell.now).size }
     requires out { returned buf.exclusive (mine pass.old) < polled_with buf.exclusive (mine pass.old) }
     ensures pass { IsGatePass cell.now pass.new }
-    ensures later { StartsWith (seen pass.new) (seen pass.old) }
+    ensures later { IsLater pass.old pass.new }
     ensures given { given_to pass.new ≡ given_to pass.old }
     ensures entered { mine pass.new ≡ mine pass.old ++ Returned buf.exclusive ∷ [] }
     ensures size { IfSome result.0 (λ segment. length segment ≡ (opened_with cell.now).size) }
@@ -115,7 +114,7 @@ pub(crate) fn add_in_turn<R: Wait>(
     requires pass { IsGatePass cell.now pass.old }
     requires size { length segment ≡ (opened_with cell.now).size }
     ensures pass { IsGatePass cell.now pass.new }
-    ensures later { StartsWith (seen pass.new) (seen pass.old) }
+    ensures later { IsLater pass.old pass.new }
     ensures given { given_to pass.new ≡ given_to pass.old }
     ensures added { MatchOption result (mine pass.new ≡ mine pass.old ++ Added ∷ []) (λ back. (mine pass.new ≡ mine pass.old) × (back ≡ segment)) }
 {
@@ -136,7 +135,7 @@ pub(crate) fn ask_in_turn<R: Wait>(rt: &R, cell: &InputCell, pass: &mut InputPas
     requires pass { IsGatePass cell.now pass.old }
     requires owed { asks (mine pass.old) < inline_in (given_to pass.old) }
     ensures pass { IsGatePass cell.now pass.new }
-    ensures later { StartsWith (seen pass.new) (seen pass.old) }
+    ensures later { IsLater pass.old pass.new }
     ensures given { given_to pass.new ≡ given_to pass.old }
     ensures entered { mine pass.new ≡ mine pass.old ++ Ask ∷ [] }
 {
@@ -152,11 +151,11 @@ pub(crate) fn ask_in_turn<R: Wait>(rt: &R, cell: &InputCell, pass: &mut InputPas
 pub(crate) fn take_front<R: Wait>(rt: &R, cell: &InputCell, pass: &mut InputPass) -> Option<u64>
     requires { IsGatePass cell.now pass.old }
     ensures pass { IsGatePass cell.now pass.new }
-    ensures later { StartsWith (seen pass.new) (seen pass.old) }
+    ensures later { IsLater pass.old pass.new }
     ensures given { MatchOption result (given_to pass.new ≡ given_to pass.old) (λ k. given_to pass.new ≡ given_to pass.old ++ parcels.Barrier k Front ∷ []) }
     ensures entered { MatchOption result (mine pass.new ≡ mine pass.old) (λ k. mine pass.new ≡ mine pass.old ++ Poll false NoBuffer ∷ []) }
     ensures numbered { IfSome result (λ k. k ≡ suc (length (barriers_of (given_to pass.old)))) }
-    ensures looked { IfNone result (Looked (seen pass.old) (seen pass.new)) }
+    ensures looked { IfNone result (Looked (looks_of pass.old) (looks_of pass.new)) }
 {
     let mut turn = cell.enter(rt, pass);
     channels_stand_for_histories();
@@ -181,4 +180,30 @@ pub(crate) fn take_front<R: Wait>(rt: &R, cell: &InputCell, pass: &mut InputPass
         Polled::Empty => unreachable!(),
         Polled::Held => unreachable!(),
     }
+}
+
+/// The same. Where it is `clear` that no front barrier waited at the end of what the pass has seen, and
+/// nothing came since, one load is the look, and no turn is taken.
+pub(crate) fn find_front<R: Wait>(
+    rt: &R,
+    cell: &InputCell,
+    pass: &mut InputPass,
+    clear: bool,
+) -> Option<u64>
+    requires pass { IsGatePass cell.now pass.old }
+    requires clear { clear ≡ true → NoFront (seen pass.old) }
+    ensures pass { IsGatePass cell.now pass.new }
+    ensures later { IsLater pass.old pass.new }
+    ensures given { MatchOption result (given_to pass.new ≡ given_to pass.old) (λ k. given_to pass.new ≡ given_to pass.old ++ parcels.Barrier k Front ∷ []) }
+    ensures entered { MatchOption result (mine pass.new ≡ mine pass.old) (λ k. mine pass.new ≡ mine pass.old ++ Poll false NoBuffer ∷ []) }
+    ensures numbered { IfSome result (λ k. k ≡ suc (length (barriers_of (given_to pass.old)))) }
+    ensures looked { IfNone result (Looked (looks_of pass.old) (looks_of pass.new)) }
+{
+    if !clear {
+        return take_front(rt, cell, pass);
+    }
+    if cell.is_current(pass) {
+        return None;
+    }
+    take_front(rt, cell, pass)
 }

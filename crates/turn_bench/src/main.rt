@@ -1,5 +1,6 @@
 //! Takes turns at turn cells for bench/turns to time: `one N` by one thread alone, `two N` by each of
 //! two threads at one cell, `crowd N` by each of sixteen, at a cell of its own and at one that all share.
+//! `rest N` is turns with no entry by one thread alone, and `look N` looks with no turn.
 #![tactic(auto)]
 
 use std::alloc::Global;
@@ -7,7 +8,7 @@ use std::process::ExitCode;
 use std::sync::Wait;
 use std::thread::Threads;
 use std::{env, io};
-use turn_tests::{add_by_one, add_by_two, add_in_crowd};
+use turn_tests::{add_by_one, add_by_two, add_in_crowd, look_alone, rest_alone};
 
 fn take_turns<R: Threads + Wait + Sync>(
     rt: &R,
@@ -18,6 +19,8 @@ fn take_turns<R: Threads + Wait + Sync>(
     match way {
         "one" => add_by_one(rt, alloc, times),
         "two" => add_by_two(rt, alloc, times),
+        "look" => look_alone(alloc, times),
+        "rest" => rest_alone(rt, alloc, times),
         "crowd" => add_in_crowd(rt, alloc, 16, times),
         _ => None,
     }

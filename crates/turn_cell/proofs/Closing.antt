@@ -11,9 +11,9 @@ use Rattle.turn_cell.specs.declared.rule.View.{View}
 use Rattle.turn_cell.specs.declared.rule.Past.{Past}
 use Rattle.turn_cell.specs.declared.rule.Opening.{Opening}
 use Rattle.turn_cell.specs.declared.rule.Stage.TheVariants.{Away, Turns}
-use Rattle.turn_cell.specs.History.{by, StartsWith}
+use Rattle.turn_cell.specs.History.{by, StartsWith, told, seen_by}
 use Rattle.turn_cell.specs.Rule.{Has, total, is_number, ticket_of, bears, turning, IsGood, Home, Kept}
-use Rattle.turn_cell.specs.Passes.{IsPassOf, number, seen, mine, passes_of}
+use Rattle.turn_cell.specs.Passes.{IsPassOf, number, seen, mine, sights, passes_of}
 use Rattle.turn_cell.specs.Closing.{AreAll, IsWhole}
 use Rattle.turn_cell.specs.Steps.{IsIdle, IsAsBefore, gathered, past_of}
 use Rattle.turn_cell.proofs.Lists.{same_number, total-has, total-some, at_end, has_at}
@@ -54,7 +54,8 @@ module _ {S E F : Type 0} (stands : S → List (ℕ × E) → Type 0) (fixed : S
 
   -- what a seat that took in all others knows at the end
   abbrev pub Ended : Opening S → V → S → Type 0
-  Ended base v x = (log : List (ℕ × E)) × IsGood stands fixed base log x × StartsWith log v.seen × (by v.number log ≡ v.mine) × ((p : Past E) → Has p v.gathered → StartsWith log p.seen × (by p.number log ≡ p.mine)) × ((k : ℕ) → base.passes ≤ k → by k log ≡ [])
+  Ended base v x = (moments : List (ℕ × Option E)) × IsGood stands fixed base (told moments) x × StartsWith (told moments) v.seen × (by v.number (told moments) ≡ v.mine)
+      × ((p : Past E) → Has p v.gathered → StartsWith (told moments) p.seen × (by p.number (told moments) ≡ p.mine) × (seen_by p.number moments ≡ p.sights)) × ((k : ℕ) → base.passes ≤ k → by k (told moments) ≡ []) × (seen_by v.number moments ≡ v.sights)
 
   closes : (id : ℕ) (v : V) (base : Opening S) (ws : List ℕ) (xs : List (Option S)) → v.live ≡ true → v.stage ≡ Away → v.about ≡ Some base
       → ((k : ℕ) → k < base.passes → 1 ≤ bears k v) → Final (Seen (Kept stands fixed) id v) ws xs → (x : S) × (get_elem? xs 0 ≡ some (Some x)) × Ended base v x
@@ -63,17 +64,17 @@ module _ {S E F : Type 0} (stands : S → List (ℕ × E) → Type 0) (fixed : S
       let some_same : (a b : Opening S) → Some a ≡ Some b → a ≡ b = λ a b e. cc in
       let is : r.base ≡ base = some_same r.base base (sym (k.about live) ∙ about) in
       let count : r.base.passes ≡ base.passes = ap (λ (o : Opening S). o.passes) is in let fits = r.fits in
-      let h : Home stands fixed r.base r.log s.homes = ⊎_elim (λ h. h) (λ (out : 1 ≤ total (λ (x : V). turning x) s.views).
+      let h : Home stands fixed r.base (told r.moments) s.homes = ⊎_elim (λ h. h) (λ (out : 1 ≤ total (λ (x : V). turning x) s.views).
       let o = total-some (λ (x : V). turning x) s.views out in let i : ℕ = o.0 in let u : V = o.1 in
       let on : u.stage ≡ Turns (ticket_of u.stage) = turn_is u.stage (turning_is u.stage o.3) in
-      let t = turns_here r.log r.drawn r.served u.live u.seen u.stage (ticket_of u.stage) on (r.each i u o.2).stage in
+      let t = turns_here (told r.moments) r.drawn r.served u.live u.seen u.stage (ticket_of u.stage) on (r.each i u o.2).stage in
       let low = (r.each i u o.2).below t.0 in
       let same : i ≡ id = one_seat stands fixed s r i id u v o.2 at t.0 (all u.number (omega arith)) in
       let eq : u ≡ v = some-injective u v (sym o.2 ∙ (ap (get_elem? s.views) same ∙ at)) in
       let no : Turns (ticket_of u.stage) ≡ Away = sym on ∙ (ap (λ (x : V). x.stage) eq ∙ away) in absurd (cc)) r.slot in (
         h.0,
         f.4 0 (Some h.0) (ap (λ l. get_elem? l 0) h.1),
-        (r.log, (h.2.0, h.2.1 ∙ ap (λ (o : Opening S). fixed o.state.value) is), k.prefix, k.mine live, λ p has. (let g = k.gone p has in (g.prefix, g.mine)), λ j m. r.numbered j (omega arith)),
+        (r.moments, (h.2.0, h.2.1 ∙ ap (λ (o : Opening S). fixed o.state.value) is), k.prefix, k.mine live, λ p has. (let g = k.gone p has in (g.prefix, g.mine, g.sights)), λ j m. (r.numbered j (omega arith)).0, k.sights live),
       )
 
   pub wholes : (cell : TurnCell S E F) (ps rest : List (Pass S E F)) (last end : Pass S E F) (seat : Seat (Option S) (View (Opening S) E)) (ws : List ℕ) (xs : List (Option S)) → ps ≡ rest ++ last ∷ [] → AreAll cell ps
@@ -87,7 +88,7 @@ module _ {S E F : Type 0} (stands : S → List (ℕ × E) → Type 0) (fixed : S
       (λ (among : get_elem? rest k ≡ some q.0). let a = total-has (λ (p : Past E). is_number k p.number) v.gathered (past_of q.0) (has q.0 (has_at rest k q.0 among)) in let b = same_number k (number q.0) (sym is) in omega arith)
       (λ (here : (k ≡ length rest) × (last ≡ q.0)). subst (λ (n : ℕ). 1 ≤ bears n v) (same.0.0 ∙ (l.1 ∙ sym here.0)) (bears_own v idle.2))
       (at k q.0 q.1) in
-      let w = closes end.seat.id v cell.table.shared.key ws xs idle.2 idle.4 idle.3 every f in let log : List (ℕ × E) = w.2.0 in
+      let w = closes end.seat.id v cell.table.shared.key ws xs idle.2 idle.4 idle.3 every f in let log : List (ℕ × E) = told w.2.0 in
       let begins : (k : ℕ) (p : Pass S E F) → get_elem? ps k ≡ some p → StartsWith log (seen p) = λ k p h. ⊎_elim
       (λ (among : get_elem? rest k ≡ some p). (w.2.4 (past_of p) (has p (has_at rest k p among))).0)
       (λ (here : (k ≡ length rest) × (last ≡ p)). subst (StartsWith log) (same.1 ∙ ap seen here.1) w.2.2)
@@ -96,6 +97,10 @@ module _ {S E F : Type 0} (stands : S → List (ℕ × E) → Type 0) (fixed : S
       (λ (among : get_elem? rest k ≡ some p). ap (λ n. by n log) (sym (all.1 k p h).1) ∙ (w.2.4 (past_of p) (has p (has_at rest k p among))).1)
       (λ (here : (k ≡ length rest) × (last ≡ p)). ap (λ n. by n log) (here.0 ∙ (sym l.1 ∙ sym same.0.0)) ∙ (w.2.3 ∙ (same.0.1 ∙ ap mine here.1)))
       (at k p h) in
+      let saw : (k : ℕ) (p : Pass S E F) → get_elem? ps k ≡ some p → seen_by k w.2.0 ≡ sights p = λ k p h. ⊎_elim
+      (λ (among : get_elem? rest k ≡ some p). ap (λ n. seen_by n w.2.0) (sym (all.1 k p h).1) ∙ (w.2.4 (past_of p) (has p (has_at rest k p among))).2)
+      (λ (here : (k ≡ length rest) × (last ≡ p)). ap (λ n. seen_by n w.2.0) (here.0 ∙ (sym l.1 ∙ sym same.0.0)) ∙ (w.2.6 ∙ (same.2 ∙ ap sights here.1)))
+      (at k p h) in
       let no_other : (k : ℕ) → length ps ≤ k → by k log ≡ [] = λ k high. w.2.5 k (let n = all.0 in omega arith) in (
         w.0,
         w.1,
@@ -103,6 +108,9 @@ module _ {S E F : Type 0} (stands : S → List (ℕ × E) → Type 0) (fixed : S
           history = log;
           stands_for = w.2.1;
           whole = record { begins = begins; own = own; no_other = no_other };
+          moments = w.2.0;
+          tells = refl;
+          saw = saw;
           weighs = λ weight. weighs mine weight log ps own no_other;
         },
       )

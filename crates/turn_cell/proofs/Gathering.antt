@@ -12,6 +12,7 @@ use Rattle.turn_cell.specs.declared.rule.Past.{Past}
 use Rattle.turn_cell.specs.declared.rule.Opening.{Opening}
 use Rattle.turn_cell.specs.declared.rule.Stage.TheVariants.{Away}
 use Rattle.turn_cell.specs.Rule.{Has, total, is_number, one_if, is_turn, tickets_of, ticket_is, weight, bears, has_ticket, at_ticket, turning, newcomer, spent, sees, past, gathering, gathers, released, but_first, maker, Stands, IsGone, Knows, Kept, met}
+use Rattle.turn_cell.specs.History.{told}
 use Rattle.turn_cell.proofs.Lists.{same_number, other_number, starts_itself, total-set, total-snoc, total-none, total-at, total-has, at_end}
 use Rattle.turn_cell.proofs.Keeps.{bears_own, changed, rearranged, one_seat}
 
@@ -29,9 +30,9 @@ module _ {S F E : Type 0} (stands : S → List (ℕ × E) → Type 0) (fixed : S
   only w zero u e = some-injective w u e
   only w (suc i) u e = absurd (some-ne-none u (sym e))
 
-  pub opens : (x : S) (base : Opening S) → 0 < base.passes → base.passes < 4294967296 → stands x [] → fixed x ≡ fixed base.state.value → Rule (opening (replicate 18 0) (Some x ∷ []) (newcomer 0 1 (Some base) []))
+  pub opens : (x : S) (base : Opening S) → 0 < base.passes → base.passes < 4294967296 → stands x [] → fixed x ≡ fixed base.state.value → Rule (opening (replicate 19 0) (Some x ∷ []) (newcomer 0 1 (Some base) []))
   opens x base some_pass few none_yet is = record {
-    log = [];
+    moments = [];
     base = base;
     drawn = 0;
     served = 0;
@@ -39,16 +40,18 @@ module _ {S F E : Type 0} (stands : S → List (ℕ × E) → Type 0) (fixed : S
     wide = refl;
     next = refl;
     serving = refl;
+    news = (omega arith, λ _. refl);
     few = few;
     fits = some_pass;
     counted = refl;
     passed = omega arith;
-    numbered = λ k _. refl;
+    numbered = λ k _. (refl, refl);
     apart = λ k. dite (ℕ_discrete k 0) (λ e. let n = same_number k 0 e in omega arith) (λ ne. let n = other_number k 0 ne in omega arith);
     ticketed = λ t. omega arith;
     each = λ i u e. subst (Knows [] base 0 0 1) (only (newcomer 0 1 (Some base) []) i u e) (record {
       prefix = ([], refl);
       mine = λ _. refl;
+      sights = λ _. refl;
       below = λ _. omega arith;
       about = λ _. refl;
       making = (λ _. (refl, refl, refl));
@@ -59,10 +62,11 @@ module _ {S F E : Type 0} (stands : S → List (ℕ × E) → Type 0) (fixed : S
   }
 
   -- a spent seat knows nothing
-  spent_knows : (s : St) (r : Rule s) (made : ℕ) → Knows r.log r.base r.drawn r.served made spent
+  spent_knows : (s : St) (r : Rule s) (made : ℕ) → Knows r.moments r.base r.drawn r.served made spent
   spent_knows s r made = record {
-    prefix = (r.log, refl);
+    prefix = (told r.moments, refl);
     mine = (λ (l : false ≡ true). absurd (cc));
+    sights = (λ (l : false ≡ true). absurd (cc));
     below = (λ (l : false ≡ true). absurd (cc));
     about = (λ (l : false ≡ true). absurd (cc));
     making = (λ m. absurd (omega arith));
@@ -71,14 +75,15 @@ module _ {S F E : Type 0} (stands : S → List (ℕ × E) → Type 0) (fixed : S
   }
 
   -- how many passes there are so far, the same for all
-  grown : (s : St) (r : Rule s) (u : V) (made : ℕ) → r.made ≤ made → (0 < u.made → (u.made ≡ made) × (u.live ≡ true) × (u.number ≡ 0)) → Knows r.log r.base r.drawn r.served r.made u → Knows r.log r.base r.drawn r.served made u
+  grown : (s : St) (r : Rule s) (u : V) (made : ℕ) → r.made ≤ made → (0 < u.made → (u.made ≡ made) × (u.live ≡ true) × (u.number ≡ 0)) → Knows r.moments r.base r.drawn r.served r.made u → Knows r.moments r.base r.drawn r.served made u
   grown s r u made more making o = record {
     prefix = o.prefix;
     mine = o.mine;
+    sights = o.sights;
     below = λ l. let b = o.below l in omega arith;
     about = o.about;
     making = making;
-    gone = λ p has. let g = o.gone p has in let b = g.below in record { prefix = g.prefix; mine = g.mine; below = omega arith };
+    gone = λ p has. let g = o.gone p has in let b = g.below in record { prefix = g.prefix; mine = g.mine; sights = g.sights; below = omega arith };
     stage = o.stage;
   }
 
@@ -101,21 +106,23 @@ module _ {S F E : Type 0} (stands : S → List (ℕ × E) → Type 0) (fixed : S
       (let x = total-set (λ (y : V). turning y) s.views id v a at in let y = total-snoc (λ (y : V). turning y) (set s.views id a) w in omega arith)
       (λ i u e. ⊎_elim
       (λ (p : get_elem? (set s.views id a) i ≡ some u). ⊎_elim
-      (λ (q : (i ≡ id) × (a ≡ u)). subst (Knows r.log r.base r.drawn r.served (r.made + 1)) q.1 (record {
+      (λ (q : (i ≡ id) × (a ≡ u)). subst (Knows r.moments r.base r.drawn r.served (r.made + 1)) q.1 (record {
         prefix = k.prefix;
         mine = k.mine;
+        sights = k.sights;
         below = (λ l. let b = k.below l in omega arith);
         about = k.about;
         making = (λ _. (ap (λ m. m + 1) is, live, now.2));
-        gone = λ p has. let g = k.gone p has in let b = g.below in record { prefix = g.prefix; mine = g.mine; below = omega arith };
+        gone = λ p has. let g = k.gone p has in let b = g.below in record { prefix = g.prefix; mine = g.mine; sights = g.sights; below = omega arith };
         stage = k.stage;
       }))
       (λ (q : (i ≢ id) × (get_elem? s.views i ≡ some u)). let o = r.each i u q.1 in
       grown s r u (r.made + 1) (omega arith) (λ m. let b = o.making m in absurd (q.0 (sym (one_seat stands fixed s r id i v u at q.1 live (subst (λ n. 1 ≤ bears n u) (b.2 ∙ sym now.2) (bears_own u b.1)))))) o)
       (at_set s.views id i a u p))
-      (λ (p : (i ≡ length (set s.views id a)) × (w ≡ u)). subst (Knows r.log r.base r.drawn r.served (r.made + 1)) p.1 (record {
+      (λ (p : (i ≡ length (set s.views id a)) × (w ≡ u)). subst (Knows r.moments r.base r.drawn r.served (r.made + 1)) p.1 (record {
         prefix = k.prefix;
-        mine = λ _. r.numbered v.made (omega arith);
+        mine = λ _. (r.numbered v.made (omega arith)).0;
+        sights = λ _. (r.numbered v.made (omega arith)).1;
         below = λ _. omega arith;
         about = λ _. k.about live;
         making = λ m. absurd (omega arith);
@@ -137,10 +144,10 @@ module _ {S F E : Type 0} (stands : S → List (ℕ × E) → Type 0) (fixed : S
       (let x = sums (λ (y : V). turning y) refl in omega arith)
       (λ i u e. ⊎_elim
       (λ (q : get_elem? vs i ≡ some u). ⊎_elim
-      (λ (z : (i ≡ id) × (spent ≡ u)). subst (Knows r.log r.base r.drawn r.served r.made) z.1 (spent_knows s r r.made))
+      (λ (z : (i ≡ id) × (spent ≡ u)). subst (Knows r.moments r.base r.drawn r.served r.made) z.1 (spent_knows s r r.made))
       (λ (z : (i ≢ id) × (get_elem? s.views i ≡ some u)). r.each i u z.1)
       (at_set s.views id i spent u q))
-      (λ (q : (i ≡ length vs) × (v ≡ u)). subst (Knows r.log r.base r.drawn r.served r.made) q.1 (r.each id v at))
+      (λ (q : (i ≡ length vs) × (v ≡ u)). subst (Knows r.moments r.base r.drawn r.served r.made) q.1 (r.each id v at))
       (at_end vs v u i e))
 
   pub joins : (id : ℕ) (v : V) (other : ℕ) (w : V) → w.live ≡ true → w.stage ≡ Away → w.gathered ≡ [] → Joins Rule id v other w (gathers v w) spent
@@ -160,16 +167,17 @@ module _ {S F E : Type 0} (stands : S → List (ℕ × E) → Type 0) (fixed : S
       (λ t. let e : ticket_is t w.stage ≡ 0 = ap (ticket_is t) away in let x = sums (λ (y : V). at_ticket t y) (omega arith) refl in omega arith)
       (let e : one_if (is_turn w.stage) ≡ 0 = ap (λ z. one_if (is_turn z)) away in let x = sums (λ (y : V). turning y) (omega arith) refl in omega arith)
       (λ i u e. ⊎_elim
-      (λ (z : (i ≡ other) × (spent ≡ u)). subst (Knows r.log r.base r.drawn r.served r.made) z.1 (spent_knows s r r.made))
+      (λ (z : (i ≡ other) × (spent ≡ u)). subst (Knows r.moments r.base r.drawn r.served r.made) z.1 (spent_knows s r r.made))
       (λ (z : (i ≢ other) × (get_elem? vs i ≡ some u)). ⊎_elim
-      (λ (q : (i ≡ id) × (b ≡ u)). subst (Knows r.log r.base r.drawn r.served r.made) q.1 (record {
+      (λ (q : (i ≡ id) × (b ≡ u)). subst (Knows r.moments r.base r.drawn r.served r.made) q.1 (record {
         prefix = kv.prefix;
         mine = kv.mine;
+        sights = kv.sights;
         below = kv.below;
         about = kv.about;
         making = kv.making;
         gone = λ p has. ⊎_elim
-            (λ (h : p ≡ past w). subst (IsGone r.log r.made) (sym h) (record { prefix = kw.prefix; mine = kw.mine live; below = kw.below live }))
+            (λ (h : p ≡ past w). subst (IsGone r.moments r.made) (sym h) (record { prefix = kw.prefix; mine = kw.mine live; sights = kw.sights live; below = kw.below live }))
             (λ (h : Has p v.gathered). kv.gone p h) has;
         stage = kv.stage;
       }))
@@ -177,19 +185,19 @@ module _ {S F E : Type 0} (stands : S → List (ℕ × E) → Type 0) (fixed : S
       (at_set s.views id i b u z.1))
       (at_set vs other i spent u e))
 
-  pub learns : (slots id : ℕ) (m : Me (Option S) V) → m.0.live ≡ true → m.0.stage ≡ Away → Allows Rule slots id m 0 (λ n. n) (met (step slots 0 0 0 none) m)
+  pub learns : (slots id : ℕ) (m : Me (Option S) V) → m.0.live ≡ true → m.0.stage ≡ Away → Allows Rule slots id m 18 (λ n. n) (met (step slots 18 0 0 none) m)
   learns slots id m live away s r len at small =
-      let v : V = m.0 in let w : V = sees v r.log in let k = r.each id v at in let c = r.counted in let sum = total-set (λ (x : V). has_ticket x) s.views id v w at in (
+      let v : V = m.0 in let w : V = sees v (told r.moments) in let k = r.each id v at in let c = r.counted in let sum = total-set (λ (x : V). has_ticket x) s.views id v w at in (
         w,
         keeps,
         tt,
-        subst (λ (ws : List ℕ). Rule record { words = ws; homes = s.homes; views = set s.views id w }) (sym (set-get_or s.words 0 0))
-            (changed stands fixed s r id v w at (λ n. refl) refl r.log r.drawn r.served s.words s.homes r.wide r.next r.serving (omega arith) r.numbered
+        subst (λ (ws : List ℕ). Rule record { words = ws; homes = s.homes; views = set s.views id w }) (sym (set-get_or s.words 18 0))
+            (changed stands fixed s r id v w at (λ n. refl) refl r.moments r.drawn r.served s.words s.homes r.wide r.next r.serving r.news (omega arith) r.numbered
             (λ t. let a = total-set (λ (x : V). at_ticket t x) s.views id v w at in let old = r.ticketed t in omega arith)
             (λ j u ne e. r.each j u e)
-            (record { prefix = starts_itself r.log; mine = k.mine; below = k.below; about = k.about; making = k.making; gone = k.gone; stage = subst (Stands r.log r.drawn r.served v.live r.log) (sym away) tt })
+            (record { prefix = starts_itself (told r.moments); mine = k.mine; sights = k.sights; below = k.below; about = k.about; making = k.making; gone = k.gone; stage = subst (Stands (told r.moments) r.drawn r.served v.live (told r.moments)) (sym away) tt })
             (⊎_elim (λ h. inl h) (λ (o : 1 ≤ total (λ (x : V). turning x) s.views). let b = total-set (λ (x : V). turning x) s.views id v w at in inr (omega arith)) r.slot)),
-        (r.log, refl, k.prefix, k.mine live, λ p has. let g = k.gone p has in (g.prefix, g.mine)),
+        (told r.moments, refl, r.news, k.prefix, k.mine live, λ p has. let g = k.gone p has in (g.prefix, g.mine)),
       )
 
   pub releases : (id : ℕ) (v : V) (p : Past E) → v.live ≡ true → v.gathered ≡ p ∷ [] → v.stage ≡ Away → Splits Rule id v (gathering v (but_first v.gathered)) (released v.about v.seen v.gathered)
@@ -208,8 +216,8 @@ module _ {S F E : Type 0} (stands : S → List (ℕ × E) → Type 0) (fixed : S
       (let x = sums (λ (y : V). turning y) (omega arith) in omega arith)
       (λ i u e. ⊎_elim
       (λ (q : get_elem? vs i ≡ some u). ⊎_elim
-      (λ (z : (i ≡ id) × (a ≡ u)). subst (Knows r.log r.base r.drawn r.served r.made) z.1 (record { prefix = k.prefix; mine = k.mine; below = k.below; about = k.about; making = k.making; gone = λ q none_in. absurd none_in; stage = k.stage }))
+      (λ (z : (i ≡ id) × (a ≡ u)). subst (Knows r.moments r.base r.drawn r.served r.made) z.1 (record { prefix = k.prefix; mine = k.mine; sights = k.sights; below = k.below; about = k.about; making = k.making; gone = λ q none_in. absurd none_in; stage = k.stage }))
       (λ (z : (i ≢ id) × (get_elem? s.views i ≡ some u)). r.each i u z.1)
       (at_set s.views id i a u q))
-      (λ (q : (i ≡ length vs) × (w ≡ u)). subst (Knows r.log r.base r.drawn r.served r.made) q.1 (record { prefix = k.prefix; mine = λ _. g.mine; below = λ _. g.below; about = λ _. k.about live; making = λ m. absurd (omega arith); gone = λ q none_in. absurd none_in; stage = tt }))
+      (λ (q : (i ≡ length vs) × (w ≡ u)). subst (Knows r.moments r.base r.drawn r.served r.made) q.1 (record { prefix = k.prefix; mine = λ _. g.mine; sights = λ _. g.sights; below = λ _. g.below; about = λ _. k.about live; making = λ m. absurd (omega arith); gone = λ q none_in. absurd none_in; stage = tt }))
       (at_end vs w u i e)))

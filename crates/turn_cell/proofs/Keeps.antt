@@ -8,8 +8,8 @@ use Rattle.turn_cell.specs.declared.rule.View.{View}
 use Rattle.turn_cell.specs.declared.rule.Opening.{Opening}
 use Rattle.turn_cell.specs.declared.rule.Stage.{Stage}
 use Rattle.turn_cell.specs.declared.rule.Stage.TheVariants.{Away, Waits, Turns}
-use Rattle.turn_cell.specs.History.{by}
-use Rattle.turn_cell.specs.Rule.{total, is_number, one_if, is_turn, is_waiting, ticket_of, tickets_of, weight, bears, has_ticket, at_ticket, turning, Stands, Knows, Home, Kept}
+use Rattle.turn_cell.specs.History.{by, told, seen_by}
+use Rattle.turn_cell.specs.Rule.{total, is_number, one_if, is_turn, is_waiting, ticket_of, tickets_of, weight, bears, has_ticket, at_ticket, turning, Stands, Counts, Knows, Home, Kept}
 use Rattle.turn_cell.proofs.Lists.{same_number, total-set, total-le, total-alone}
 
 module _ {E : Type 0} (log : List (ℕ × E)) (drawn served : ℕ) where
@@ -59,17 +59,17 @@ module _ {S F E : Type 0} (stands : S → List (ℕ × E) → Type 0) (fixed : S
 
   -- the view of one seat changes, and the history, the tickets and the slot with it
   pub changed : (s : St) (r : Rule s) (id : ℕ) (v w : V) → get_elem? s.views id ≡ may.some v → ((k : ℕ) → bears k w ≡ bears k v) → weight w ≡ weight v
-      → (log : List (ℕ × E)) (drawn served : ℕ) (words : List ℕ) (homes : List (may.Option (Option S)))
-      → length words ≡ 18 → get_or words 0 0 ≡ drawn % 2 ^ 64 → get_or words 1 0 ≡ served % 2 ^ 64
+      → (moments : List (ℕ × Option E)) (drawn served : ℕ) (words : List ℕ) (homes : List (may.Option (Option S)))
+      → length words ≡ 19 → get_or words 0 0 ≡ drawn % 2 ^ 64 → get_or words 1 0 ≡ served % 2 ^ 64 → Counts (get_or words 18 0) (told moments)
       → drawn ≡ served + total (λ (x : V). has_ticket x) (set s.views id w)
-      → ((k : ℕ) → r.made ≤ k → by k log ≡ [])
+      → ((k : ℕ) → r.made ≤ k → (by k (told moments) ≡ []) × (seen_by k moments ≡ []))
       → ((t : ℕ) → total (λ (x : V). at_ticket t x) (set s.views id w) ≤ 1)
-      → ((j : ℕ) (u : V) → j ≢ id → get_elem? s.views j ≡ may.some u → Knows log r.base drawn served r.made u)
-      → Knows log r.base drawn served r.made w
-      → Home stands fixed r.base log homes ⊎ (1 ≤ total (λ (x : V). turning x) (set s.views id w))
+      → ((j : ℕ) (u : V) → j ≢ id → get_elem? s.views j ≡ may.some u → Knows moments r.base drawn served r.made u)
+      → Knows moments r.base drawn served r.made w
+      → Home stands fixed r.base (told moments) homes ⊎ (1 ≤ total (λ (x : V). turning x) (set s.views id w))
       → Rule record { words = words; homes = homes; views = set s.views id w }
-  changed s r id v w at same_bears same_weight log drawn served words homes wide next serving counted numbered ticketed others own slot = record {
-    log = log;
+  changed s r id v w at same_bears same_weight moments drawn served words homes wide next serving news counted numbered ticketed others own slot = record {
+    moments = moments;
     base = r.base;
     drawn = drawn;
     served = served;
@@ -77,6 +77,7 @@ module _ {S F E : Type 0} (stands : S → List (ℕ × E) → Type 0) (fixed : S
     wide = wide;
     next = next;
     serving = serving;
+    news = news;
     few = r.few;
     fits = r.fits;
     counted = counted;
@@ -85,7 +86,7 @@ module _ {S F E : Type 0} (stands : S → List (ℕ × E) → Type 0) (fixed : S
     apart = λ k. let a = total-set (λ (x : V). bears k x) s.views id v w at in let p = r.apart k in let e = same_bears k in omega arith;
     ticketed = ticketed;
     each = λ i u e. ⊎_elim
-        (λ (p : (i ≡ id) × (w ≡ u)). subst (Knows log r.base drawn served r.made) p.1 own)
+        (λ (p : (i ≡ id) × (w ≡ u)). subst (Knows moments r.base drawn served r.made) p.1 own)
         (λ (p : (i ≢ id) × (get_elem? s.views i ≡ may.some u)). others i u p.0 p.1)
         (at_set s.views id i w u e);
     slot = slot;
@@ -98,10 +99,10 @@ module _ {S F E : Type 0} (stands : S → List (ℕ × E) → Type 0) (fixed : S
       → ((k : ℕ) → total (λ (x : V). bears k x) views ≤ 1)
       → ((t : ℕ) → total (λ (x : V). at_ticket t x) views ≤ total (λ (x : V). at_ticket t x) s.views)
       → total (λ (x : V). turning x) s.views ≤ total (λ (x : V). turning x) views
-      → ((i : ℕ) (u : V) → get_elem? views i ≡ may.some u → Knows r.log r.base r.drawn r.served made u)
+      → ((i : ℕ) (u : V) → get_elem? views i ≡ may.some u → Knows r.moments r.base r.drawn r.served made u)
       → Rule record { words = s.words; homes = s.homes; views = views }
   rearranged s r views made grows fits tickets passed apart ticketed turns each = record {
-    log = r.log;
+    moments = r.moments;
     base = r.base;
     drawn = r.drawn;
     served = r.served;
@@ -109,6 +110,7 @@ module _ {S F E : Type 0} (stands : S → List (ℕ × E) → Type 0) (fixed : S
     wide = r.wide;
     next = r.next;
     serving = r.serving;
+    news = r.news;
     few = r.few;
     fits = fits;
     counted = (let c = r.counted in omega arith);
@@ -123,7 +125,7 @@ module _ {S F E : Type 0} (stands : S → List (ℕ × E) → Type 0) (fixed : S
   -- fewer than 2^32 tickets are out
   pub few_out : (s : St) (r : Rule s) → r.drawn < r.served + 4294967296
   few_out s r =
-      let a = total-le (λ (x : V). has_ticket x) (λ (x : V). weight x) s.views (λ i v e. let h = holds_one r.log r.drawn r.served v.live v.seen v.stage (r.each i v e).stage in omega arith) in
+      let a = total-le (λ (x : V). has_ticket x) (λ (x : V). weight x) s.views (λ i v e. let h = holds_one (told r.moments) r.drawn r.served v.live v.seen v.stage (r.each i v e).stage in omega arith) in
       let p = r.passed in let c = r.counted in let f = r.few in let m = r.fits in omega arith
 
   -- two seats with one number are one

@@ -1,5 +1,5 @@
 -- Lists of entries, beginnings of lists, and sums over lists.
-use Rattle.std.proofs.Common.{◌≡◌, ◌≢◌, ℕ, zero, suc, ◌+◌, ◌≤◌, ◌⊎◌, inl, inr, ⊎_elim, eqb, cond, List, [], ◌∷◌, ◌++◌, map, length, set, sym, refl, ap, ◌∙◌, arith, eq-eqb, ne_eqb, append_assoc, append-nil}
+use Rattle.std.proofs.Common.{◌≡◌, ◌≢◌, ℕ, zero, suc, ◌+◌, ◌≤◌, ◌⊎◌, inl, inr, ⊎_elim, eqb, cond, List, [], ◌∷◌, ◌++◌, map, length, set, sym, refl, ap, ◌∙◌, arith, eq-eqb, ne_eqb, append_assoc, append-nil, length-append, Option, None, Some}
 use mathlib.Core.Option.{some, some-injective, some-ne-none}
 use Rattle.std.specs.List.{filter, sum_by}
 use Rattle.std.proofs.lemmas.List.{map-append}
@@ -8,7 +8,7 @@ use Rattle.std.proofs.lemmas.List.Sums.{sum_by-cons}
 use mathlib.Core.Logic.{dite}
 use native.Mathlib.Decide.{ℕ_discrete}
 use lib.ListN.{get_elem?}
-use Rattle.turn_cell.specs.History.{by, StartsWith}
+use Rattle.turn_cell.specs.History.{by, StartsWith, told, with_sight, seen_by}
 use Rattle.turn_cell.specs.Rule.{Has, total, is_number, one_if}
 
 module _ {E : Type 0} where
@@ -110,3 +110,19 @@ module _ {A : Type 0} where
   pub total-is : (f : A → ℕ) (l : List A) → total f l ≡ sum_by f l
   total-is f [] = refl
   total-is f (x ∷ xs) = let a = total-is f xs in let b = sum_by-cons f x xs in omega arith
+
+module _ {E : Type 0} where
+  pub seen_by-own : (k n : ℕ) (ms : List (ℕ × Option E)) → k ≡ n → seen_by k ((n, None) ∷ ms) ≡ seen_by k ms ++ told ms ∷ []
+  seen_by-own k n ms e = ap (λ b. with_sight None b (told ms) (seen_by k ms)) (eq-eqb k n e)
+
+  pub seen_by-other : (k n : ℕ) (ms : List (ℕ × Option E)) → k ≢ n → seen_by k ((n, None) ∷ ms) ≡ seen_by k ms
+  seen_by-other k n ms ne = ap (λ b. with_sight None b (told ms) (seen_by k ms)) (ne_eqb k n ne)
+
+module _ {A : Type 0} where
+  none_behind : (xs ys zs : List A) → xs ≡ ys ++ zs → length zs ≡ 0 → xs ≡ ys
+  none_behind xs ys [] e none = e ∙ append-nil ys
+  none_behind xs ys (z ∷ zs) e none = absurd (omega arith)
+
+  -- a list as long as one that it begins with is that one
+  pub starts_whole : (xs ys : List A) → StartsWith xs ys → length xs ≡ length ys → xs ≡ ys
+  starts_whole xs ys h e = let l = length-append ys h.0 in let same = ap length h.1 in none_behind xs ys h.0 h.1 (omega arith)

@@ -1,17 +1,17 @@
 -- Lists of passes: as they are made with a cell, and as they are handed in when it is closed.
-use Rattle.std.specs.Prelude.{◌≡◌, ℕ, ◌≤◌, List, [], length}
+use Rattle.std.specs.Prelude.{◌≡◌, ℕ, ◌≤◌, List, [], length, Option}
 use Rattle.std.specs.List.{sum_by}
 use mathlib.Core.Option.{some}
 use lib.ListN.{get_elem?}
 use Rattle.turn_cell.specs.declared.cell.TurnCell.{TurnCell}
 use Rattle.turn_cell.specs.declared.pass.Pass.{Pass}
-use Rattle.turn_cell.specs.History.{by, StartsWith}
-use Rattle.turn_cell.specs.Passes.{IsPassOf, IsStateOf, number, seen, mine, passes_of}
+use Rattle.turn_cell.specs.History.{by, StartsWith, told, seen_by}
+use Rattle.turn_cell.specs.Passes.{IsPassOf, IsStateOf, number, seen, mine, sights, passes_of}
 
 module _ {S E F : Type 0} where
-  -- it has this number, has seen nothing, and has no entries
+  -- it has this number, has seen nothing, has no entries, and has not looked
   abbrev pub IsFresh : ℕ → Pass S E F → Type 0
-  IsFresh k pass = (number pass ≡ k) × (seen pass ≡ []) × (mine pass ≡ [])
+  IsFresh k pass = (number pass ≡ k) × (seen pass ≡ []) × (mine pass ≡ []) × (sights pass ≡ [])
 
   -- they are passes of this cell with the numbers from 0 on, and fresh
   abbrev pub AreFresh : TurnCell S E F → List (Pass S E F) → Type 0
@@ -36,4 +36,8 @@ module _ {S E F : Type 0} where
       pub history : List (ℕ × E)
       pub stands_for : IsStateOf stands fixed cell history state
       pub whole : IsHistoryOf ps history
+      -- entries and looks stand in one order, and each look saw all entries before it
+      pub moments : List (ℕ × Option E)
+      pub tells : told moments ≡ history
+      pub saw : (k : ℕ) (pass : Pass S E F) → get_elem? ps k ≡ some pass → seen_by k moments ≡ sights pass
       pub weighs : (weight : E → ℕ) → sum_by (λ e. weight e.1) history ≡ sum_by (λ (pass : Pass S E F). sum_by weight (mine pass)) ps

@@ -5,8 +5,8 @@ use Rattle.turn_cell.specs.declared.pass.Pass.{Pass}
 use Rattle.turn_cell.specs.declared.rule.Past.{Past}
 use Rattle.turn_cell.specs.declared.rule.Stage.TheVariants.{Away}
 use Rattle.turn_cell.specs.History.{by, StartsWith}
-use Rattle.turn_cell.specs.Rule.{Has, past, is_turn, is_waiting, ticket_of}
-use Rattle.turn_cell.specs.Passes.{IsOf, IsSamePass, IsStateOf, number, seen, mine}
+use Rattle.turn_cell.specs.Rule.{Has, past, is_turn, is_waiting, ticket_of, Counts}
+use Rattle.turn_cell.specs.Passes.{IsOf, IsSamePass, IsStateOf, HasSighted, number, seen, mine, sights}
 
 module _ {S E F : Type 0} where
   -- its ticket, as the words of the cell count
@@ -21,9 +21,13 @@ module _ {S E F : Type 0} where
   abbrev pub HoldsState : TurnCell S E F → Pass S E F → S → Type 0
   HoldsState cell pass state = IsOf cell pass ((0, Some state) ∷ []) × (is_turn pass.seat.me.0.stage ≡ true)
 
-  -- it has the number, the entries and the history that it had
+  -- it has counted the history that it has seen
+  abbrev pub IsCounted : Pass S E F → Type 0
+  IsCounted pass = Counts pass.entries (seen pass)
+
+  -- it has the number, the entries and the history that it had, and has not looked
   abbrev pub IsAsBefore : Pass S E F → Pass S E F → Type 0
-  IsAsBefore before after = IsSamePass before after × (seen after ≡ seen before)
+  IsAsBefore before after = IsSamePass before after × (seen after ≡ seen before) × (sights after ≡ sights before)
 
   -- it is a pass of this cell outside a turn, whatever passes it has taken in
   abbrev pub IsIdle : TurnCell S E F → Pass S E F → Type 0
@@ -45,4 +49,4 @@ module _ {S E F : Type 0} where
   module _ (stands : S → List (ℕ × E) → Type 0) (fixed : S → F) where
     -- the turn has come, with a state of the history now
     abbrev pub FoundTurn : TurnCell S E F → Pass S E F → Pass S E F → Type 0
-    FoundTurn cell before after = (state : S) × HoldsState cell after state × IsStateOf stands fixed cell (seen after) state × StartsWith (seen after) (seen before) × IsSamePass before after
+    FoundTurn cell before after = (state : S) × HoldsState cell after state × IsStateOf stands fixed cell (seen after) state × StartsWith (seen after) (seen before) × IsSamePass before after × HasSighted before after

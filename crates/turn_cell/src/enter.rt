@@ -1,7 +1,7 @@
 // How a pass comes to its turn.
 ghost use Rattle.std.specs.Prelude.{◌≡◌};
 ghost use Rattle.turn_cell.specs.History.{StartsWith};
-ghost use Rattle.turn_cell.specs.Passes.{IsPassOf, IsTurnOf, IsSamePass, IsStateOf, seen};
+ghost use Rattle.turn_cell.specs.Passes.{IsPassOf, IsTurnOf, IsSamePass, IsStateOf, HasSighted, seen};
 
 use crate::cell::TurnCell;
 use crate::owned_turn::OwnedTurn;
@@ -20,6 +20,7 @@ fn wait_for_turn<S: Turned, R: Wait>(rt: &R, cell: &TurnCell<S>, pass: &mut Pass
     requires { IsPassOf cell.now pass.old }
     ensures turn { IsTurnOf cell.now pass.new × IsSamePass pass.old pass.new }
     ensures seen { StartsWith (seen pass.new) (seen pass.old) }
+    ensures looked { HasSighted pass.old pass.new }
     ensures state { IsStateOf S.stands S.fixed cell.now (seen pass.new) result }
 {
     let ticket = draw(cell, pass);
@@ -29,7 +30,6 @@ fn wait_for_turn<S: Turned, R: Wait>(rt: &R, cell: &TurnCell<S>, pass: &mut Pass
         // Read before the look, so that a wake between the two is not missed.
         let stirred = cell.table.shared.peek(bed);
         if look(cell, pass) == ticket {
-            pass.entries = cell.entries();
             return take_out(cell, pass);
         }
         if looks < LOOKS {
@@ -54,6 +54,7 @@ impl<S: Turned> TurnCell<S> {
         ensures turn { IsTurnOf result.cell.now result.pass.now × (result.cell.now ≡ self.now) }
         ensures pass { IsSamePass pass.old result.pass.now × (result.pass.ghost_name ≡ pass.entry.ghost_name) }
         ensures seen { StartsWith (seen result.pass.now) (seen pass.old) }
+        ensures looked { HasSighted pass.old result.pass.now }
         ensures state { IsStateOf S.stands S.fixed result.cell.now (seen result.pass.now) result.state }
     {
         let state = wait_for_turn(rt, self, pass);
@@ -71,6 +72,7 @@ impl<S: Turned> TurnCell<S> {
         ensures turn { IsTurnOf result.1.cell.now result.1.pass × (result.1.cell.now ≡ self.now) }
         ensures pass { IsSamePass pass result.1.pass }
         ensures seen { StartsWith (seen result.1.pass) (seen pass) }
+        ensures looked { HasSighted pass result.1.pass }
         ensures state { IsStateOf S.stands S.fixed result.1.cell.now (seen result.1.pass) result.0 }
     {
         let mut pass = pass;

@@ -1,12 +1,12 @@
 // How a pass takes in others, learns the history, and releases them.
 ghost use Rattle.std.specs.Prelude.{◌≡◌, [], ◌∷◌};
 ghost use Rattle.turn_cell.specs.Rule.{released};
-ghost use Rattle.turn_cell.specs.Passes.{IsPassOf, IsSamePass, seen};
-ghost use Rattle.turn_cell.specs.Steps.{IsIdle, IsAsBefore, HasLearnt, gathered, past_of};
+ghost use Rattle.turn_cell.specs.Passes.{IsPassOf, IsSamePass, seen, sights};
+ghost use Rattle.turn_cell.specs.Steps.{IsIdle, IsAsBefore, HasLearnt, IsCounted, gathered, past_of};
 
 use crate::cell::TurnCell;
 use crate::pass::Pass;
-use crate::rule::{Gather, LayOff, Meet, NEXT, Release};
+use crate::rule::{Gather, LayOff, Meet, NEWS, Release};
 use crate::turned::Turned;
 
 // Takes the seat out of a pass, in whose place one is left that knows nothing.
@@ -37,21 +37,23 @@ pub(crate) fn gather<S: Turned>(cell: &TurnCell<S>, pass: &mut Pass<S>, other: P
 pub(crate) fn learn<S: Turned>(cell: &TurnCell<S>, pass: &mut Pass<S>)
     requires { IsIdle cell.now pass.old }
     ensures pass { IsIdle cell.now pass.new × IsSamePass pass.old pass.new × (gathered pass.new ≡ gathered pass.old) }
+    ensures counted { IsCounted pass.new × (sights pass.new ≡ sights pass.old) }
     ensures history { HasLearnt pass.old pass.new }
 {
-    cell.table.shared.load::<Meet>(&mut pass.seat, NEXT);
+    pass.entries = cell.table.shared.load::<Meet>(&mut pass.seat, NEWS);
 }
 
 // Releases the only pass that was taken in.
 pub(crate) fn release<S: Turned>(cell: &TurnCell<S>, pass: &mut Pass<S>, number: u32) -> Pass<S>
     requires { IsIdle cell.now pass.old × ((p : _) × (gathered pass.old ≡ p ∷ [])) }
     ensures pass { IsIdle cell.now pass.new × IsAsBefore pass.old pass.new × (gathered pass.new ≡ []) }
+    ensures entries { (pass.new.entries ≡ pass.old.entries) × (result.entries ≡ pass.old.entries) }
     ensures other { (result.seat.table_id ≡ cell.now.table.shared.table_id) × (result.seat.me ≡ (released pass.old.seat.me.0.about (seen pass.old) (gathered pass.old), [])) }
 {
     let seat = cell.table.shared.split_seat::<Release>(&mut pass.seat);
     Pass {
         number,
-        entries: 0,
+        entries: pass.entries,
         seat,
     }
 }

@@ -59,7 +59,7 @@ fn first_seat<S: Turned>(
         passes,
     };
     let slots = slots_of(alloc, state)?;
-    match Table::new(alloc, &[0; 18], slots, &opening) {
+    match Table::new(alloc, &[0; 19], slots, &opening) {
         Ok((table, seat)) => Ok((
             TurnCell::of(table),
             Pass {

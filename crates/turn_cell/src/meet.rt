@@ -1,7 +1,7 @@
 // How two passes tell one another what they have seen.
 ghost use Rattle.std.specs.Prelude.{◌≡◌};
 ghost use Rattle.turn_cell.specs.History.{StartsWith};
-ghost use Rattle.turn_cell.specs.Passes.{IsPassOf, IsSamePass, seen};
+ghost use Rattle.turn_cell.specs.Passes.{IsPassOf, IsSamePass, seen, sights};
 
 use crate::cell::TurnCell;
 use crate::gather::{gather, lay_off, learn, release};
@@ -17,6 +17,7 @@ impl<S: Turned> TurnCell<S> {
         ensures same { IsSamePass a.old a.new × IsSamePass b.old b.new }
         ensures begins { StartsWith (seen a.new) (seen a.old) × StartsWith (seen a.new) (seen b.old) }
         ensures one { seen b.new ≡ seen a.new }
+        ensures sights { (sights a.new ≡ sights a.old) × (sights b.new ≡ sights b.old) }
     {
         let other = lay_off(self, b);
         gather(self, a, other);

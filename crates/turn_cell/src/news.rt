@@ -1,7 +1,10 @@
 // Whether it is worth to take a turn.
+ghost use Rattle.std.specs.Prelude.{◌≡◌, MatchBool};
+ghost use Rattle.turn_cell.specs.Passes.{IsPassOf, IsSamePass, HasSighted, seen, sights};
 
 use crate::cell::TurnCell;
 use crate::pass::Pass;
+use crate::rule::{Glance, NEWS};
 use crate::turned::Turned;
 
 impl<S: Turned> TurnCell<S> {
@@ -9,7 +12,19 @@ impl<S: Turned> TurnCell<S> {
     /// so a loop that found nothing asks this before it looks again, and is in nobody's way. No clause says
     /// what it answers; a turn alone tells.
     pub fn has_news(&self, pass: &Pass<S>) -> bool {
-        self.entries() != pass.entries
+        self.table.shared.peek(NEWS) != pass.entries
+    }
+
+    /// Looks whether the pass has seen the history as it stands, by one load and with no turn. Where it
+    /// answers true, this was a look: there was a moment in this call at which the history was just what
+    /// the pass has seen. Where it answers false there may be news, and a turn tells.
+    pub fn is_current(&self, pass: &mut Pass<S>) -> bool
+        requires { IsPassOf self.now pass.old }
+        ensures pass { IsPassOf self.now pass.new × IsSamePass pass.old pass.new × (seen pass.new ≡ seen pass.old) }
+        ensures looked { MatchBool result (HasSighted pass.old pass.new) (sights pass.new ≡ sights pass.old) }
+    {
+        let found = self.table.shared.load::<Glance>(&mut pass.seat, NEWS);
+        found == pass.entries && found < u64::MAX
     }
 }
 

@@ -9,7 +9,7 @@ use crate::turned::Turned;
 pub struct Pass<S: Turned> {
     // It is kept so that a pass has a size: no proof is made of an element of a slice that has none.
     pub(crate) number: u32,
-    // How many turns of the cell had ended with an entry when this pass had its last one.
+    // How many entries the history had when this pass saw it last, or the greatest number where it had more.
     pub(crate) entries: u64,
     pub(crate) seat: Place<S>,
 }

@@ -25,6 +25,7 @@ pub struct Past<E> {
     pub number: u64,
     pub seen: LinkedList<(u64, E)>,
     pub mine: LinkedList<E>,
+    pub sights: LinkedList<LinkedList<(u64, E)>>,
 }
 
 /// What a seat knows. No value of it is made.
@@ -37,6 +38,8 @@ pub struct View<A, E> {
     pub about: Option<A>,
     pub seen: LinkedList<(u64, E)>,
     pub mine: LinkedList<E>,
+    /// What it saw at each of its looks.
+    pub sights: LinkedList<LinkedList<(u64, E)>>,
     pub stage: Stage,
     /// The passes that it took in.
     pub gathered: LinkedList<Past<E>>,
@@ -53,6 +56,10 @@ pub(crate) const SERVING: usize = 1;
 /// The first of the words that threads sleep on. There are 16, one for the tickets of each remainder,
 /// so that the end of a turn wakes no others than those whose turn may have come.
 pub(crate) const FIRST_BED: usize = 2;
+
+/// The word that counts the entries of the history. It stands in a cache line of its own among those
+/// that each turn writes, and stops at the greatest number.
+pub(crate) const NEWS: usize = 18;
 
 pub struct Law;
 
@@ -81,24 +88,38 @@ impl<S: Turned> Play<Option<S>, View<Opening<S>, S::Entry>> for Look {
     ghost then = { looked S.stands S.fixed };
 }
 
-pub(crate) struct Leave<E> {
+pub(crate) struct Count;
+
+impl<S: Turned> Play<Option<S>, View<Opening<S>, S::Entry>> for Count {
+    ghost use Rattle.turn_cell.specs.Rule.{counted};
+
+    ghost then = { counted };
+}
+
+pub(crate) struct Glance;
+
+impl<S: Turned> Play<Option<S>, View<Opening<S>, S::Entry>> for Glance {
+    ghost use Rattle.turn_cell.specs.Rule.{glanced};
+
+    ghost then = { glanced };
+}
+
+pub(crate) struct Enter<E> {
     entry: PhantomData<E>,
 }
 
-impl<S: Turned, E: Named<S::Entry>> Play<Option<S>, View<Opening<S>, S::Entry>> for Leave<E> {
-    ghost use Rattle.std.specs.Prelude.{[], ◌∷◌};
-    ghost use Rattle.turn_cell.specs.Rule.{left};
+impl<S: Turned, E: Named<S::Entry>> Play<Option<S>, View<Opening<S>, S::Entry>> for Enter<E> {
+    ghost use Rattle.turn_cell.specs.Rule.{entered};
 
-    ghost then = { left (E.entry ∷ []) };
+    ghost then = { entered E.entry };
 }
 
-pub(crate) struct LeaveAsIs;
+pub(crate) struct Leave;
 
-impl<S: Turned> Play<Option<S>, View<Opening<S>, S::Entry>> for LeaveAsIs {
-    ghost use Rattle.std.specs.Prelude.{[]};
+impl<S: Turned> Play<Option<S>, View<Opening<S>, S::Entry>> for Leave {
     ghost use Rattle.turn_cell.specs.Rule.{left};
 
-    ghost then = { left [] };
+    ghost then = { left };
 }
 
 pub(crate) struct Stir;

@@ -1,11 +1,11 @@
 // The steps of a turn, each of them one step of the table.
-ghost use Rattle.std.specs.Prelude.{◌≡◌, ◌≢◌, ◌<◌, ◌≤◌, [], ◌∷◌, ◌++◌};
-ghost use Rattle.turn_cell.specs.Passes.{IsPassOf, IsTurnOf, IsStateOf, HasEntered, HasRested, number, seen};
-ghost use Rattle.turn_cell.specs.Steps.{IsWaiting, HoldsState, FoundTurn, IsAsBefore, ticket};
+ghost use Rattle.std.specs.Prelude.{◌≡◌, ◌≢◌, ◌<◌, ◌≤◌};
+ghost use Rattle.turn_cell.specs.Passes.{IsPassOf, IsTurnOf, IsStateOf, HasEntered, HasRested, seen};
+ghost use Rattle.turn_cell.specs.Steps.{IsWaiting, HoldsState, FoundTurn, IsAsBefore, IsCounted, ticket};
 
 use crate::cell::TurnCell;
 use crate::pass::Pass;
-use crate::rule::{Draw, FIRST_BED, Leave, LeaveAsIs, Look, NEXT, SERVING, Stir};
+use crate::rule::{Count, Draw, Enter, FIRST_BED, Leave, Look, NEWS, NEXT, SERVING, Stir};
 use crate::turned::{Named, Turned};
 
 // Draws the next ticket.
@@ -26,45 +26,48 @@ pub(crate) fn look<S: Turned>(cell: &TurnCell<S>, pass: &mut Pass<S>) -> u64
     cell.table.shared.load::<Look>(&mut pass.seat, SERVING)
 }
 
-// Takes the state out of the slot.
+// Takes the state out of the slot, and counts the history.
 pub(crate) fn take_out<S: Turned>(cell: &TurnCell<S>, pass: &mut Pass<S>) -> S
     requires { (state : S) × HoldsState cell.now pass.old state }
     ensures turn { IsTurnOf cell.now pass.new × HoldsState cell.now pass.old result }
     ensures same { IsAsBefore pass.old pass.new }
 {
-    cell.table.shared.exchange(&mut pass.seat, 0, None).unwrap()
+    let state = cell.table.shared.exchange(&mut pass.seat, 0, None).unwrap();
+    pass.entries = cell.table.shared.load::<Count>(&mut pass.seat, NEWS);
+    state
+}
+
+// Enters the entry of E in the history.
+pub(crate) fn record<S: Turned, E: Named<S::Entry>>(cell: &TurnCell<S>, pass: &mut Pass<S>)
+    requires { IsTurnOf cell.now pass.old }
+    ensures turn { IsTurnOf cell.now pass.new }
+    ensures entered { HasEntered E.entry pass.old pass.new }
+{
+    pass.entries = pass.entries.saturating_add(1);
+    cell.table
+        .shared
+        .store::<Enter<E>>(&mut pass.seat, NEWS, pass.entries);
 }
 
 // Puts the state into the slot.
 pub(crate) fn put_in<S: Turned>(cell: &TurnCell<S>, pass: &mut Pass<S>, state: S)
     requires { IsTurnOf cell.now pass.old }
-    ensures holds { HoldsState cell.now pass.new state }
+    ensures holds { HoldsState cell.now pass.new state × IsCounted pass.new }
     ensures same { IsAsBefore pass.old pass.new }
 {
     let empty = cell.table.shared.exchange(&mut pass.seat, 0, Some(state));
     let None = empty else { unreachable!() };
 }
 
-// Ends the turn with the entry of E, and returns its ticket.
-pub(crate) fn advance<S: Turned, E: Named<S::Entry>>(cell: &TurnCell<S>, pass: &mut Pass<S>) -> u64
-    requires { (state : S) × HoldsState cell.now pass.old state × IsStateOf S.stands S.fixed cell.now (seen pass.old ++ (number pass.old, E.entry) ∷ []) state }
-    ensures pass { IsPassOf cell.now pass.new }
-    ensures entered { HasEntered E.entry pass.old pass.new }
-{
-    cell.table
-        .shared
-        .fetch_add::<Leave<E>>(&mut pass.seat, SERVING, 1)
-}
-
-// Ends the turn with no entry, and returns its ticket.
-pub(crate) fn advance_as_is<S: Turned>(cell: &TurnCell<S>, pass: &mut Pass<S>) -> u64
-    requires { (state : S) × HoldsState cell.now pass.old state × IsStateOf S.stands S.fixed cell.now (seen pass.old) state }
+// Ends the turn, and returns its ticket.
+pub(crate) fn advance<S: Turned>(cell: &TurnCell<S>, pass: &mut Pass<S>) -> u64
+    requires { IsCounted pass.old × ((state : S) × HoldsState cell.now pass.old state × IsStateOf S.stands S.fixed cell.now (seen pass.old) state) }
     ensures pass { IsPassOf cell.now pass.new }
     ensures rested { HasRested pass.old pass.new }
 {
     cell.table
         .shared
-        .fetch_add::<LeaveAsIs>(&mut pass.seat, SERVING, 1)
+        .fetch_add::<Leave>(&mut pass.seat, SERVING, 1)
 }
 
 // The word on which the ticket's thread sleeps.

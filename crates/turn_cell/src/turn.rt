@@ -8,7 +8,7 @@ ghost use Rattle.turn_cell.specs.Passes.{IsPassOf, IsTurnOf, IsStateOf, HasEnter
 
 use crate::cell::TurnCell;
 use crate::pass::Pass;
-use crate::steps::{advance, advance_as_is, put_in, wake_next};
+use crate::steps::{advance, put_in, record, wake_next};
 use crate::turned::{Named, Turned};
 
 /// A turn. It is spent by `leave` or `leave_as_is`, and by nothing else.
@@ -29,11 +29,8 @@ pub(crate) fn put_back<S: Turned, E: Named<S::Entry>>(
     ensures pass { IsPassOf cell.now pass.new }
     ensures entered { HasEntered E.entry pass.old pass.new }
 {
-    pass.entries = pass.entries.wrapping_add(1);
-    cell.set_entries(pass.entries);
-    put_in(cell, pass, state);
-    let served = advance::<S, E>(cell, pass);
-    wake_next(cell, pass, served);
+    record::<S, E>(cell, pass);
+    put_back_as_is(cell, pass, state);
 }
 
 // Puts the state back, with no entry.
@@ -44,7 +41,7 @@ pub(crate) fn put_back_as_is<S: Turned>(cell: &TurnCell<S>, pass: &mut Pass<S>, 
     ensures rested { HasRested pass.old pass.new }
 {
     put_in(cell, pass, state);
-    let served = advance_as_is(cell, pass);
+    let served = advance(cell, pass);
     wake_next(cell, pass, served);
 }
 

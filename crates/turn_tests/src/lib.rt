@@ -7,6 +7,7 @@ mod crowd;
 mod dealing;
 mod held;
 mod journal;
+mod looking;
 mod overlap;
 mod sum;
 #[cfg(test)]
@@ -16,6 +17,7 @@ mod threads;
 pub use crowd::add_in_crowd;
 pub use held::{Held, add_step, add_two_steps};
 pub use journal::{Journal, Written, shows, write, write_and_meet, write_and_read};
+pub use looking::{look_alone, looks_tell, rest_alone};
 pub use overlap::{Never, Quiet, turns_overlap};
 pub use sum::{Added, Sum, add_one, end};
 pub use threads::{add_by_four, add_by_one, add_by_two};

@@ -1,5 +1,5 @@
 // What runs in threads ends, and finds what the clauses say.
-use crate::{add_by_four, add_by_two, turns_overlap, write_and_meet, write_and_read};
+use crate::{add_by_four, add_by_two, looks_tell, turns_overlap, write_and_meet, write_and_read};
 use std::test::Fail;
 
 #[test]
@@ -34,5 +34,12 @@ fn a_pass_reads_what_another_has_written(rt: HostRuntime) -> Result<(), Fail> {
 fn two_cells_overlap(rt: HostRuntime) -> Result<(), Fail> {
     let overlapped = turns_overlap(&rt, rt.alloc()).ok_or("no memory")?;
     assert!(rt; overlapped);
+    Ok(())
+}
+
+#[test]
+fn a_look_tells_whether_there_is_news(rt: HostRuntime) -> Result<(), Fail> {
+    let told = looks_tell(&rt, rt.alloc()).ok_or("no memory")?;
+    assert!(rt; told);
     Ok(())
 }

@@ -1,10 +1,7 @@
-use Rattle.std.proofs.Common.{rules, ◌≡◌, ◌<◌, ◌≤◌, ◌∙◌, ◌^◌, length, sym, ap, subst, refl, arith, true, false, Ok, Err, Some, None}
-use Rattle.turn_cell.specs.Passes.{seen}
-use Rattle.input_gate.specs.declared.gate.GateItem.TheVariants as items
+use Rattle.std.proofs.Common.{rules, ◌∙◌, subst, refl, arith, Ok}
 use Rattle.input_gate.specs.Channels.{account_of, Took}
-use Rattle.input_gate.specs.Lanes.{lent_size}
 use Rattle.input_gate.proofs.RoundLaws.{quiet_length, quiet_on, quiet_cells, up_then, gave_on, most_on, same_of, nothing_of}
-use Rattle.input_gate.proofs.GateLaws.{looked_on, seen_stop}
+use Rattle.input_gate.proofs.GateLaws.{looked_on}
 use Rattle.input_gate.proofs.cell_gate.next_of.Goals as goal
 
 pub returns-in-Err-clause-gave : goal.returns-in-Err-clause-gave

@@ -1,5 +1,4 @@
-use Rattle.std.proofs.Common.{rules, ◌∙◌, subst, sym}
-use Rattle.input_gate.specs.Lanes.{IsIdle}
+use Rattle.std.proofs.Common.{rules}
 use Rattle.input_gate.proofs.LaneLaws.{idle_refl, idle_then, idle_added, idle_same}
 use Rattle.input_gate.proofs.lane.add_floating.Goals as goal
 

@@ -1,7 +1,6 @@
 use Rattle.std.proofs.Common.{◌≡◌}
-use Rattle.turn_cell.specs.Passes.{opened_with}
 use Rattle.input_gate.specs.Turning.{IsGatePass}
-use Rattle.input_gate.specs.Lanes.{IsLender, IsIdle, lent_size}
+use Rattle.input_gate.specs.Lanes.{IsLender, IsIdle}
 use Rattle.input_gate.proofs.lane.add_floating.Given as goal
 
 abbrev pub invariant-loop-want : goal.invariant-loop-want

@@ -1,4 +1,4 @@
-use Rattle.std.proofs.Common.{rules, sym}
+use Rattle.std.proofs.Common.{rules}
 use Rattle.input_gate.proofs.LaneLaws.{lane_given, given_line}
 use Rattle.input_gate.proofs.lane.give_line.Goals as goal
 

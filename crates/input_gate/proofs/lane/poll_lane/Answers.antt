@@ -1,6 +1,5 @@
-use Rattle.std.proofs.Common.{rules, ◌≡◌, ◌++◌, ◌∷◌, [], ◌∙◌, ap, sym, append-nil}
+use Rattle.std.proofs.Common.{◌++◌, ◌∷◌, [], ◌∙◌, ap, sym, append-nil}
 use Rattle.flow_defs.specs.declared.parcel.Parcel.TheVariants as parcels
-use Rattle.input_gate.specs.Turning.{given_to}
 use Rattle.input_gate.specs.Lanes.{polled}
 use Rattle.input_gate.proofs.LaneLaws.{lane_buffer, quiet_buffer, lane_nothing, quiet_nothing, lane_end, quiet_end, lane_front, gives_front, lane_inline, gives_inline}
 use Rattle.input_gate.proofs.lane.poll_lane.Goals as goal

@@ -1,4 +1,4 @@
-use Rattle.std.proofs.Common.{rules, ◌≡◌, ◌∙◌, Some, None, sym}
+use Rattle.std.proofs.Common.{rules, Some}
 use Rattle.input_gate.specs.Lanes.{lent_size}
 use Rattle.input_gate.proofs.LaneLaws.{lane_same, out_of, lane_back}
 use Rattle.input_gate.proofs.lane.refill.Goals as goal

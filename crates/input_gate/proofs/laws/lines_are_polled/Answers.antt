@@ -1,4 +1,4 @@
-use Rattle.std.proofs.Common.{◌≡◌, ℕ, ◌++◌, true, subst, sym, ap}
+use Rattle.std.proofs.Common.{◌≡◌, ℕ, ◌++◌, true, subst}
 use Rattle.std.specs.List.{AllByRecursion}
 use Rattle.flow_defs.specs.Parcels.{data_of, has_end}
 use Rattle.flow_defs.specs.Records.{all_encoded, IsShort}

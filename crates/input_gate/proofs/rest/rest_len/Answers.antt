@@ -1,4 +1,4 @@
-use Rattle.std.proofs.Common.{rules, ◌≡◌, ◌<◌, ◌≤◌, ◌-◌, length, arith}
+use Rattle.std.proofs.Common.{arith}
 use Rattle.input_gate.proofs.Growing.{none_of_few, none_of_cut, begins_too_long, begins_with}
 use Rattle.input_gate.proofs.rest.rest_len.Goals as goal
 

@@ -1,7 +1,7 @@
-use Rattle.std.proofs.Common.{rules, ◌≡◌, ◌<◌, ◌≤◌, ◌∙◌, sym, ap, subst, refl, true, false, None}
+use Rattle.std.proofs.Common.{◌∙◌, ap, false}
 use Rattle.input_gate.specs.declared.lane.Lane.{Lane}
-use Rattle.input_gate.specs.Channels.{at_of}
-use Rattle.input_gate.proofs.RoundLaws.{lane_at, quiet_all, quiet_set, cells_set, at_get, at_here, at_there, at_same, no_spare_set, no_spare_at, same_lane, not_free, blocked_here, came_at, may_not, looked_at, resumed_of, line_given, line_cell, fault_given, spare_given, came_cell, here_given, look_given, look_cell, look_looked, gave_of}
+use Rattle.input_gate.specs.Turning.{looks_of}
+use Rattle.input_gate.proofs.RoundLaws.{quiet_all, cells_set, at_same, no_spare_set, no_spare_at, same_lane, line_given, line_cell}
 use Rattle.input_gate.proofs.round.line_at.Goals as goal
 
 pub returns-then-index-clause-given : goal.returns-then-index-clause-given
@@ -18,7 +18,7 @@ returns-clause-cells c = cells_set c.args.lanes.now.items c.args.at _ c.index_mu
 
 pub returns-clause-same : goal.returns-clause-same
 returns-clause-same c d = (
-  at_same (λ (lane : Lane). Rattle.turn_cell.specs.Passes.seen lane.pass) _ c.args.lanes.now.items c.args.at d _ c.index_mut.result.now c.give_line.new.lane c.index_mut.ensures.value c.requires.within (ap Rattle.turn_cell.specs.Passes.seen c.give_line.ensures.same.0),
+  at_same (λ (lane : Lane). looks_of lane.pass) _ c.args.lanes.now.items c.args.at d _ c.index_mut.result.now c.give_line.new.lane c.index_mut.ensures.value c.requires.within (ap looks_of c.give_line.ensures.same.0),
   at_same (λ (lane : Lane). lane.ended) false c.args.lanes.now.items c.args.at d _ c.index_mut.result.now c.give_line.new.lane c.index_mut.ensures.value c.requires.within c.give_line.ensures.same.1,
 )
 

@@ -1,5 +1,5 @@
-use Rattle.std.proofs.Common.{rules, ◌≡◌, ◌<◌, ◌≤◌, ◌∙◌, sym, ap, subst, refl, true, false, None, true≢false}
-use Rattle.turn_cell.specs.Passes.{seen}
+use Rattle.std.proofs.Common.{◌<◌, ◌∙◌, sym, ap, subst, false, true≢false}
+use Rattle.input_gate.specs.Turning.{looks_of}
 use Rattle.input_gate.specs.declared.lane.Lane.{Lane}
 use Rattle.input_gate.proofs.RoundLaws.{quiet_all, cells_set, at_get, at_there, no_spare_set, no_spare_at, same_lane, not_free, may_not, look_given, look_cell, look_looked}
 use Rattle.input_gate.proofs.round.look_at.Goals as goal
@@ -43,7 +43,7 @@ pub returns-clause-looked : goal.returns-clause-looked
 returns-clause-looked g c = look_looked c.requires.lanes.0 c.args.lanes.now.items c.args.at _ c.index_mut.result.now c.look.new.lane c.index_mut.ensures.value c.requires.within c.requires.lanes.1 c.args.hold c.look.result c.look.ensures.looked
 
 pub returns-clause-others : goal.returns-clause-others
-returns-clause-others g c d ne = (at_there (λ (lane : Lane). seen lane.pass) _ c.args.lanes.now.items c.args.at d c.look.new.lane ne, at_there (λ (lane : Lane). lane.ended) false c.args.lanes.now.items c.args.at d c.look.new.lane ne)
+returns-clause-others g c d ne = (at_there (λ (lane : Lane). looks_of lane.pass) _ c.args.lanes.now.items c.args.at d c.look.new.lane ne, at_there (λ (lane : Lane). lane.ended) false c.args.lanes.now.items c.args.at d c.look.new.lane ne)
 
 pub returns-clause-spare : goal.returns-clause-spare
 returns-clause-spare g c = no_spare_set c.args.lanes.now.items c.args.at c.look.new.lane c.requires.spare c.requires.within (c.look.ensures.same.0 ∙ no_spare_at c.args.lanes.now.items c.args.at _ c.index_mut.result.now c.requires.spare c.requires.within c.index_mut.ensures.value)

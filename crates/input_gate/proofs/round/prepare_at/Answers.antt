@@ -1,7 +1,4 @@
-use Rattle.std.proofs.Common.{rules, ◌≡◌, ◌<◌, ◌≤◌, ◌∙◌, sym, ap, subst, refl, true, false, None}
-use Rattle.input_gate.specs.declared.lane.Lane.{Lane}
-use Rattle.input_gate.specs.Channels.{at_of}
-use Rattle.input_gate.proofs.RoundLaws.{lane_at, quiet_all, quiet_set, cells_set, at_get, at_here, at_there, at_same, no_spare_set, no_spare_at, same_lane, not_free, blocked_here, came_at, may_not, looked_at, resumed_of, line_given, line_cell, fault_given, spare_given, came_cell, here_given, look_given, look_cell, look_looked, gave_of}
+use Rattle.input_gate.proofs.RoundLaws.{quiet_all, quiet_set, no_spare_set, no_spare_at, fault_given}
 use Rattle.input_gate.proofs.round.prepare_at.Goals as goal
 
 pub returns-then-index-clause-quiet : goal.returns-then-index-clause-quiet

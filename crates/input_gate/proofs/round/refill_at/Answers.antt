@@ -1,8 +1,7 @@
-use Rattle.std.proofs.Common.{rules, ◌≡◌, ◌<◌, ◌≤◌, ◌∙◌, sym, ap, subst, refl, Bool, true, false, true≢false, not, Option, Some, None}
+use Rattle.std.proofs.Common.{◌≡◌, ◌∙◌, ap, refl, Bool, true, true≢false, not, Option, Some, None}
 use Rattle.std.specs.Option.{is_some}
 use Rattle.input_gate.specs.declared.lane.Lane.{Lane}
-use Rattle.input_gate.specs.Channels.{at_of}
-use Rattle.input_gate.proofs.RoundLaws.{lane_at, quiet_all, quiet_set, cells_set, at_get, at_here, at_there, at_same, no_spare_set, no_spare_at, same_lane, not_free, blocked_here, came_at, may_not, looked_at, resumed_of, line_given, line_cell, fault_given, spare_given, came_cell, here_given, look_given, look_cell, look_looked, gave_of}
+use Rattle.input_gate.proofs.RoundLaws.{quiet_all, quiet_set, at_get, at_there, here_given}
 use Rattle.input_gate.proofs.round.refill_at.Goals as goal
 
 none_of : {A : Type 0} (x : Option A) (is_none : Bool) → is_some x ≡ not is_none → is_none ≡ true → x ≡ None

@@ -1,7 +1,7 @@
-use Rattle.std.proofs.Common.{rules, ◌≡◌, ◌<◌, ◌≤◌, ◌∙◌, length, sym, ap, subst, refl, arith, true, false}
+use Rattle.std.proofs.Common.{rules, ◌≡◌, length, sym, subst, arith}
 use Rattle.input_gate.specs.Gates.{Ended}
 use Rattle.input_gate.specs.Channels.{account_of}
-use Rattle.input_gate.proofs.RoundLaws.{quiet_all, quiet_length, quiet_on, quiet_cells, up_of, gave_on, most_on, looked_more, spare_more, spare_all, over_more, most_more, reached_more, most_all}
+use Rattle.input_gate.proofs.RoundLaws.{quiet_all, quiet_length, quiet_on, up_of}
 use Rattle.input_gate.proofs.rounds.find_line.Goals as goal
 
 pub loop-turn-init : goal.loop-turn-init

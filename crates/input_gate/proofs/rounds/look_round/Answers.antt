@@ -1,8 +1,7 @@
-use Rattle.std.proofs.Common.{rules, ◌≡◌, ◌<◌, ◌≤◌, ◌∙◌, length, sym, ap, subst, refl, arith, true, false}
+use Rattle.std.proofs.Common.{rules, ◌<◌, ◌≤◌, ◌∙◌, length, arith}
 use Rattle.flow_defs.specs.declared.task.BarrierKind.TheVariants.{Front}
 use Rattle.input_gate.specs.declared.gate.GateItem.TheVariants as items
-use Rattle.input_gate.specs.Lanes.{lent_size}
-use Rattle.input_gate.proofs.RoundLaws.{quiet_all, quiet_length, quiet_on, quiet_cells, up_of, gave_on, most_on, looked_more, spare_more, spare_all, over_more, most_more, reached_more, most_all}
+use Rattle.input_gate.proofs.RoundLaws.{quiet_all, quiet_length, quiet_on, quiet_cells, gave_on, most_on, looked_more}
 use Rattle.input_gate.proofs.rounds.look_round.Goals as goal
 
 pub loop-i-init : goal.loop-i-init

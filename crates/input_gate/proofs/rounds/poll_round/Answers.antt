@@ -1,9 +1,8 @@
-use Rattle.std.proofs.Common.{rules, ◌≡◌, ◌<◌, ◌≤◌, ◌∙◌, length, sym, ap, subst, refl, arith, true, false, Ok}
+use Rattle.std.proofs.Common.{rules, ◌≡◌, ◌∙◌, length, sym, subst, refl, arith, Ok}
 use Rattle.input_gate.specs.declared.gate.GateItem.TheVariants as items
 use Rattle.input_gate.specs.Gates.{Ended}
 use Rattle.input_gate.specs.Channels.{account_of, CameAt}
-use Rattle.input_gate.specs.Lanes.{lent_size}
-use Rattle.input_gate.proofs.RoundLaws.{quiet_all, quiet_length, quiet_on, quiet_cells, up_of, gave_on, most_on, looked_more, spare_more, spare_all, over_more, most_more, reached_more, most_all}
+use Rattle.input_gate.proofs.RoundLaws.{quiet_all, quiet_length, quiet_on, quiet_cells, up_of, gave_on, most_on}
 use Rattle.input_gate.proofs.rounds.poll_round.Goals as goal
 
 pub loop-turn-init : goal.loop-turn-init

@@ -1,7 +1,6 @@
-use Rattle.std.proofs.Common.{◌≡◌, ◌<◌, ◌≤◌, ℕ, length}
+use Rattle.std.proofs.Common.{◌≡◌}
 use Rattle.input_gate.specs.Lanes.{IsLender, lent_size}
-use Rattle.input_gate.specs.Channels.{AreLanes, AreQuiet, HaveNoSpare, HaveNoSpareBelow, HasLooked, account_of, seen_in}
-use Rattle.input_gate.proofs.RoundLaws.{OverBelow, MostBelow, Reached}
+use Rattle.input_gate.specs.Channels.{AreLanes, AreQuiet, HaveNoSpare}
 use Rattle.input_gate.proofs.rounds.poll_round.Given as goal
 
 abbrev pub invariant-loop-turn : goal.invariant-loop-turn

@@ -1,6 +1,5 @@
-use Rattle.std.proofs.Common.{rules, ◌≡◌, ◌<◌, ◌≤◌, ◌∙◌, length, sym, ap, subst, refl, arith, true, false}
-use Rattle.input_gate.specs.Lanes.{lent_size}
-use Rattle.input_gate.proofs.RoundLaws.{quiet_all, quiet_length, quiet_on, quiet_cells, up_of, gave_on, most_on, looked_more, spare_more, spare_all, over_more, most_more, reached_more, most_all}
+use Rattle.std.proofs.Common.{rules, ◌<◌, ◌≤◌, ◌∙◌, length, refl, arith}
+use Rattle.input_gate.proofs.RoundLaws.{quiet_all, quiet_length, quiet_on, spare_more, spare_all}
 use Rattle.input_gate.proofs.rounds.refill_all.Goals as goal
 
 pub loop-i-init : goal.loop-i-init

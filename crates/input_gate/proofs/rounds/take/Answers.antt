@@ -1,10 +1,9 @@
-use Rattle.std.proofs.Common.{rules, ◌≡◌, ◌<◌, ◌≤◌, ◌∙◌, ◌^◌, length, sym, ap, subst, refl, arith, true, false, Ok, Some, None}
+use Rattle.std.proofs.Common.{◌<◌, ◌∙◌, length, subst, arith, Ok}
 use Rattle.flow_defs.specs.declared.task.BarrierKind.TheVariants.{Front}
 use Rattle.input_gate.specs.declared.gate.GateItem.TheVariants as items
-use Rattle.input_gate.specs.Gates.{Ended}
-use Rattle.input_gate.specs.Channels.{account_of, CameRound}
+use Rattle.input_gate.specs.Channels.{CameRound}
 use Rattle.input_gate.specs.Lanes.{lent_size}
-use Rattle.input_gate.proofs.RoundLaws.{quiet_length, quiet_on, quiet_cells, up_then, gave_on, most_on, looked_through, same_of}
+use Rattle.input_gate.proofs.RoundLaws.{quiet_length, quiet_on, quiet_cells, up_then, gave_on, most_on, looked_through}
 use Rattle.input_gate.proofs.rounds.take.Goals as goal
 
 pub look_round-requires-clause-few : goal.look_round-requires-clause-few

@@ -1,5 +1,5 @@
-use Rattle.std.proofs.Common.{rules, ◌≡◌, ◌<◌, ◌∷◌, [], ◌++◌, refl, ◌∙◌, sym, ap, subst}
-use Rattle.turn_cell.specs.Passes.{opened_with, number, seen}
+use Rattle.std.proofs.Common.{rules, ◌≡◌, ◌<◌, ◌++◌, refl, ◌∙◌, ap}
+use Rattle.turn_cell.specs.Passes.{seen, sights}
 use Rattle.input_channel.specs.declared.entry.ReceiveEntry.TheVariants.{Added}
 use Rattle.input_channel.specs.Counts.{wants}
 use Rattle.input_channel.specs.States.{ChannelState}
@@ -10,7 +10,7 @@ use Rattle.input_gate.proofs.turns.add_in_turn.Goals as goal
 pub leave-requires-clause-state : goal.leave-requires-clause-state
 leave-requires-clause-state g c =
     let p = c.args.pass.now in let t = c.enter-turn.result.pass.now in let e = c.enter-turn.ensures in let laws = c.channels_stand_for_histories.ensures in let old = c.state-2.result.now in
-    let b : Begun p t c.enter-turn.result.state = record { first = c.requires.pass.1; same = e.pass.0; later = e.seen; own_before = c.requires.pass.0.0.5; own = e.turn.0.0.5; stands = e.state.0 } in
+    let b : Begun p t c.enter-turn.result.state = record { first = c.requires.pass.1; same = e.pass.0; later = e.seen; looked = e.looked; own_before = c.requires.pass.0.0.5; own = e.turn.0.0.5; stands = e.state.0 } in
     let wanted : 0 < wants old.room old.counts = search rules in
     let is = c.state-2.ensures.value ∙ c.state.ensures.value in (
       state_after p t c.enter-turn.result.state b laws.calls laws.entries old c.add_floating.new.self Added is refl wanted c.add_floating.ensures,
@@ -20,16 +20,17 @@ leave-requires-clause-state g c =
 pub returns-then-wants-eq0-clause-later : goal.returns-then-wants-eq0-clause-later
 returns-then-wants-eq0-clause-later g c =
     let p = c.args.pass.now in let t = c.enter-turn.result.pass.now in let e = c.enter-turn.ensures in
-    let b : Begun p t c.enter-turn.result.state = record { first = c.requires.pass.1; same = e.pass.0; later = e.seen; own_before = c.requires.pass.0.0.5; own = e.turn.0.0.5; stands = e.state.0 } in
+    let b : Begun p t c.enter-turn.result.state = record { first = c.requires.pass.1; same = e.pass.0; later = e.seen; looked = e.looked; own_before = c.requires.pass.0.0.5; own = e.turn.0.0.5; stands = e.state.0 } in
     let q = c.leave_as_is.new.self.1.0 in
     let m = rested p t c.enter-turn.result.state b q c.leave_as_is.ensures.rested in
-    let f : seen q ≡ seen p ++ m.0 = m.1 in
-    (m.0, search (rules, f))
+    let f : seen q ≡ seen p ++ m.0.0 = m.0.1 in
+    let g : sights q ≡ sights p ++ m.1.0 = m.1.1 in
+    ((m.0.0, search (rules, f)), (m.1.0, search (rules, g)))
 
 pub returns-then-wants-eq0-clause-given : goal.returns-then-wants-eq0-clause-given
 returns-then-wants-eq0-clause-given g c =
     let p = c.args.pass.now in let t = c.enter-turn.result.pass.now in let e = c.enter-turn.ensures in
-    let b : Begun p t c.enter-turn.result.state = record { first = c.requires.pass.1; same = e.pass.0; later = e.seen; own_before = c.requires.pass.0.0.5; own = e.turn.0.0.5; stands = e.state.0 } in
+    let b : Begun p t c.enter-turn.result.state = record { first = c.requires.pass.1; same = e.pass.0; later = e.seen; looked = e.looked; own_before = c.requires.pass.0.0.5; own = e.turn.0.0.5; stands = e.state.0 } in
     let q = c.leave_as_is.new.self.1.0 in
     let f : given_to q ≡ given_to p = rested_given p t c.enter-turn.result.state b c.passes_tell.ensures.given c.channels_stand_for_histories.ensures.passes q c.leave_as_is.ensures.rested in
     search (rules, f)
@@ -37,16 +38,17 @@ returns-then-wants-eq0-clause-given g c =
 pub returns-clause-later : goal.returns-clause-later
 returns-clause-later g c =
     let p = c.args.pass.now in let t = c.enter-turn.result.pass.now in let e = c.enter-turn.ensures in
-    let b : Begun p t c.enter-turn.result.state = record { first = c.requires.pass.1; same = e.pass.0; later = e.seen; own_before = c.requires.pass.0.0.5; own = e.turn.0.0.5; stands = e.state.0 } in
+    let b : Begun p t c.enter-turn.result.state = record { first = c.requires.pass.1; same = e.pass.0; later = e.seen; looked = e.looked; own_before = c.requires.pass.0.0.5; own = e.turn.0.0.5; stands = e.state.0 } in
     let q = c.leave.new.self.1.0 in
     let m = more p t c.enter-turn.result.state b q Added c.leave.ensures.entered in
-    let f : seen q ≡ seen p ++ m.0 = m.1 in
-    (m.0, search (rules, f))
+    let f : seen q ≡ seen p ++ m.0.0 = m.0.1 in
+    let g : sights q ≡ sights p ++ m.1.0 = m.1.1 in
+    ((m.0.0, search (rules, f)), (m.1.0, search (rules, g)))
 
 pub returns-clause-given : goal.returns-clause-given
 returns-clause-given g c =
     let p = c.args.pass.now in let t = c.enter-turn.result.pass.now in let e = c.enter-turn.ensures in
-    let b : Begun p t c.enter-turn.result.state = record { first = c.requires.pass.1; same = e.pass.0; later = e.seen; own_before = c.requires.pass.0.0.5; own = e.turn.0.0.5; stands = e.state.0 } in
+    let b : Begun p t c.enter-turn.result.state = record { first = c.requires.pass.1; same = e.pass.0; later = e.seen; looked = e.looked; own_before = c.requires.pass.0.0.5; own = e.turn.0.0.5; stands = e.state.0 } in
     let q = c.leave.new.self.1.0 in
     let f : given_to q ≡ given_to p = entered_given p t c.enter-turn.result.state b c.passes_tell.ensures.given c.channels_stand_for_histories.ensures.passes q Added c.leave.ensures.entered (λ i. refl) in
     search (rules, f)

@@ -1,7 +1,7 @@
 use Rattle.std.proofs.Common.{rules, ◌≡◌, ◌++◌, refl, ◌∙◌, sym, ap, subst}
 use Rattle.std.specs.Prelude.{option_to_list}
 use Rattle.turn_cell.specs.History.{entries_of}
-use Rattle.turn_cell.specs.Passes.{opened_with, number, seen}
+use Rattle.turn_cell.specs.Passes.{opened_with, seen, sights}
 use Rattle.input_channel.specs.declared.entry.ReceiveEntry.TheVariants.{Poll}
 use Rattle.input_channel.specs.Answers.{gave_of, given_by}
 use Rattle.input_channel.specs.States.{ChannelState, StandsFor}
@@ -12,23 +12,24 @@ use Rattle.input_gate.proofs.turns.poll_in_turn.Goals as goal
 pub leave_polled-requires-clause-state : goal.leave_polled-requires-clause-state
 leave_polled-requires-clause-state g c =
     let p = c.args.pass.now in let t = c.enter-turn.result.pass.now in let e = c.enter-turn.ensures in let laws = c.channels_stand_for_histories.ensures in let old = c.state.result.now in
-    let b : Begun p t c.enter-turn.result.state = record { first = c.requires.1; same = e.pass.0; later = e.seen; own_before = c.requires.0.0.5; own = e.turn.0.0.5; stands = e.state.0 } in
+    let b : Begun p t c.enter-turn.result.state = record { first = c.requires.1; same = e.pass.0; later = e.seen; looked = e.looked; own_before = c.requires.0.0.5; own = e.turn.0.0.5; stands = e.state.0 } in
     state_after p t c.enter-turn.result.state b laws.calls laws.entries old c.poll.new.self (Poll c.args.hold (gave_of c.in-Ok.polled)) c.state.ensures.value refl
     (c.answers_tell.ensures.polled old (entries_of (seen t)) c.args.hold c.in-Ok.polled c.in-Ok.ensures.answer) c.in-Ok.ensures.channel
 
 pub returns-clause-later : goal.returns-clause-later
 returns-clause-later g c =
     let p = c.args.pass.now in let t = c.enter-turn.result.pass.now in let e = c.enter-turn.ensures in
-    let b : Begun p t c.enter-turn.result.state = record { first = c.requires.1; same = e.pass.0; later = e.seen; own_before = c.requires.0.0.5; own = e.turn.0.0.5; stands = e.state.0 } in
+    let b : Begun p t c.enter-turn.result.state = record { first = c.requires.1; same = e.pass.0; later = e.seen; looked = e.looked; own_before = c.requires.0.0.5; own = e.turn.0.0.5; stands = e.state.0 } in
     let q = c.leave_polled.new.turn.1.0 in
     let m = more p t c.enter-turn.result.state b q (Poll c.args.hold (gave_of c.in-Ok.polled)) c.leave_polled.ensures.entered in
-    let f : seen q ≡ seen p ++ m.0 = m.1 in
-    (m.0, search (rules, f))
+    let f : seen q ≡ seen p ++ m.0.0 = m.0.1 in
+    let g : sights q ≡ sights p ++ m.1.0 = m.1.1 in
+    ((m.0.0, search (rules, f)), (m.1.0, search (rules, g)))
 
 pub returns-clause-given : goal.returns-clause-given
 returns-clause-given g c =
     let p = c.args.pass.now in let t = c.enter-turn.result.pass.now in let e = c.enter-turn.ensures in let laws = c.channels_stand_for_histories.ensures in let old = c.state.result.now in
-    let b : Begun p t c.enter-turn.result.state = record { first = c.requires.1; same = e.pass.0; later = e.seen; own_before = c.requires.0.0.5; own = e.turn.0.0.5; stands = e.state.0 } in
+    let b : Begun p t c.enter-turn.result.state = record { first = c.requires.1; same = e.pass.0; later = e.seen; looked = e.looked; own_before = c.requires.0.0.5; own = e.turn.0.0.5; stands = e.state.0 } in
     let q = c.leave_polled.new.turn.1.0 in
     let f : given_to q ≡ given_to p ++ option_to_list (given_by c.in-Ok.polled) = polled_given p t c.enter-turn.result.state b c.passes_tell.ensures.given laws.passes laws.poll c.answers_tell.ensures.given q old c.args.hold c.in-Ok.polled (gave_of c.in-Ok.polled) c.state.ensures.value c.in-Ok.ensures.answer c.leave_polled.ensures.entered in
     search (rules, f)
@@ -36,7 +37,7 @@ returns-clause-given g c =
 pub returns-clause-fits : goal.returns-clause-fits
 returns-clause-fits g c =
     let p = c.args.pass.now in let t = c.enter-turn.result.pass.now in let e = c.enter-turn.ensures in let laws = c.channels_stand_for_histories.ensures in let old = c.state.result.now in
-    let b : Begun p t c.enter-turn.result.state = record { first = c.requires.1; same = e.pass.0; later = e.seen; own_before = c.requires.0.0.5; own = e.turn.0.0.5; stands = e.state.0 } in
+    let b : Begun p t c.enter-turn.result.state = record { first = c.requires.1; same = e.pass.0; later = e.seen; looked = e.looked; own_before = c.requires.0.0.5; own = e.turn.0.0.5; stands = e.state.0 } in
     let entered = c.leave_polled.ensures.entered in
     let q = c.leave_polled.new.turn.1.0 in
     let now : given_to q ≡ given_to p ++ option_to_list (given_by c.in-Ok.polled) =

@@ -1,6 +1,6 @@
-use Rattle.std.proofs.Common.{rules, ◌≡◌, ◌<◌, ◌∷◌, [], ◌++◌, refl, ◌∙◌, sym, ap, subst}
+use Rattle.std.proofs.Common.{rules, ◌≡◌, ◌<◌, ◌++◌, refl, ◌∙◌, sym, subst}
 use Rattle.turn_cell.specs.History.{entries_of}
-use Rattle.turn_cell.specs.Passes.{opened_with, number, seen}
+use Rattle.turn_cell.specs.Passes.{seen, sights}
 use Rattle.input_channel.specs.declared.entry.ReceiveEntry.TheVariants.{Returned}
 use Rattle.input_channel.specs.Legal.{polled_with, returned}
 use Rattle.input_channel.specs.States.{StandsFor}
@@ -11,30 +11,31 @@ use Rattle.input_gate.proofs.turns.return_in_turn.Goals as goal
 pub recycle-free-requires-clause-given : goal.recycle-free-requires-clause-given
 recycle-free-requires-clause-given g c is =
     let p = c.args.pass.now in let t = c.enter-turn.result.pass.now in let e = c.enter-turn.ensures in let laws = c.channels_stand_for_histories.ensures in let old = c.state.result.now in
-    let b : Begun p t c.enter-turn.result.state = record { first = c.requires.pass.1; same = e.pass.0; later = e.seen; own_before = c.requires.pass.0.0.5; own = e.turn.0.0.5; stands = e.state.0 } in
+    let b : Begun p t c.enter-turn.result.state = record { first = c.requires.pass.1; same = e.pass.0; later = e.seen; looked = e.looked; own_before = c.requires.pass.0.0.5; own = e.turn.0.0.5; stands = e.state.0 } in
     let out = out_here p t c.enter-turn.result.state b laws.passes c.passes_tell.ensures.buffers c.args.buf.exclusive c.requires.out in
     laws.fits old (seen t) (subst (λ s. StandsFor s (seen t)) (sym c.state.ensures.value) e.state.0) (subst (λ kind. returned kind (entries_of (seen t)) < polled_with kind (entries_of (seen t))) is out)
 
 pub leave_returned-requires-clause-state : goal.leave_returned-requires-clause-state
 leave_returned-requires-clause-state g c =
     let p = c.args.pass.now in let t = c.enter-turn.result.pass.now in let e = c.enter-turn.ensures in let laws = c.channels_stand_for_histories.ensures in let old = c.state.result.now in
-    let b : Begun p t c.enter-turn.result.state = record { first = c.requires.pass.1; same = e.pass.0; later = e.seen; own_before = c.requires.pass.0.0.5; own = e.turn.0.0.5; stands = e.state.0 } in
+    let b : Begun p t c.enter-turn.result.state = record { first = c.requires.pass.1; same = e.pass.0; later = e.seen; looked = e.looked; own_before = c.requires.pass.0.0.5; own = e.turn.0.0.5; stands = e.state.0 } in
     let out = out_here p t c.enter-turn.result.state b laws.passes c.passes_tell.ensures.buffers c.args.buf.exclusive c.requires.out in
     state_after p t c.enter-turn.result.state b laws.calls laws.entries old c.state-2.result.now (Returned c.args.buf.exclusive) c.state.ensures.value refl out (c.state-2.ensures.value ∙ c.recycle-free.ensures.channel)
 
 pub returns-clause-later : goal.returns-clause-later
 returns-clause-later g c =
     let p = c.args.pass.now in let t = c.enter-turn.result.pass.now in let e = c.enter-turn.ensures in
-    let b : Begun p t c.enter-turn.result.state = record { first = c.requires.pass.1; same = e.pass.0; later = e.seen; own_before = c.requires.pass.0.0.5; own = e.turn.0.0.5; stands = e.state.0 } in
+    let b : Begun p t c.enter-turn.result.state = record { first = c.requires.pass.1; same = e.pass.0; later = e.seen; looked = e.looked; own_before = c.requires.pass.0.0.5; own = e.turn.0.0.5; stands = e.state.0 } in
     let q = c.leave_returned.new.turn.1.0 in
     let m = more p t c.enter-turn.result.state b q (Returned c.args.buf.exclusive) c.leave_returned.ensures.entered in
-    let f : seen q ≡ seen p ++ m.0 = m.1 in
-    (m.0, search (rules, f))
+    let f : seen q ≡ seen p ++ m.0.0 = m.0.1 in
+    let g : sights q ≡ sights p ++ m.1.0 = m.1.1 in
+    ((m.0.0, search (rules, f)), (m.1.0, search (rules, g)))
 
 pub returns-clause-given : goal.returns-clause-given
 returns-clause-given g c =
     let p = c.args.pass.now in let t = c.enter-turn.result.pass.now in let e = c.enter-turn.ensures in
-    let b : Begun p t c.enter-turn.result.state = record { first = c.requires.pass.1; same = e.pass.0; later = e.seen; own_before = c.requires.pass.0.0.5; own = e.turn.0.0.5; stands = e.state.0 } in
+    let b : Begun p t c.enter-turn.result.state = record { first = c.requires.pass.1; same = e.pass.0; later = e.seen; looked = e.looked; own_before = c.requires.pass.0.0.5; own = e.turn.0.0.5; stands = e.state.0 } in
     let q = c.leave_returned.new.turn.1.0 in
     let f : given_to q ≡ given_to p = entered_given p t c.enter-turn.result.state b c.passes_tell.ensures.given c.channels_stand_for_histories.ensures.passes q (Returned c.args.buf.exclusive) c.leave_returned.ensures.entered (λ i. refl) in
     search (rules, f)

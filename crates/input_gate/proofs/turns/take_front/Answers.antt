@@ -1,12 +1,12 @@
 use Rattle.std.proofs.Common.{rules, ◌≡◌, ◌∷◌, [], ◌++◌, false, true, refl, ◌∙◌, sym, ap, subst}
 use Rattle.std.specs.Prelude.{option_to_list}
 use Rattle.turn_cell.specs.History.{entries_of}
-use Rattle.turn_cell.specs.Passes.{number, seen}
+use Rattle.turn_cell.specs.Passes.{number, seen, sights}
 use Rattle.flow_defs.specs.declared.parcel.Parcel.TheVariants as parcels
 use Rattle.flow_defs.specs.declared.task.BarrierKind.TheVariants.{Front}
 use Rattle.input_channel.specs.declared.entry.Gave.TheVariants.{NoBuffer}
 use Rattle.input_channel.specs.declared.entry.ReceiveEntry.TheVariants.{Poll}
-use Rattle.input_channel.specs.Answers.{gave_of, given_by, IsAnswer}
+use Rattle.input_channel.specs.Answers.{gave_of, given_by}
 use Rattle.input_channel.specs.Inboxes.{front_waits}
 use Rattle.input_channel.specs.States.{ChannelState, StandsFor, after}
 use Rattle.input_gate.specs.Turning.{given_to}
@@ -16,7 +16,7 @@ use Rattle.input_gate.proofs.turns.take_front.Goals as goal
 pub returns-then-not-front_waits-clause-given : goal.returns-then-not-front_waits-clause-given
 returns-then-not-front_waits-clause-given g c =
     let p = c.args.pass.now in let t = c.enter-turn.result.pass.now in let e = c.enter-turn.ensures in let laws = c.channels_stand_for_histories.ensures in
-    let b : Begun p t c.enter-turn.result.state = record { first = c.requires.1; same = e.pass.0; later = e.seen; own_before = c.requires.0.0.5; own = e.turn.0.0.5; stands = e.state.0 } in
+    let b : Begun p t c.enter-turn.result.state = record { first = c.requires.1; same = e.pass.0; later = e.seen; looked = e.looked; own_before = c.requires.0.0.5; own = e.turn.0.0.5; stands = e.state.0 } in
     let q = c.leave_as_is.new.self.1.0 in
     let f : given_to q ≡ given_to p = rested_given p t c.enter-turn.result.state b c.passes_tell.ensures.given laws.passes q c.leave_as_is.ensures.rested in
     search (rules, f)
@@ -24,7 +24,7 @@ returns-then-not-front_waits-clause-given g c =
 pub leave-requires-clause-state : goal.leave-requires-clause-state
 leave-requires-clause-state g c =
     let p = c.args.pass.now in let t = c.enter-turn.result.pass.now in let e = c.enter-turn.ensures in let laws = c.channels_stand_for_histories.ensures in
-    let b : Begun p t c.enter-turn.result.state = record { first = c.requires.1; same = e.pass.0; later = e.seen; own_before = c.requires.0.0.5; own = e.turn.0.0.5; stands = e.state.0 } in
+    let b : Begun p t c.enter-turn.result.state = record { first = c.requires.1; same = e.pass.0; later = e.seen; looked = e.looked; own_before = c.requires.0.0.5; own = e.turn.0.0.5; stands = e.state.0 } in
     let old = c.state-2.result.now in
     let is = c.state-2.ensures.value ∙ c.state.ensures.value in
     let waits : front_waits old.queue ≡ true = ap (λ (s : ChannelState). front_waits s.queue) c.state-2.ensures.value ∙ sym c.front_waits.ensures ∙ c.if-not-front_waits.false in
@@ -51,16 +51,17 @@ unreachable-requires-in-End g c =
 pub returns-clause-later : goal.returns-clause-later
 returns-clause-later g c =
     let p = c.args.pass.now in let t = c.enter-turn.result.pass.now in let e = c.enter-turn.ensures in let laws = c.channels_stand_for_histories.ensures in
-    let b : Begun p t c.enter-turn.result.state = record { first = c.requires.1; same = e.pass.0; later = e.seen; own_before = c.requires.0.0.5; own = e.turn.0.0.5; stands = e.state.0 } in
+    let b : Begun p t c.enter-turn.result.state = record { first = c.requires.1; same = e.pass.0; later = e.seen; looked = e.looked; own_before = c.requires.0.0.5; own = e.turn.0.0.5; stands = e.state.0 } in
     let q = c.leave.new.self.1.0 in
     let m = more p t c.enter-turn.result.state b q (Poll false NoBuffer) c.leave.ensures.entered in
-    let f : seen q ≡ seen p ++ m.0 = m.1 in
-    (m.0, search (rules, f))
+    let f : seen q ≡ seen p ++ m.0.0 = m.0.1 in
+    let g : sights q ≡ sights p ++ m.1.0 = m.1.1 in
+    ((m.0.0, search (rules, f)), (m.1.0, search (rules, g)))
 
 pub returns-clause-given : goal.returns-clause-given
 returns-clause-given g c =
     let p = c.args.pass.now in let t = c.enter-turn.result.pass.now in let e = c.enter-turn.ensures in let laws = c.channels_stand_for_histories.ensures in
-    let b : Begun p t c.enter-turn.result.state = record { first = c.requires.1; same = e.pass.0; later = e.seen; own_before = c.requires.0.0.5; own = e.turn.0.0.5; stands = e.state.0 } in
+    let b : Begun p t c.enter-turn.result.state = record { first = c.requires.1; same = e.pass.0; later = e.seen; looked = e.looked; own_before = c.requires.0.0.5; own = e.turn.0.0.5; stands = e.state.0 } in
     let old = c.state-2.result.now in
     let is = c.state-2.ensures.value ∙ c.state.ensures.value in
     let waits : front_waits old.queue ≡ true = ap (λ (s : ChannelState). front_waits s.queue) c.state-2.ensures.value ∙ sym c.front_waits.ensures ∙ c.if-not-front_waits.false in
@@ -74,7 +75,7 @@ returns-clause-given g c =
 pub returns-clause-numbered : goal.returns-clause-numbered
 returns-clause-numbered g c =
     let p = c.args.pass.now in let t = c.enter-turn.result.pass.now in let e = c.enter-turn.ensures in let laws = c.channels_stand_for_histories.ensures in
-    let b : Begun p t c.enter-turn.result.state = record { first = c.requires.1; same = e.pass.0; later = e.seen; own_before = c.requires.0.0.5; own = e.turn.0.0.5; stands = e.state.0 } in
+    let b : Begun p t c.enter-turn.result.state = record { first = c.requires.1; same = e.pass.0; later = e.seen; looked = e.looked; own_before = c.requires.0.0.5; own = e.turn.0.0.5; stands = e.state.0 } in
     let old = c.state-2.result.now in
     let is = c.state-2.ensures.value ∙ c.state.ensures.value in
     let waits : front_waits old.queue ≡ true = ap (λ (s : ChannelState). front_waits s.queue) c.state-2.ensures.value ∙ sym c.front_waits.ensures ∙ c.if-not-front_waits.false in

@@ -16,7 +16,7 @@ loop-other-smaller g c = let e = ap length c.in-Some.ensures.items in let l = le
 pub loop-other-preserved : goal.loop-other-preserved
 loop-other-preserved g c = let q = c.loop-other.invariant in let s = c.gather.ensures.pass.1 in let rest = c.pop.new.self.items in let other = c.in-Some.other in record {
   pass = c.gather.ensures.pass.0;
-  same = ((s.0.0 ∙ q.same.0.0, s.0.1 ∙ q.same.0.1), s.1 ∙ q.same.1);
+  same = ((s.0.0 ∙ q.same.0.0, s.0.1 ∙ q.same.0.1), s.1 ∙ q.same.1, s.2 ∙ q.same.2);
   others = λ k p at. q.others k p (ap (λ l. get_elem? l k) c.in-Some.ensures.items ∙ at_longer rest (other ∷ []) k p at);
   taken = takes_more c.args.others.items c.loop-other.others.items rest other (gathered c.loop-other.pass) (gathered c.gather.new.pass) c.in-Some.ensures.items c.gather.ensures.other q.taken;
 }

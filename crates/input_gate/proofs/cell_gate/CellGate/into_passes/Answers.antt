@@ -1,7 +1,6 @@
-use Rattle.std.proofs.Common.{◌≡◌, ◌∙◌, subst, sym, ap}
+use Rattle.std.proofs.Common.{◌∙◌, subst, sym, ap}
 use Rattle.conn_parts.specs.Shares.{AreOwn}
-use Rattle.input_gate.specs.Turning.{InputPass}
-use Rattle.input_gate.specs.Channels.{cells_in, passes_in}
+use Rattle.input_gate.specs.Channels.{cells_in}
 use Rattle.input_gate.specs.Lanes.{lent_size}
 use Rattle.input_gate.specs.States.{GateState, passes_of}
 use Rattle.input_gate.proofs.GateLaws.{own_of}

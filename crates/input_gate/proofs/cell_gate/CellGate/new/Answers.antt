@@ -1,4 +1,4 @@
-use Rattle.std.proofs.Common.{rules, ◌≡◌, ◌<◌, ◌≤◌, ◌^◌, ◌∙◌, length, sym, ap, subst, refl, arith}
+use Rattle.std.proofs.Common.{refl, arith}
 use Rattle.turn_cell.specs.Passes.{opened_with}
 use Rattle.segment_pool.specs.Pools.{size_of}
 use Rattle.local_pool.specs.Helds.{pool_of}

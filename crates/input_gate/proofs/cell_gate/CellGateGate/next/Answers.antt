@@ -1,4 +1,4 @@
-use Rattle.std.proofs.Common.{rules, ◌<◌, ◌≤◌, ◌^◌, ◌∙◌, length, subst, arith}
+use Rattle.std.proofs.Common.{rules, ◌∙◌, subst, arith}
 use Rattle.std.specs.Prelude.{IfOk}
 use Rattle.input_gate.specs.Lanes.{lent_size}
 use Rattle.input_gate.specs.States.{GateState, LookedFirst}

@@ -1,4 +1,4 @@
-use Rattle.std.proofs.Common.{rules, ◌≡◌, ◌<◌, ◌≤◌, ◌^◌, ◌∙◌, length, sym, ap, subst, refl, arith, suc}
+use Rattle.std.proofs.Common.{◌≡◌, ◌<◌, length, sym, subst, arith, suc}
 use Rattle.input_gate.specs.Gates.{stops_in}
 use Rattle.input_gate.specs.States.{GateState, account_in}
 use Rattle.input_gate.proofs.GateLaws.{cells_length}

@@ -1,0 +1,5 @@
+use Rattle.turn_cell.specs.Passes.{IsPassOf}
+use Rattle.turn_tests.proofs.looking.look_often.Given as goal
+
+abbrev pub invariant-loop-round : goal.invariant-loop-round
+invariant-loop-round l = IsPassOf l.cell l.pass

@@ -2,7 +2,7 @@
 use Rattle.std.specs.Prelude.{ℕ, ◌+◌, nat_lt, if◌then◌else◌, Option, None, Some, Result, Ok, Err, find}
 use Rattle.std.specs.Option.{option_map_or}
 use Rattle.credit_reader.specs.declared.reader.Reader.{Reader}
-use Rattle.credit_reader.specs.declared.reader.TheConstants.{CREDIT_MAX}
+use Rattle.flow_defs.specs.Limits.{credit_max}
 use Rattle.credit_reader.specs.declared.reader.Told.{Told}
 use Rattle.credit_reader.specs.declared.fault.RequestFault.{RequestFault}
 use Rattle.credit_reader.specs.declared.fault.RequestFault.TheVariants as request
@@ -23,7 +23,7 @@ request_answer (Some r) = if r.requested then Err request.Twice else Ok tt
 abbrev pub credit_answer : ℕ → Option Reader → Result (Unit {0}) CreditFault
 credit_answer n None = Err credit.UnknownChannel
 credit_answer n (Some r) =
-    if r.requested then (if nat_lt CREDIT_MAX (r.credit + n) then Err (credit.CreditOver (r.credit + n)) else Ok tt)
+    if r.requested then (if nat_lt credit_max (r.credit + n) then Err (credit.CreditOver (r.credit + n)) else Ok tt)
     else Err credit.UnknownChannel
 
 -- Resuming is refused where the channel was not requested, and where it is not blocked.

@@ -9,7 +9,7 @@ use Rattle.flow_defs.specs.declared.task.Head.TheVariants.{Nothing, Buffer, Even
 use Rattle.credit_reader.specs.declared.reader.Reader.{Reader}
 use Rattle.credit_reader.specs.declared.reader.SentKind.{SentKind}
 use Rattle.credit_reader.specs.declared.reader.SentKind.TheVariants as sent
-use Rattle.credit_reader.specs.declared.reader.TheConstants.{CREDIT_MAX}
+use Rattle.flow_defs.specs.Limits.{credit_max}
 
 -- A reader whose channel was not requested yet.
 abbrev pub fresh : ChannelId → Reader
@@ -76,5 +76,5 @@ May r h = Unit {0}
 
 -- The credit and the backlog are numbers that a frame can carry.
 pub record KeepsRanges (r : Reader) : Type 0 where
-  pub credit_fits : r.credit ≤ CREDIT_MAX
-  pub backlog_fits : r.backlog ≤ CREDIT_MAX
+  pub credit_fits : r.credit ≤ credit_max
+  pub backlog_fits : r.backlog ≤ credit_max

@@ -1,6 +1,7 @@
 // A reader of one channel.
 ghost use Rattle.std.specs.Prelude.{◌≡◌, ◌+◌, ◌≤◌};
 ghost use Rattle.credit_reader.specs.Readers.{can_send, is_due, may_go, cost, fresh, after, Asked, Granted, Resumed, Ready, Sent, Announced};
+ghost use Rattle.flow_defs.specs.Limits.{credit_max};
 
 use flow_defs::{ChannelId, Head};
 
@@ -87,7 +88,7 @@ impl Reader {
 
     // The reader with more credit.
     pub(crate) fn granted(self, n: u32) -> Self
-        requires { self.credit + n ≤ CREDIT_MAX }
+        requires { self.credit + n ≤ credit_max }
         ensures { result ≡ after self (Granted n) }
     {
         Reader {

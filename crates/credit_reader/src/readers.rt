@@ -4,6 +4,7 @@ ghost use Rattle.std.specs.Option.{option_map, option_map_or};
 ghost use Rattle.credit_reader.specs.Readers.{can_send, KeepsRanges, Asked, Granted, Resumed, Ready, Sent};
 ghost use Rattle.credit_reader.specs.Senders.{AreDistinct, sender_of, reader_of, is_able, MayHappen, happened, has_sent};
 ghost use Rattle.credit_reader.specs.Answers.{request_answer, credit_answer, resume_answer, due_first, told_of, announced};
+ghost use Rattle.flow_defs.specs.Limits.{credit_max};
 
 use crate::{CREDIT_MAX, CreditFault, Reader, RequestFault, ResumeFault, SentKind, Told};
 use circular_buffer::HeapCircularBuffer;
@@ -50,7 +51,7 @@ impl Readers {
 
     /// Takes a partition request, with the credit to begin with.
     pub fn request(&mut self, channel: ChannelId, credit: u32) -> Result<(), RequestFault>
-        requires { credit ≤ CREDIT_MAX }
+        requires { credit ≤ credit_max }
         ensures answer { result ≡ request_answer (reader_of channel self.old.readers) }
         ensures ok { OnOk result (self.new ≡ happened channel (Asked credit) self.old) }
         ensures may { OnOk result (MayHappen channel (Asked credit) self.old) }
@@ -69,7 +70,7 @@ impl Readers {
     /// Takes more credit, in buffers.
     pub fn add_credit(&mut self, channel: ChannelId, n: u32) -> Result<(), CreditFault>
         requires some { 1 ≤ n }
-        requires fits { n ≤ CREDIT_MAX }
+        requires fits { n ≤ credit_max }
         ensures answer { result ≡ credit_answer n (reader_of channel self.old.readers) }
         ensures ok { OnOk result (self.new ≡ happened channel (Granted n) self.old) }
         ensures may { OnOk result (MayHappen channel (Granted n) self.old) }
@@ -112,7 +113,7 @@ impl Readers {
     /// Tells what stands first in a channel's subpartition, and how many data buffers wait there.
     pub fn ready(&mut self, channel: ChannelId, head: Head, backlog: u32)
         requires known { IsSome (reader_of channel self.old.readers) }
-        requires fits { backlog ≤ CREDIT_MAX }
+        requires fits { backlog ≤ credit_max }
         ensures { self.new ≡ happened channel (Ready head backlog) self.old }
     {
         if let Some(found) = self.find(channel) {
@@ -134,7 +135,7 @@ impl Readers {
     pub fn sent(&mut self, channel: ChannelId, what: SentKind, head: Head, backlog: u32) -> u32
         requires first { slice_get self.old.queue 0 ≡ Some channel }
         requires credit { MayHappen channel (Sent what head backlog) self.old }
-        requires fits { backlog ≤ CREDIT_MAX }
+        requires fits { backlog ≤ credit_max }
         ensures number { option_map (λ r. r.sequence) (reader_of channel self.old.readers) ≡ Some result }
         ensures sent { self.new ≡ has_sent channel what head backlog self.old }
     {
@@ -151,7 +152,7 @@ impl Readers {
     /// number of channels.
     pub fn announce(&mut self) -> Option<Told>
         ensures answer { result ≡ option_map told_of (due_first self.old) }
-        ensures fits { IfSome result (λ told. (1 ≤ told.backlog) × (told.backlog ≤ CREDIT_MAX)) }
+        ensures fits { IfSome result (λ told. (1 ≤ told.backlog) × (told.backlog ≤ credit_max)) }
         ensures told { self.new ≡ announced self.old }
     {
         let found = self.find_due()?;

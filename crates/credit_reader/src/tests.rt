@@ -1,5 +1,6 @@
 // The readers of two channels, call by call.
 ghost use Rattle.std.specs.Prelude.{◌≤◌};
+ghost use Rattle.flow_defs.specs.Limits.{credit_max};
 
 use crate::SentKind::{Buffer, End, Front, Inline};
 use crate::{CREDIT_MAX, CreditFault, Readers, RequestFault, ResumeFault, SentKind, Told};
@@ -131,7 +132,7 @@ fn takes(readers: &mut Readers, step: Step) -> bool {
 }
 
 fn tells(readers: &mut Readers, channel: ChannelId, head: Head, backlog: u32) -> bool
-    requires { backlog ≤ CREDIT_MAX }
+    requires { backlog ≤ credit_max }
 {
     let is_known = readers.find(channel).is_some();
     if is_known {
@@ -146,7 +147,7 @@ fn sends(
     head: Head,
     backlog: u32,
 ) -> Option<(ChannelId, u32)>
-    requires { backlog ≤ CREDIT_MAX }
+    requires { backlog ≤ credit_max }
 {
     let channel = readers.next()?;
     let found = readers.find(channel)?;

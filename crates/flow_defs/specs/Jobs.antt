@@ -5,7 +5,7 @@
 use Rattle.std.specs.Prelude.{◌≡◌, ℕ, zero, suc, ◌+◌, ◌*◌, ◌≤◌, Bool, true, ◌&&◌, ◌==◌, nat_le, nat_lt, List, length, slice_get, if◌then◌else◌}
 use Rattle.std.specs.Option.{option_map_or}
 use Rattle.std.specs.List.{AllByRecursion}
-use Rattle.flow_defs.specs.declared.job.TheConstants.{STAGES_MAX, TASKS_MAX}
+use Rattle.flow_defs.specs.Limits.{stages_max, tasks_max}
 use Rattle.flow_defs.specs.declared.job.Job.{Job}
 use Rattle.flow_defs.specs.declared.job.Stage.{Stage}
 use Rattle.flow_defs.specs.declared.job.Exchange.{Exchange}
@@ -61,7 +61,7 @@ segments_needed job = sum_below (suc (last_edge job)) (λ e. 3 * edge_width job 
 -- A job as its grammar allows it: its numbers are within their limits, each stage has an argument of
 -- its kind, and an edge by forward leads to as many tasks as it comes from.
 pub record IsJob (job : Job) : Type 0 where
-  pub stages : length job.stages.items ≤ STAGES_MAX
-  pub counts : (i : ℕ) → i ≤ suc (last_edge job) → (1 ≤ tasks job i) × (tasks job i ≤ TASKS_MAX)
+  pub stages : length job.stages.items ≤ stages_max
+  pub counts : (i : ℕ) → i ≤ suc (last_edge job) → (1 ≤ tasks job i) × (tasks job i ≤ tasks_max)
   pub arguments : AllByRecursion (λ (s : Stage). IsArgument s.kind s.arg.items) job.stages.items
   pub widths : (e : ℕ) → e ≤ last_edge job → exchange job e ≡ Forward → tasks job e ≡ tasks job (suc e)

@@ -5,7 +5,7 @@ use Rattle.std.specs.Prelude.{◌≡◌, ℕ, zero, suc, ◌≤◌, ◌||◌, na
 use Rattle.std.specs.Option.{option_map_or}
 use Rattle.std.specs.List.{AllByRecursion}
 use Rattle.std.specs.Int.{w32, to_be_bytes, from_be_bytes}
-use Rattle.flow_defs.specs.declared.TheConstants.{RECORD_MAX}
+use Rattle.flow_defs.specs.Limits.{record_max}
 
 -- A length as four bytes, the highest first.
 unfoldable pub length_bytes : ℕ → List ℕ
@@ -21,7 +21,7 @@ all_encoded records = flat_map encoded records
 
 -- No longer than a record may be.
 abbrev pub IsShort : List ℕ → Type 0
-IsShort r = length r ≤ RECORD_MAX
+IsShort r = length r ≤ record_max
 
 -- The bytes are spanned by these records: they are the encodings of these and nothing else.
 pub record IsSpans (bytes : List ℕ) (records : List (List ℕ)) : Type 0 where
@@ -33,7 +33,7 @@ abbrev pub first_record : List ℕ → Option (List ℕ × List ℕ)
 first_record bytes =
     let len = from_be_bytes w32 (take 4 bytes) in
     let behind = drop 4 bytes in
-    if nat_lt (length bytes) 4 || nat_lt RECORD_MAX len || nat_lt (length behind) len then None else Some (take len behind, drop len behind)
+    if nat_lt (length bytes) 4 || nat_lt record_max len || nat_lt (length behind) len then None else Some (take len behind, drop len behind)
 
 -- The records that the bytes encode, at most so many.
 abbrev pub spans_within : ℕ → List ℕ → List (List ℕ)

@@ -2,8 +2,9 @@
 ghost use Rattle.std.specs.Prelude.{◌≡◌, ◌+◌, ◌*◌, ◌%◌, ◌<◌, ◌≤◌};
 ghost use Rattle.flow_defs.specs.Jobs.{IsJob, segments_needed, width};
 ghost use Rattle.flow_defs.specs.Routes.{fnv, receiver};
+ghost use Rattle.flow_defs.specs.Limits.{tasks_max};
 
-use crate::{Exchange, Job, TASKS_MAX};
+use crate::{Exchange, Job};
 
 /// The index of the task to which a record goes. Its sender has the index `from` and has emitted
 /// so many records before; there are `ways` receiving tasks. The hash is FNV-1a of 64 bits.
@@ -63,8 +64,8 @@ pub fn needed(job: &Job) -> u32
 
 // The segments of an edge between so many tasks and so many.
 fn segments_of(exchange: Exchange, senders: u32, receivers: u32) -> u32
-    requires senders { senders ≤ TASKS_MAX }
-    requires receivers { receivers ≤ TASKS_MAX }
+    requires senders { senders ≤ tasks_max }
+    requires receivers { receivers ≤ tasks_max }
     ensures is { result ≡ 3 * width exchange senders receivers + senders }
     ensures few { result ≤ 200 }
 {

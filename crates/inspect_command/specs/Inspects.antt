@@ -12,7 +12,6 @@ use Rattle.image_lines.specs.Shown.{shown}
 use Rattle.outside.specs.Keepers.{KeptImage, last_image}
 use Rattle.command_parts.specs.declared.fault.Fault.{Fault}
 use Rattle.command_parts.specs.declared.fault.Fault.TheVariants.{HoldsNoImage, NotImage, Memory}
-use Rattle.inspect_command.specs.declared.inspect.TheConstants.{NUMBER_PLACE}
 use Rattle.command_parts.specs.Held.{HoldsLast, HoldsNone, IsKeeperFault}
 
 -- The bytes that are kept spell this image, so no field of theirs is faulty.
@@ -38,9 +37,13 @@ Shows P kept =
 abbrev pub HasOtherNumber : KeptImage → Type 0
 HasOtherNumber kept = (image : Image) × IsImageIn kept image × (image.number ≢ kept.number)
 
+-- The place of an image's number: it stands behind the mark and the version.
+abbrev pub number_place : ℕ
+number_place = 5
+
 -- They are no image at this place, which is that of their first faulty field, or of their number where it is another one.
 abbrev pub IsNoImageAt : ℕ → KeptImage → Type 0
-IsNoImageAt place kept = (image_fault kept.bytes ≡ Some place) ⊎ ((place ≡ NUMBER_PLACE) × HasOtherNumber kept)
+IsNoImageAt place kept = (image_fault kept.bytes ≡ Some place) ⊎ ((place ≡ number_place) × HasOtherNumber kept)
 
 -- The command is `inspect`, and P holds of what is shown of the last image.
 abbrev pub Inspects : List (List ℕ) → Option (List KeptImage) → (List ℕ → Type 0) → Type 0

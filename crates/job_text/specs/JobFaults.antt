@@ -7,7 +7,7 @@ use Rattle.std.specs.Str.{all_ascii_digits}
 use Rattle.std.specs.Str.Parse.{digits_value}
 use Rattle.flow_defs.specs.Lines.{lines}
 use Rattle.flow_defs.specs.Stages.{pieces}
-use Rattle.flow_defs.specs.declared.job.TheConstants.{SOURCES_MAX, STAGES_MAX, TASKS_MAX}
+use Rattle.flow_defs.specs.Limits.{tasks_max, sources_max, stages_max}
 use Rattle.flow_defs.specs.declared.job.StageKind.{StageKind}
 use Rattle.flow_defs.specs.declared.job.StageKind.TheVariants.{Words, Upper, Keep, Field}
 use Rattle.flow_defs.specs.declared.job.AggKind.{AggKind}
@@ -33,7 +33,7 @@ number_of most word =
 
 -- The tasks that a word gives to a stage, and 0 where it spells no number of tasks.
 abbrev pub tasks_of : List ℕ → ℕ
-tasks_of word = unwrap_or (number_of TASKS_MAX word) 0
+tasks_of word = unwrap_or (number_of tasks_max word) 0
 
 -- The kind of stages that a word spells, and its argument.
 abbrev pub kind_of : List ℕ → Option (StageKind × List ℕ)
@@ -84,7 +84,7 @@ abbrev pub source_fault : Place → List ℕ → List ℕ → Option JobFault
 source_fault place first file =
     first_that_holds
     ((not (bytes_eq first (codes "source") && place.stages == 0 && is_token file), BadLine)
-    ∷ (nat_le SOURCES_MAX place.sources, TooMany)
+    ∷ (nat_le sources_max place.sources, TooMany)
     ∷ [])
 
 -- The fault of a line of four words: only a stage's has so many.
@@ -92,10 +92,10 @@ abbrev pub stage_fault : Functions → Place → List ℕ → List ℕ → List 
 stage_fault functions place first kind tasks exchange =
     first_that_holds
     ((not (bytes_eq first (codes "stage") && nat_lt 0 place.sources), BadLine)
-    ∷ (nat_le STAGES_MAX place.stages, TooMany)
+    ∷ (nat_le stages_max place.stages, TooMany)
     ∷ (is_none (kind_of kind), UnknownKind)
     ∷ (not (option_map_or (λ k. has_stage functions k.0) (kind_of kind) true), NoFunction)
-    ∷ (is_none (number_of TASKS_MAX tasks), BadNumber)
+    ∷ (is_none (number_of tasks_max tasks), BadNumber)
     ∷ (is_none (exchange_of exchange), BadExchange)
     ∷ (bytes_eq exchange (codes "forward") && not (tasks_of tasks == place.tasks), BadWidth)
     ∷ [])
@@ -107,7 +107,7 @@ aggregate_fault functions place first kind tasks =
     ((not (bytes_eq first (codes "aggregate") && nat_lt 0 place.sources), BadLine)
     ∷ (is_none (agg_of kind), UnknownKind)
     ∷ (not (option_map_or (has_agg functions) (agg_of kind) true), NoFunction)
-    ∷ (is_none (number_of TASKS_MAX tasks), BadNumber)
+    ∷ (is_none (number_of tasks_max tasks), BadNumber)
     ∷ [])
 
 -- The fault of a line of these words. An empty word, as between two spaces, is a word like any other.

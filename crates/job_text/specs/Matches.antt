@@ -8,6 +8,8 @@ use Rattle.clap.specs.declared.error.ErrorKind.TheVariants.{OutOfMemory}
 use Rattle.clap.specs.declared.parser.ArgMatches.{ArgMatches}
 use Rattle.job_text.specs.declared.words.RunOptions.{RunOptions}
 use Rattle.job_text.specs.declared.words.UsageKind.{UsageKind}
+use Rattle.flow_defs.specs.Limits.{segment_min, segment_max, segments_max}
+use Rattle.job_text.specs.Limits.{every_max}
 use Rattle.job_text.specs.JobFaults.{number_of}
 use Rattle.job_text.specs.Words.{number_within}
 
@@ -86,7 +88,7 @@ lines_values (lines ∷ seed ∷ words) = (codes "lines", lines) ∷ (codes "see
 -- The options of a run to which the options have these values.
 abbrev pub options_by : (Text → Option Text) → RunOptions
 options_by value = record {
-  every = option_and_then (number_of 1099511627776) (value (codes "every"));
-  segment = unwrap_or (option_and_then (number_within 64 65536) (value (codes "segment"))) 32768;
-  pool = unwrap_or (option_and_then (number_within 1 16384) (value (codes "pool"))) 2048;
+  every = option_and_then (number_of every_max) (value (codes "every"));
+  segment = unwrap_or (option_and_then (number_within segment_min segment_max) (value (codes "segment"))) 32768;
+  pool = unwrap_or (option_and_then (number_within 1 segments_max) (value (codes "pool"))) 2048;
 }

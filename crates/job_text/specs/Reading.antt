@@ -2,7 +2,7 @@
 use Rattle.std.specs.Prelude.{◌≡◌, ℕ, suc, ◌<◌, ◌≤◌, true, false, List, [], ◌∷◌, length, codes, decimal, Option, Some, None}
 use Rattle.flow_defs.specs.Lines.{lines}
 use Rattle.flow_defs.specs.Stages.{IsToken, IsArgument}
-use Rattle.flow_defs.specs.declared.job.TheConstants.{SOURCES_MAX, STAGES_MAX, TASKS_MAX}
+use Rattle.flow_defs.specs.Limits.{tasks_max, sources_max, stages_max}
 use Rattle.flow_defs.specs.declared.job.StageKind.{StageKind}
 use Rattle.flow_defs.specs.declared.job.AggKind.{AggKind}
 use Rattle.flow_defs.specs.declared.job.Exchange.{Exchange}
@@ -39,20 +39,20 @@ pub record IsStageBehind (functions : Functions) (before : ℕ) (kind : StageKin
   pub argument : IsArgument kind arg
   pub has_function : HasStage functions kind
   pub low : 1 ≤ tasks
-  pub high : tasks ≤ TASKS_MAX
+  pub high : tasks ≤ tasks_max
   pub width : exchange ≡ Forward → before ≡ tasks
 
 -- The line, which stands here, is this one of a source, a stage or the aggregate.
 pub record IsSource (place : Place) (file text : List ℕ) : Type 0 where
   pub text_is : text ≡ source_line file
   pub name : IsToken file
-  pub few : place.sources < SOURCES_MAX
+  pub few : place.sources < sources_max
   pub no_stage : place.stages ≡ 0
 
 pub record IsStage (functions : Functions) (place : Place) (kind : StageKind) (arg : List ℕ) (tasks : ℕ) (exchange : Exchange) (text : List ℕ) : Type 0 where
   pub text_is : text ≡ line_of (codes "stage" ∷ kind_word kind arg ∷ decimal tasks ∷ exchange_word exchange ∷ [])
   pub sources : 0 < place.sources
-  pub few : place.stages < STAGES_MAX
+  pub few : place.stages < stages_max
   pub fits : IsStageBehind functions place.tasks kind arg tasks exchange
 
 pub record IsAggregate (functions : Functions) (place : Place) (kind : AggKind) (tasks : ℕ) (text : List ℕ) : Type 0 where
@@ -60,7 +60,7 @@ pub record IsAggregate (functions : Functions) (place : Place) (kind : AggKind) 
   pub sources : 0 < place.sources
   pub has_function : HasAgg functions kind
   pub low : 1 ≤ tasks
-  pub high : tasks ≤ TASKS_MAX
+  pub high : tasks ≤ tasks_max
 
 abbrev pub IsLine : Functions → Place → Line → List ℕ → Type 0
 IsLine functions place (line.Source file) text = IsSource place file.now text

@@ -12,7 +12,8 @@ use Rattle.job_text.specs.declared.words.UsageKind.TheVariants.{NoCommand, Unkno
 use Rattle.job_text.specs.declared.options.RunOption.{RunOption}
 use Rattle.job_text.specs.declared.options.RunOption.TheVariants.{Every, Mode, Segment, Pool, Links}
 use Rattle.job_text.specs.declared.options.Given.{Given}
-use Rattle.job_text.specs.declared.words.TheConstants.{LINES_MAX}
+use Rattle.flow_defs.specs.Limits.{segment_min, segment_max, segments_max}
+use Rattle.job_text.specs.Limits.{every_max, lines_max}
 use Rattle.job_text.specs.JobFaults.{number_of}
 
 -- Whether a word begins with `-`, as an option does.
@@ -59,10 +60,10 @@ was_given given Links = given.links
 
 -- What was given with this value of an option besides, where the option has such a value.
 abbrev pub with_value : Given → RunOption → List ℕ → Option Given
-with_value given Every value = option_map (λ n. record given { every = Some n }) (number_of 1099511627776 value)
+with_value given Every value = option_map (λ n. record given { every = Some n }) (number_of every_max value)
 with_value given Mode value = if bytes_eq value (codes "inline") then Some (record given { mode = true }) else None
-with_value given Segment value = option_map (λ n. record given { segment = Some n }) (number_within 64 65536 value)
-with_value given Pool value = option_map (λ n. record given { pool = Some n }) (number_within 1 16384 value)
+with_value given Segment value = option_map (λ n. record given { segment = Some n }) (number_within segment_min segment_max value)
+with_value given Pool value = option_map (λ n. record given { pool = Some n }) (number_within 1 segments_max value)
 with_value given Links value = if bytes_eq value (codes "memory") then Some (record given { links = true }) else None
 
 -- The option that a word names behind those that were given, or the fault of the word.
@@ -91,9 +92,9 @@ run_options words = and_then (given_from nothing words) (λ given. Ok (with_defa
 -- Between two checkpoints lie from 1 to 1,099,511,627,776 lines of a source; a segment has from 64 to
 -- 65,536 bytes, and a pool from 1 to 16,384 segments.
 pub record HasRange (options : RunOptions) : Type 0 where
-  pub every : IfSome options.every (λ n. (1 ≤ n) × (n ≤ 1099511627776))
-  pub segment : (64 ≤ options.segment) × (options.segment ≤ 65536)
-  pub pool : (1 ≤ options.pool) × (options.pool ≤ 16384)
+  pub every : IfSome options.every (λ n. (1 ≤ n) × (n ≤ every_max))
+  pub segment : (segment_min ≤ options.segment) × (options.segment ≤ segment_max)
+  pub pool : (1 ≤ options.pool) × (options.pool ≤ segments_max)
 
 -- ---- commands
 
@@ -112,7 +113,7 @@ pub record IsScript (words : List (List ℕ)) (file : List ℕ) : Type 0 where
 -- The words are a command's name, how many lines are to be made, and the seed that they are made of.
 pub record NameLines (command : List ℕ) (words : List (List ℕ)) (lines seed : ℕ) : Type 0 where
   pub words_are : words ≡ command ∷ decimal lines ∷ decimal seed ∷ []
-  pub few : lines ≤ LINES_MAX
+  pub few : lines ≤ lines_max
   pub fits : seed < 2 ^ 64
 
 -- The words are `gen`, a number of lines and a seed.
@@ -171,7 +172,7 @@ number_fault most fault (operand ∷ words) =
 
 -- The first fault of the words behind `gen` or `selfrun`, which have no options.
 abbrev pub lines_fault : List (List ℕ) → Option UsageKind
-lines_fault words = number_fault LINES_MAX (number_fault 18446744073709551615 no_options_fault) words
+lines_fault words = number_fault lines_max (number_fault 18446744073709551615 no_options_fault) words
 
 -- The first fault of the words, from the left.
 abbrev pub usage_fault : List (List ℕ) → Option UsageKind

@@ -33,14 +33,14 @@ pub struct JobShape {
 
 impl Model for JobShape {
     ghost use Rattle.std.specs.Prelude.{◌≡◌, ◌≤◌, length, take};
-    ghost use Rattle.flow_defs.specs.declared.job.TheConstants.{STAGES_MAX};
+    ghost use Rattle.flow_defs.specs.Limits.{stages_max};
     ghost use Rattle.job_text.specs.Shapes.{Shape};
 
     ghost Value = { Shape };
 
     ghost view = { λ s. record { sources = s.sources; stages = take s.stage_count s.stages; aggregate = s.aggregate } };
 
-    ghost invariant = { λ s. (s.stage_count ≤ STAGES_MAX) × (length s.stages ≡ STAGES_MAX) };
+    ghost invariant = { λ s. (s.stage_count ≤ stages_max) × (length s.stages ≡ stages_max) };
 }
 
 impl JobShape {

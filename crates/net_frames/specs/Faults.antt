@@ -3,7 +3,7 @@
 use Rattle.std.specs.Prelude.{◌≡◌, ℕ, ◌+◌, ◌≤◌, Bool, false, not, ◌||◌, ◌==◌, nat_lt, List, [], ◌∷◌, ◌++◌, length, take, drop, if◌then◌else◌, Option, Some, None, is_none, unwrap_or}
 use Rattle.std.specs.Option.{option_map_or}
 use Rattle.std.specs.Int.{Width, w8, w32, byte_len, from_be_bytes}
-use Rattle.net_frames.specs.declared.frame.TheConstants.{MAGIC, LEN_MIN, LEN_MAX}
+use Rattle.net_frames.specs.Limits.{frame_min, frame_max, magic}
 use Rattle.net_frames.specs.declared.frame.Frame.{Frame}
 use Rattle.net_frames.specs.declared.fault.FrameFault.{FrameFault}
 use Rattle.net_frames.specs.declared.fault.FrameFault.TheVariants.{NeedMore, BadLength, BadMagic, BadId, BadBody}
@@ -39,9 +39,9 @@ is_wrong_len id len = option_map_or (λ kind. not (may_have kind len)) (kind_wit
 abbrev pub tests : List ℕ → List (Bool × FrameFault)
 tests bytes =
     (nat_lt (length bytes) 4, NeedMore)
-    ∷ (nat_lt (len_at bytes) LEN_MIN || nat_lt LEN_MAX (len_at bytes), BadLength (len_at bytes))
+    ∷ (nat_lt (len_at bytes) frame_min || nat_lt frame_max (len_at bytes), BadLength (len_at bytes))
     ∷ (nat_lt (length bytes) 8, NeedMore)
-    ∷ (not (magic_at bytes == MAGIC), BadMagic (magic_at bytes))
+    ∷ (not (magic_at bytes == magic), BadMagic (magic_at bytes))
     ∷ (nat_lt (length bytes) 9, NeedMore)
     ∷ (is_none (kind_with (id_at bytes)), BadId (id_at bytes))
     ∷ (is_wrong_len (id_at bytes) (len_at bytes), BadBody (id_at bytes))

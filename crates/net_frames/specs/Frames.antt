@@ -6,7 +6,8 @@ use Rattle.std.specs.Prelude.{◌≡◌, ℕ, ◌+◌, ◌≤◌, ◌<◌, ◌^�
 use Rattle.std.specs.List.{AllByRecursion}
 use Rattle.std.specs.Int.{Width, w8, w32, w64, byte_len, to_be_bytes}
 use Rattle.flow_defs.specs.declared.task.ChannelId.{ChannelId}
-use Rattle.net_frames.specs.declared.frame.TheConstants.{MAGIC, CONTENT_MAX, CREDIT_MAX, ERROR_MAX, SIZE_MIN, SIZE_MAX}
+use Rattle.flow_defs.specs.Limits.{segment_max, credit_max, segment_min}
+use Rattle.net_frames.specs.Limits.{error_max, magic}
 use Rattle.net_frames.specs.declared.frame.Frame.{Frame}
 use Rattle.net_frames.specs.declared.frame.Frame.TheVariants.{BufferResponse, ErrorResponse, PartitionRequest, Close, AddCredit, ResumeConsumption, BacklogAnnouncement, NewBufferSize}
 use Rattle.net_frames.specs.declared.frame.ArrivalKind2.{ArrivalKind2}
@@ -34,21 +35,21 @@ IsWithin least most n = (least ≤ n) × (n ≤ most)
 
 -- What an arrival and its content may be. Only a buffer has content, and it has some.
 abbrev pub IsArrival : ArrivalKind2 → List ℕ → Type 0
-IsArrival Buffer content = IsWithin 1 CONTENT_MAX (length content)
+IsArrival Buffer content = IsWithin 1 segment_max (length content)
 IsArrival (Inline k) content = (1 ≤ k) × (content ≡ [])
 IsArrival (Front k) content = (1 ≤ k) × (content ≡ [])
 IsArrival End content = content ≡ []
 
 -- The ranges of a frame with its content. A number that isn't named here may be any of its width.
 abbrev pub KeepsRanges : Frame → List ℕ → Type 0
-KeepsRanges (BufferResponse channel sequence backlog what) content = (backlog ≤ CREDIT_MAX) × IsArrival what content
-KeepsRanges (ErrorResponse channel code) content = IsWithin 1 ERROR_MAX code × (content ≡ [])
-KeepsRanges (PartitionRequest channel credit) content = (credit ≤ CREDIT_MAX) × (content ≡ [])
+KeepsRanges (BufferResponse channel sequence backlog what) content = (backlog ≤ credit_max) × IsArrival what content
+KeepsRanges (ErrorResponse channel code) content = IsWithin 1 error_max code × (content ≡ [])
+KeepsRanges (PartitionRequest channel credit) content = (credit ≤ credit_max) × (content ≡ [])
 KeepsRanges Close content = content ≡ []
-KeepsRanges (AddCredit channel credit) content = IsWithin 1 CREDIT_MAX credit × (content ≡ [])
+KeepsRanges (AddCredit channel credit) content = IsWithin 1 credit_max credit × (content ≡ [])
 KeepsRanges (ResumeConsumption channel) content = content ≡ []
-KeepsRanges (BacklogAnnouncement channel backlog) content = IsWithin 1 CREDIT_MAX backlog × (content ≡ [])
-KeepsRanges (NewBufferSize channel size) content = IsWithin SIZE_MIN SIZE_MAX size × (content ≡ [])
+KeepsRanges (BacklogAnnouncement channel backlog) content = IsWithin 1 credit_max backlog × (content ≡ [])
+KeepsRanges (NewBufferSize channel size) content = IsWithin segment_min segment_max size × (content ≡ [])
 
 -- ---- numbers
 
@@ -106,7 +107,7 @@ frame_len frame content = head_len frame + length content
 
 -- All numbers of a frame: its length, the magic number, its id, and those of its body.
 abbrev pub numbers : Frame → List ℕ → List Number
-numbers frame content = u32 (frame_len frame content) ∷ u32 MAGIC ∷ u8 (id_of (kind_of frame)) ∷ body_numbers frame content
+numbers frame content = u32 (frame_len frame content) ∷ u32 magic ∷ u8 (id_of (kind_of frame)) ∷ body_numbers frame content
 
 -- ---- the spelling
 

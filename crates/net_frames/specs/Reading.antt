@@ -3,7 +3,8 @@
 use Rattle.std.specs.Prelude.{◌≡◌, ℕ, ◌-◌, ◌≤◌, true, ◌&&◌, ◌==◌, nat_le, List, length, if◌then◌else◌, Option, Some, None}
 use Rattle.std.specs.Int.{Width, w8, w32, w64}
 use Rattle.flow_defs.specs.declared.task.ChannelId.{ChannelId}
-use Rattle.net_frames.specs.declared.frame.TheConstants.{MAGIC, LEN_MIN, LEN_MAX, CREDIT_MAX, ERROR_MAX, SIZE_MIN, SIZE_MAX}
+use Rattle.net_frames.specs.Limits.{frame_min, frame_max, magic, error_max}
+use Rattle.flow_defs.specs.Limits.{credit_max, segment_min, segment_max}
 use Rattle.net_frames.specs.declared.frame.Frame.{Frame}
 use Rattle.net_frames.specs.declared.frame.Frame.TheVariants.{BufferResponse, ErrorResponse, PartitionRequest, Close, AddCredit, ResumeConsumption, BacklogAnnouncement, NewBufferSize}
 use Rattle.net_frames.specs.declared.frame.ArrivalKind2.{ArrivalKind2}
@@ -18,9 +19,9 @@ use Rattle.net_frames.specs.declared.decoding.Span.{Span}
 -- The bytes begin with a whole frame of this kind and length, so far as its first three numbers tell.
 pub record IsHeader (bytes : List ℕ) (kind : Kind) (len : ℕ) : Type 0 where
   pub len_is : len_at bytes ≡ len
-  pub least : LEN_MIN ≤ len
-  pub most : len ≤ LEN_MAX
-  pub magic_is : magic_at bytes ≡ MAGIC
+  pub least : frame_min ≤ len
+  pub most : len ≤ frame_max
+  pub magic_is : magic_at bytes ≡ magic
   pub kind_is : kind_with (id_at bytes) ≡ Some kind
   pub may_have_len : may_have kind len ≡ true
   pub whole : len ≤ length bytes
@@ -70,30 +71,30 @@ arrival_in bytes =
 unfoldable pub frame_in : Kind → List ℕ → Option Frame
 frame_in kinds.Buffer bytes = do
   channel ← channel_in bytes
-  backlog ← ranged w32 29 0 CREDIT_MAX bytes
+  backlog ← ranged w32 29 0 credit_max bytes
   what ← arrival_in bytes
   Some (BufferResponse channel (number_at w32 25 bytes) backlog what)
 frame_in kinds.Error bytes = do
   channel ← channel_in bytes
-  code ← ranged w8 25 1 ERROR_MAX bytes
+  code ← ranged w8 25 1 error_max bytes
   Some (ErrorResponse channel code)
 frame_in kinds.Request bytes = do
   channel ← channel_in bytes
-  credit ← ranged w32 25 0 CREDIT_MAX bytes
+  credit ← ranged w32 25 0 credit_max bytes
   Some (PartitionRequest channel credit)
 frame_in kinds.Closing bytes = Some Close
 frame_in kinds.Credit bytes = do
   channel ← channel_in bytes
-  credit ← ranged w32 25 1 CREDIT_MAX bytes
+  credit ← ranged w32 25 1 credit_max bytes
   Some (AddCredit channel credit)
 frame_in kinds.Resumption bytes = do
   channel ← channel_in bytes
   Some (ResumeConsumption channel)
 frame_in kinds.Backlog bytes = do
   channel ← channel_in bytes
-  backlog ← ranged w32 25 1 CREDIT_MAX bytes
+  backlog ← ranged w32 25 1 credit_max bytes
   Some (BacklogAnnouncement channel backlog)
 frame_in kinds.Size bytes = do
   channel ← channel_in bytes
-  size ← ranged w32 25 SIZE_MIN SIZE_MAX bytes
+  size ← ranged w32 25 segment_min segment_max bytes
   Some (NewBufferSize channel size)

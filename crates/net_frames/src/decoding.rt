@@ -7,6 +7,7 @@ ghost use Rattle.net_frames.specs.Kinds.{may_have};
 ghost use Rattle.net_frames.specs.Frames.{Begins};
 ghost use Rattle.net_frames.specs.Faults.{number_at, tests, first_that_holds, first_fault, IsFound, HasFound, CannotBegin};
 ghost use Rattle.net_frames.specs.Reading.{IsHeader, channel_in, ranged, arrival_in, arrival_of, frame_in, barrier_in};
+ghost use Rattle.net_frames.specs.Limits.{frame_max};
 
 use crate::kind::Kind;
 use crate::{
@@ -45,7 +46,7 @@ pub fn decode(input: &[u8]) -> Result<Decoded, FrameFault>
     ensures fault { IfErr result (λ e. e ≡ first_fault input.now) }
     // Only `NeedMore` is mended by more bytes, and it doesn't come of as many as a frame may have.
     ensures stays { IfErr result (λ e. e ≢ FrameFault.NeedMore → CannotBegin input.now) }
-    ensures more { IfErr result (λ e. e ≡ FrameFault.NeedMore → length input.now < LEN_MAX) }
+    ensures more { IfErr result (λ e. e ≡ FrameFault.NeedMore → length input.now < frame_max) }
 {
     let (kind, used) = header(input)?;
     let (whole, _) = input.split_at(used);

@@ -14,9 +14,6 @@ pub const LEN_MIN: u32 = 9;
 /// The most bytes of a frame: a buffer response with the largest content.
 pub const LEN_MAX: u32 = 65_575;
 
-/// The most bytes of content.
-pub const CONTENT_MAX: u32 = 65_536;
-
 /// The largest credit, and the largest backlog.
 pub const CREDIT_MAX: u32 = 2_147_483_647;
 

@@ -16,6 +16,5 @@ pub use decoding::{Decoded, Span, decode};
 pub use encoding::encode;
 pub use fault::FrameFault;
 pub use frame::{
-    ArrivalKind2, CONTENT_MAX, CREDIT_MAX, ERROR_MAX, Frame, LEN_MAX, LEN_MIN, MAGIC, SIZE_MAX,
-    SIZE_MIN,
+    ArrivalKind2, CREDIT_MAX, ERROR_MAX, Frame, LEN_MAX, LEN_MIN, MAGIC, SIZE_MAX, SIZE_MIN,
 };

@@ -1,6 +1,6 @@
 -- How bytes begin, for one who reads records off them.
 use Rattle.std.specs.Prelude.{◌≡◌, ℕ, ◌<◌, ◌^◌, List, [], ◌∷◌, ◌++◌}
-use Rattle.flow_defs.specs.declared.TheConstants.{RECORD_MAX}
+use Rattle.flow_defs.specs.Limits.{record_max}
 use Rattle.flow_defs.specs.Records.{length_bytes, encoded, all_encoded, IsShort, IsSpans}
 
 -- The bytes begin with the encoding of this record, and these follow it.
@@ -13,7 +13,7 @@ pub record BeginsTooLong (bytes : List ℕ) (len : ℕ) : Type 0 where
   pub more : List ℕ
   pub bytes_are : bytes ≡ length_bytes len ++ more
   pub in_range : len < 2 ^ 32
-  pub above : RECORD_MAX < len
+  pub above : record_max < len
 
 -- The bytes begin with no whole record, and with no length that is no record's.
 pub record HasNoRecord (bytes : List ℕ) : Type 0 where

@@ -1,6 +1,7 @@
 // Lays a record's encoding down in one buffer after another.
 ghost use Rattle.std.specs.Prelude.{◌≡◌, ◌+◌, ◌-◌, ◌≤◌, ◌++◌, length, min, take, drop};
 ghost use Rattle.flow_defs.specs.Records.{encoded, length_bytes};
+ghost use Rattle.flow_defs.specs.Limits.{record_max};
 
 use flow_defs::RECORD_MAX;
 
@@ -9,7 +10,7 @@ use flow_defs::RECORD_MAX;
 ///
 /// It takes no memory. The cost is in proportion to what is copied.
 pub fn write_span(line: &[u8], done: usize, room: &mut [u8]) -> usize
-    requires short { length line.now ≤ RECORD_MAX }
+    requires short { length line.now ≤ record_max }
     requires within { done ≤ length line.now + 4 }
     ensures count { result ≡ min (length room.old) (length line.now + 4 - done) }
     ensures copied { room.new ≡ take result (drop done (encoded line.now)) ++ drop result room.old }

@@ -2,14 +2,14 @@
 use Rattle.std.specs.Prelude.{⊤, ℕ, ◌<◌, List, length, Option, IfSome}
 use Rattle.script_text.specs.declared.event.Script.{Script}
 use Rattle.script_text.specs.ScriptFaults.{IsFirstBadLine}
-use Rattle.script_command.specs.declared.script.TheConstants.{SCRIPT_MAX}
+use Rattle.script_command.specs.Limits.{script_max}
 use Rattle.command_parts.specs.declared.fault.Fault.{Fault}
 use Rattle.command_parts.specs.declared.fault.Fault.TheVariants.{ScriptLine, ScriptInput, LongScript, TooFewSegments, Memory}
 use Rattle.script_command.specs.Scripts.{HasTooFew}
 
 -- The file has this fault: its bytes, where they are told, are too many, or it is another one.
 abbrev pub IsScriptFileFault : Option (List ℕ) → Fault → Type 0
-IsScriptFileFault contents LongScript = IfSome contents (λ text. SCRIPT_MAX < length text)
+IsScriptFileFault contents LongScript = IfSome contents (λ text. script_max < length text)
 IsScriptFileFault contents ScriptInput = ⊤
 IsScriptFileFault contents Memory = ⊤
 IsScriptFileFault contents fault = ⊥

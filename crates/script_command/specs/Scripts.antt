@@ -8,7 +8,7 @@ use Rattle.script_text.specs.ScriptFaults.{IsFirstBadLine}
 use Rattle.script_text.specs.Replies.{replies_text}
 use Rattle.exchange_world.specs.Worlds.{opened}
 use Rattle.exchange_world.specs.Steps.{replies_to}
-use Rattle.script_command.specs.declared.script.TheConstants.{SCRIPT_MAX}
+use Rattle.script_command.specs.Limits.{script_max}
 use Rattle.command_parts.specs.declared.fault.Fault.{Fault}
 use Rattle.command_parts.specs.declared.fault.Fault.TheVariants.{ScriptLine, ScriptInput, LongScript, TooFewSegments, Memory}
 
@@ -28,11 +28,11 @@ pub record HasTooFew (script : Script) (have need : ℕ) : Type 0 where
 
 -- The text is within its limit and of a script that has P.
 abbrev pub IsScriptWith : (Script → Type 0) → List ℕ → Type 0
-IsScriptWith P text = (length text ≤ SCRIPT_MAX) × ((script : Script) × IsScriptText text script × P script)
+IsScriptWith P text = (length text ≤ script_max) × ((script : Script) × IsScriptText text script × P script)
 
 -- The text is within its limit, and the line with this number is its first bad one.
 abbrev pub HasBadLine : ℕ → List ℕ → Type 0
-HasBadLine line text = (length text ≤ SCRIPT_MAX) × IsFirstBadLine text line
+HasBadLine line text = (length text ≤ script_max) × IsFirstBadLine text line
 
 -- The words are `script` and a file, and its bytes, where they are told, have P.
 abbrev pub NamesScript : List (List ℕ) → (List ℕ → Option (List ℕ)) → (List ℕ → Type 0) → Type 0
@@ -49,7 +49,7 @@ ScriptRunsTo words contents P = NamesScript words contents (Replies P)
 -- A file with these bytes, where they are told, has this fault as a script.
 abbrev pub IsScriptFault : Option (List ℕ) → Fault → Type 0
 IsScriptFault contents ScriptInput = ⊤
-IsScriptFault contents LongScript = IfSome contents (λ text. SCRIPT_MAX < length text)
+IsScriptFault contents LongScript = IfSome contents (λ text. script_max < length text)
 IsScriptFault contents (ScriptLine line) = IfSome contents (HasBadLine line)
 IsScriptFault contents (TooFewSegments have need) = IfSome contents (IsScriptWith (λ script. HasTooFew script have need))
 IsScriptFault contents Memory = ⊤
@@ -67,4 +67,4 @@ IsNoScript text = (line : ℕ) × HasBadLine line text
 
 -- The bytes are over their limit, or those of a script that has too few segments.
 abbrev pub PassesScriptLimit : List ℕ → Type 0
-PassesScriptLimit text = (SCRIPT_MAX < length text) ⊎ IsScriptWith (λ script. script.total < 4 * script.channels) text
+PassesScriptLimit text = (script_max < length text) ⊎ IsScriptWith (λ script. script.total < 4 * script.channels) text

@@ -9,6 +9,7 @@ ghost use Rattle.script_text.specs.Scripts.{IsEvent, IsOpening, IsScriptText};
 ghost use Rattle.command_parts.specs.Causes.{status_of, of_script_file};
 ghost use Rattle.script_command.specs.Scripts.{HasEnough, IsScriptFault, Replies, printed_replies};
 ghost use Rattle.script_command.specs.ScriptParts.{IsScriptFileFault, IsLineFault, IsPoolFault};
+ghost use Rattle.script_command.specs.Limits.{script_max};
 
 use command_parts::fault::Fault;
 use command_parts::input::{InputFault, read_file};
@@ -57,7 +58,7 @@ fn script_file_fault(fault: InputFault) -> Fault
 // The text of the script in the file of this name.
 fn read_script_text<F: Files>(alloc: Global, files: &mut F, name: &str) -> Result<Bytes, Fault>
     ensures told { IfOk result (λ text. IfSome (F.contents files.old name.now) (λ held. text.items ≡ held)) }
-    ensures fits { IfOk result (λ text. length text.items ≤ SCRIPT_MAX) }
+    ensures fits { IfOk result (λ text. length text.items ≤ script_max) }
     ensures fault { IfErr result (IsScriptFileFault (F.contents files.old name.now)) }
     ensures input { IfErr result (λ fault. status_of fault ≡ 4 → HasRisen (F.faults files.old) (F.faults files.new)) }
     ensures no_output { IfErr result (λ fault. status_of fault ≡ 7 → ⊥) }

@@ -3,7 +3,8 @@ use Rattle.std.specs.Prelude.{◌≡◌, ℕ, suc, ◌<◌, ◌-◌, ◌^◌, �
 use Rattle.std.specs.List.{list_all}
 use Rattle.std.specs.Str.Parse.{digits_value}
 use Rattle.flow_defs.specs.Lines.{lines}
-use Rattle.script_text.specs.declared.event.TheConstants.{CHANNELS_MAX, SIZE_MIN, SIZE_MAX, TOTAL_MAX, TEXT_MAX, FILL_MAX}
+use Rattle.script_text.specs.Limits.{text_max, channels_max}
+use Rattle.flow_defs.specs.Limits.{segment_min, segment_max, segments_max, record_max}
 use Rattle.script_text.specs.declared.event.Event.{Event}
 use Rattle.script_text.specs.declared.event.Event.TheVariants.{Emit, Fill, Barrier, Finish, Send, Announce, Deliver, Credit, Resume, Control, Poll, Hold, Pool}
 use Rattle.script_text.specs.declared.fault.ScriptFault.{ScriptFault}
@@ -28,7 +29,7 @@ number_of least most word =
 
 -- Whether the bytes may be a record's text.
 abbrev pub is_text : List ℕ → Bool
-is_text bytes = nat_le (length bytes) TEXT_MAX && list_all (λ b. nat_le 32 b && nat_le b 126) bytes
+is_text bytes = nat_le (length bytes) text_max && list_all (λ b. nat_le 32 b && nat_le b 126) bytes
 
 -- ---- the first line
 
@@ -37,7 +38,7 @@ abbrev pub opening_by : List ℕ → List ℕ → List ℕ → Option (List ℕ)
 opening_by word channels size None = None
 opening_by word channels size (Some total) =
     if bytes_eq word (codes "open") then
-    option_and_then (λ m. option_and_then (λ b. option_map (λ t. let o : Opening = record { channels = m; size = b; total = t } in o) (number_of 1 TOTAL_MAX total)) (number_of SIZE_MIN SIZE_MAX size)) (number_of 1 CHANNELS_MAX channels)
+    option_and_then (λ m. option_and_then (λ b. option_map (λ t. let o : Opening = record { channels = m; size = b; total = t } in o) (number_of 1 segments_max total)) (number_of segment_min segment_max size)) (number_of 1 channels_max channels)
     else None
 
 abbrev pub opening_behind : List ℕ → List ℕ → Option (List ℕ) → Option Opening
@@ -87,7 +88,7 @@ barrier_number number (Some kind) = if bytes_eq kind (codes "inline") then numbe
 abbrev pub long_event : List ℕ → ℕ → List ℕ → Option Event
 long_event word c rest =
     if bytes_eq word (codes "emit") then emit_event c rest
-    else if bytes_eq word (codes "fill") then option_map (λ n. Fill c n) (number_of 0 FILL_MAX rest)
+    else if bytes_eq word (codes "fill") then option_map (λ n. Fill c n) (number_of 0 record_max rest)
     else if bytes_eq word (codes "barrier") then option_map (λ k. Barrier c k) (barrier_number (cut rest).0 (cut rest).1)
     else None
 

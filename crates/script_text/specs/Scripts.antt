@@ -3,7 +3,8 @@
 use Rattle.std.specs.Prelude.{◌≡◌, ℕ, ◌<◌, ◌≤◌, ◌^◌, List, [], ◌∷◌, length, map, codes, decimal, All}
 use Rattle.std.specs.List.{AllByRecursion, join_with_byte}
 use Rattle.flow_defs.specs.Lines.{lines}
-use Rattle.script_text.specs.declared.event.TheConstants.{CHANNELS_MAX, SIZE_MIN, SIZE_MAX, TOTAL_MAX, TEXT_MAX, FILL_MAX}
+use Rattle.script_text.specs.Limits.{channels_max, text_max}
+use Rattle.flow_defs.specs.Limits.{segment_min, segment_max, segments_max, record_max}
 use Rattle.script_text.specs.declared.event.Event.{Event}
 use Rattle.script_text.specs.declared.event.Event.TheVariants.{Emit, Fill, Barrier, Finish, Send, Announce, Deliver, Credit, Resume, Control, Poll, Hold, Pool}
 use Rattle.script_text.specs.declared.event.Script.{Script}
@@ -43,11 +44,11 @@ event_line event = line_of (event_words event)
 -- An exchange may have so many channels, such segments, and so many of them.
 pub record IsOpening (channels size total : ℕ) : Type 0 where
   pub some_channels : 1 ≤ channels
-  pub few_channels : channels ≤ CHANNELS_MAX
-  pub low : SIZE_MIN ≤ size
-  pub high : size ≤ SIZE_MAX
+  pub few_channels : channels ≤ channels_max
+  pub low : segment_min ≤ size
+  pub high : size ≤ segment_max
   pub some_segments : 1 ≤ total
-  pub few_segments : total ≤ TOTAL_MAX
+  pub few_segments : total ≤ segments_max
 
 -- There is a channel with this number.
 abbrev pub IsChannel : ℕ → ℕ → Type 0
@@ -55,13 +56,13 @@ IsChannel channels c = (1 ≤ c) × (c ≤ channels)
 
 -- The text of a record: each byte is one that ASCII prints.
 pub record IsText (text : List ℕ) : Type 0 where
-  pub not_long : length text ≤ TEXT_MAX
+  pub not_long : length text ≤ text_max
   pub printed : All (λ b. (32 ≤ b) × (b ≤ 126)) text
 
 -- An event that may happen in an exchange of so many channels.
 abbrev pub IsEvent : ℕ → Event → Type 0
 IsEvent channels (Emit c text) = IsChannel channels c × IsText text.items
-IsEvent channels (Fill c n) = IsChannel channels c × (n ≤ FILL_MAX)
+IsEvent channels (Fill c n) = IsChannel channels c × (n ≤ record_max)
 IsEvent channels (Barrier c k) = IsChannel channels c × (1 ≤ k) × (k < 2 ^ 64)
 IsEvent channels (Finish c) = IsChannel channels c
 IsEvent channels Send = Unit {0}

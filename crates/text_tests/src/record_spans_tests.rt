@@ -32,6 +32,18 @@ fn records_come_back_from_any_pieces(rt: HostRuntime) -> Result<(), Fail> {
 }
 
 #[test]
+fn a_record_of_the_greatest_length_is_read(rt: HostRuntime) -> Result<(), Fail> {
+    let record = vec![in rt.alloc(); b'a'; 1_048_576]?;
+    let mut reader = Reader::new(rt.alloc());
+    reader.feed(&[0, 0x10, 0, 0])?;
+    reader.feed(record.as_slice())?;
+    let read = reader.next()?.ok_or("the record is whole")?;
+    assert!(rt; read.as_slice() == record.as_slice());
+    assert_eq!(rt; reader.rest().len(), 0);
+    Ok(())
+}
+
+#[test]
 fn a_length_above_the_limit_is_told(rt: HostRuntime) -> Result<(), Fail> {
     let mut reader = Reader::new(rt.alloc());
     reader.feed(&[0, 0x10, 0, 1, b'a'])?;

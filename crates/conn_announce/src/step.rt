@@ -1,6 +1,6 @@
 // One channel's step: what it has to tell is taken, and laid down.
 ghost use Rattle.std.specs.Prelude.{◌≡◌, ◌<◌, ◌≤◌, ◌+◌, ◌^◌, ◌++◌, [], length, true, IfOk, OnOk, MatchResult};
-ghost use Rattle.net_frames.specs.declared.frame.TheConstants.{LEN_MAX};
+ghost use Rattle.net_frames.specs.Limits.{frame_max};
 ghost use Rattle.net_frames.specs.Frames.{AreFrames, all_spelled};
 ghost use Rattle.outside.specs.Links.{IsUnfinished};
 ghost use Rattle.credit_reader.specs.Senders.{AreDistinct};
@@ -29,7 +29,7 @@ pub(crate) fn make_room<O: LinkOut, R: Wait>(
     ensures line { O.line out.new ≡ O.line out.old }
     ensures never_falls { O.faults out.old ≤ O.faults out.new }
     ensures out { WentOut (O.sent out.old) (O.sent out.new) (O.faults out.old) (O.faults out.new) outgoing.old outgoing.new result }
-    ensures room { OnOk result (length outgoing.new + LEN_MAX ≤ OUT_ROOM) }
+    ensures room { OnOk result (length outgoing.new + frame_max ≤ OUT_ROOM) }
 {
     if outgoing.has_room() {
         return Ok(());
@@ -39,7 +39,7 @@ pub(crate) fn make_room<O: LinkOut, R: Wait>(
 
 // Lays down the message that tells credit, if there is some.
 fn lay_credit(outgoing: &mut Outgoing, channel: ChannelId, credit: u32)
-    requires room { length outgoing.old + LEN_MAX ≤ OUT_ROOM }
+    requires room { length outgoing.old + frame_max ≤ OUT_ROOM }
     requires fits { credit < 2 ^ 31 }
     ensures laid { outgoing.new ≡ outgoing.old ++ all_spelled (credit_message channel credit) }
     ensures frames { AreFrames (credit_message channel credit) }
@@ -51,7 +51,7 @@ fn lay_credit(outgoing: &mut Outgoing, channel: ChannelId, credit: u32)
 
 // Lays down the message that tells a resumption, if one was taken.
 fn lay_resumption(outgoing: &mut Outgoing, channel: ChannelId, taken: bool)
-    requires room { length outgoing.old + LEN_MAX ≤ OUT_ROOM }
+    requires room { length outgoing.old + frame_max ≤ OUT_ROOM }
     ensures laid { outgoing.new ≡ outgoing.old ++ all_spelled (resumption_message channel taken) }
     ensures frames { AreFrames (resumption_message channel taken) }
 {

@@ -1,6 +1,6 @@
 // The rounds of the loop: in each it looks at the stop cell, and then handles one frame or reads.
 ghost use Rattle.std.specs.Prelude.{◌≡◌, ◌<◌, ◌≤◌, true, [], length, None, IfNone};
-ghost use Rattle.net_frames.specs.declared.frame.TheConstants.{LEN_MAX};
+ghost use Rattle.net_frames.specs.Limits.{frame_max};
 ghost use Rattle.net_frames.specs.Faults.{IsFound};
 ghost use Rattle.turn_cell.specs.Passes.{IsSamePass, seen};
 ghost use Rattle.outside.specs.Stops.{first_met};
@@ -52,7 +52,7 @@ fn handle<R: Wait>(
 
 // Reads once more.
 fn read_more<I: LinkIn, R: Wait>(rt: &R, incoming: &mut Incoming, input: &mut I) -> Option<Cause>
-    requires { length incoming.old < LEN_MAX }
+    requires { length incoming.old < frame_max }
     ensures read { HasRead (I.got input.old) (I.got input.new) (I.ended input.old) (I.ended input.new) (I.faults input.old) (I.faults input.new) incoming.old incoming.new result }
     ensures line { I.line input.new ≡ I.line input.old }
     ensures never_falls { I.faults input.old ≤ I.faults input.new }

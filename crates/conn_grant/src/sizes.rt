@@ -2,7 +2,7 @@
 ghost use Rattle.std.specs.Prelude.{◌≡◌, ◌<◌, ◌≤◌, [], ◌∷◌, ◌++◌, length, All};
 ghost use Rattle.turn_cell.specs.Passes.{IsPassOf, IsTurnOf, HasEntered, opened_with, mine, number, seen};
 ghost use Rattle.credit_reader.specs.Senders.{AreDistinct};
-ghost use Rattle.net_frames.specs.declared.frame.TheConstants.{SIZE_MIN};
+ghost use Rattle.flow_defs.specs.Limits.{segment_min};
 ghost use Rattle.subpartition.specs.Standing.{StandsFor};
 ghost use Rattle.subpartition.specs.declared.entry.SendEntry.TheVariants.{Size as SizeEntry};
 ghost use Rattle.conn_parts.specs.Shares.{AreOwn};
@@ -32,7 +32,7 @@ fn leave_size<E: Named<SendEntry>>(turn: Turn<Subpartition>, n: u32)
 // Has buffers filled up to n bytes, in a turn of a subpartition.
 fn fill_up_to<R: Wait>(rt: &R, cell: &TurnCell<Subpartition>, pass: &mut Pass<Subpartition>, n: u32)
     requires pass { IsPassOf cell.now pass.old × (number pass.old ≡ 2) }
-    requires size { (SIZE_MIN ≤ n) × (n ≤ (opened_with cell.now).size) }
+    requires size { (segment_min ≤ n) × (n ≤ (opened_with cell.now).size) }
     ensures pass { IsPassOf cell.now pass.new × (number pass.new ≡ 2) }
     ensures told { mine pass.new ≡ mine pass.old ++ SizeEntry n ∷ [] }
 {
@@ -54,7 +54,7 @@ fn desire_at<R: Wait>(
     requires passes { AreOwn 2 cells.now passes.old.items }
     requires place { place < length cells.now }
     requires sizes { AreSized size cells.now }
-    requires range { (SIZE_MIN ≤ n) × (n ≤ size) }
+    requires range { (segment_min ≤ n) × (n ≤ size) }
     ensures passes { AreOwn 2 cells.now passes.new.items }
     ensures told { HasDesired place n passes.old.items passes.new.items }
 {
@@ -73,7 +73,7 @@ pub(crate) fn take_size<R: Wait>(
     requires places { length cells.now.subpartitions.now ≡ length cells.now.channels.now }
     requires distinct { AreDistinct cells.now.channels.now }
     requires sizes { AreSized cells.now.size cells.now.subpartitions.now }
-    requires least { SIZE_MIN ≤ n }
+    requires least { segment_min ≤ n }
     ensures passes { AreOwn 2 cells.now.subpartitions.now passes.new.items }
     ensures took { TookSize cells.now.channels.now cells.now.size channel n passes.old.items passes.new.items result }
 {

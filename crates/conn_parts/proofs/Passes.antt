@@ -1,7 +1,7 @@
 -- Passes of cells, one of each, where the pass at a place took turns. `pass ≡ get_or passes k pass` is how
 -- the check says what was read at a place, and `set passes k after` what a `&mut` to it leaves.
 use Rattle.std.proofs.Common.{◌≡◌, ◌≢◌, inl, inr, ℕ, ◌<◌, List, [], ◌∷◌, ◌++◌, length, get_or, set, sym, ap, subst, ◌∙◌, arith, append-nil}
-use Rattle.std.specs.Prelude.{slice_get, Option, Some}
+use Rattle.std.specs.Prelude.{slice_get, Option, Some, None, IfSome}
 use Rattle.std.specs.List.{refill, swap, AllByRecursion}
 use Rattle.std.specs.Option.{option_map_or}
 use Rattle.std.proofs.lemmas.List.{length-set}
@@ -10,8 +10,11 @@ use Rattle.std.proofs.lemmas.Option.{slice_get_cases}
 use Rattle.turn_cell.specs.declared.cell.TurnCell.{TurnCell}
 use Rattle.turn_cell.specs.declared.pass.Pass.{Pass}
 use Rattle.turn_cell.specs.History.{StartsWith}
-use Rattle.turn_cell.specs.Passes.{IsPassOf, number, seen, mine}
-use Rattle.conn_parts.specs.Shares.{AreOf, AreOwn, AreNew, numbers_of, seen_at, mine_at}
+use Rattle.turn_cell.specs.Passes.{IsPassOf, opened_with, number, seen, mine}
+use Rattle.local_pool.specs.Helds.{pool_of}
+use Rattle.local_pool.specs.Lending.{PoolCell}
+use Rattle.segment_pool.specs.Pools.{size_of}
+use Rattle.conn_parts.specs.Shares.{AreOf, AreOwn, AreNew, GrewAt, HavePoolSize, numbers_of, seen_at, mine_at}
 use Rattle.conn_parts.specs.Places.{IsWithout}
 use Rattle.conn_parts.proofs.Lists.{refilled_set, get_is, get_set, get_set_else, set_cases, map_set}
 
@@ -128,13 +131,19 @@ module _ {S E F : Type 0} where
       AreOf cells passes → k < length cells → cell ≡ get_or cells k cell → slice_get passes k ≡ Some pass → IsPassOf cell pass
   pass_out cells passes k cell pass of within is_cell is_pass = of.each k cell pass (get_is cells k cell within is_cell) is_pass
 
-  -- The turn named the cell as `at`.
-  pub are_of_back : (cells : List (TurnCell S E F)) (passes rest back : List (Pass S E F)) (k : ℕ) (cell at : TurnCell S E F) (after : Pass S E F) →
-      AreOf cells passes → k < length cells → cell ≡ get_or cells k cell → at ≡ cell → IsPassOf at after → IsWithout passes k rest →
+  pub are_of_back : (cells : List (TurnCell S E F)) (passes rest back : List (Pass S E F)) (k : ℕ) (cell : TurnCell S E F) (after : Pass S E F) →
+      AreOf cells passes → k < length cells → cell ≡ get_or cells k cell → IsPassOf cell after → IsWithout passes k rest →
       back ≡ swap (rest ++ after ∷ []) k (length rest) → AreOf cells back
-  are_of_back cells passes rest back k cell at after of within is_cell is_at is_pass without is_back =
-      subst (AreOf cells) (sym (is_back ∙ without.whole after))
-      (are_of_set cells passes k cell after of within is_cell (subst (λ (c : TurnCell S E F). IsPassOf c after) is_at is_pass))
+  are_of_back cells passes rest back k cell after of within is_cell is_pass without is_back =
+      subst (AreOf cells) (sym (is_back ∙ without.whole after)) (are_of_set cells passes k cell after of within is_cell is_pass)
+
+  pub grew_back : (passes rest back : List (Pass S E F)) (k : ℕ) (pass after : Pass S E F) (entries : List E) → k < length passes → slice_get passes k ≡ Some pass → IsWithout passes k rest →
+      back ≡ swap (rest ++ after ∷ []) k (length rest) → mine after ≡ mine pass ++ entries → GrewAt k entries passes back
+  grew_back passes rest back k pass after entries within is_pass without is_back more =
+      subst (GrewAt k entries passes) (sym (is_back ∙ without.whole after)) (record {
+        here = mine_set passes k after within ∙ more ∙ ap (λ (l : List E). l ++ entries) (ap (λ (o : Option (Pass S E F)). option_map_or (λ (p : Pass S E F). mine p) o []) (sym is_pass));
+        others = λ j ne. ap (λ (o : Option (Pass S E F)). option_map_or (λ (p : Pass S E F). mine p) o []) (get_set_else passes k j after ne);
+      })
 
   pub numbers_back : (passes rest back : List (Pass S E F)) (k : ℕ) (pass after : Pass S E F) → slice_get passes k ≡ Some pass → IsWithout passes k rest →
       back ≡ swap (rest ++ after ∷ []) k (length rest) → number after ≡ number pass → numbers_of back ≡ numbers_of passes
@@ -161,3 +170,15 @@ module _ {S E F : Type 0} where
         All-from_recursion (λ (p : Pass S E F). number p ≡ n) new
         (numbered_by n old new same (recursion_from_All (λ (p : Pass S E F). number p ≡ n) old own.numbered));
   }
+
+-- ---- the sizes of pools
+
+pub pool_size : (cells : List PoolCell) (k : ℕ) (cell : PoolCell) (size : ℕ) → k < length cells → cell ≡ get_or cells k cell → HavePoolSize size cells → size_of (pool_of (opened_with cell)) ≡ size
+pool_size cells k cell size within is sizes =
+    subst (λ (c : PoolCell). size_of (pool_of (opened_with c)) ≡ size) (sym is) (All-get_or (λ (c : PoolCell). size_of (pool_of (opened_with c)) ≡ size) cells k cell within sizes)
+
+-- A segment that was lent there has it.
+pub lent_size : (cells : List PoolCell) (k : ℕ) (cell : PoolCell) (size : ℕ) (lent : Option (List ℕ)) → k < length cells → cell ≡ get_or cells k cell → HavePoolSize size cells →
+    IfSome lent (λ segment. length segment ≡ size_of (pool_of (opened_with cell))) → IfSome lent (λ segment. length segment ≡ size)
+lent_size cells k cell size None within is sizes long = tt
+lent_size cells k cell size (Some segment) within is sizes long = long ∙ pool_size cells k cell size within is sizes

@@ -1,5 +1,5 @@
 -- Cells and the passes that a loop has of them. This is this project's own choice.
-use Rattle.std.specs.Prelude.{◌≡◌, ℕ, List, [], length, slice_get, Some, All, map}
+use Rattle.std.specs.Prelude.{◌≡◌, ◌≢◌, ℕ, List, [], ◌++◌, length, slice_get, Some, All, map}
 use Rattle.std.specs.Option.{option_map_or}
 use Rattle.turn_cell.specs.declared.cell.TurnCell.{TurnCell}
 use Rattle.turn_cell.specs.declared.pass.Pass.{Pass}
@@ -29,6 +29,11 @@ module _ {S E F : Type 0} where
 
   abbrev pub mine_at : ℕ → List (Pass S E F) → List E
   mine_at k passes = option_map_or (λ (pass : Pass S E F). mine pass) (slice_get passes k) []
+
+  -- The pass at a place made these entries, and the others none.
+  pub record GrewAt (k : ℕ) (entries : List E) (before after : List (Pass S E F)) : Type 0 where
+    pub here : mine_at k after ≡ mine_at k before ++ entries
+    pub others : (j : ℕ) → j ≢ k → mine_at j after ≡ mine_at j before
 
   -- They have made no entry.
   abbrev pub AreNew : List (Pass S E F) → Type 0

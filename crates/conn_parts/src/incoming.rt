@@ -1,6 +1,6 @@
 // Bytes that came over a link.
 ghost use Rattle.std.specs.Prelude.{◌≡◌, ◌⊎◌, ◌+◌, ◌-◌, ◌<◌, ◌≤◌, [], length, take, drop, IfOk, IfSome, Some, true, OnErr};
-ghost use Rattle.net_frames.specs.declared.frame.TheConstants.{LEN_MAX};
+ghost use Rattle.net_frames.specs.Limits.{frame_max};
 ghost use Rattle.outside.specs.Faults.{HasRisen};
 ghost use Rattle.outside.specs.Links.{Appended};
 ghost use Rattle.conn_parts.specs.declared.incoming.TheConstants.{READ_LEAST};
@@ -71,7 +71,7 @@ impl Incoming {
 
     /// Reads once more. It waits while nothing comes. An answer of 0 is the end.
     pub fn read_from<I: LinkIn, R: Wait>(&mut self, rt: &R, input: &mut I) -> Result<usize, Failed>
-        requires { length self.old < LEN_MAX }
+        requires { length self.old < frame_max }
         ensures came { IfOk result (λ n. CameOn (I.got input.old) (I.got input.new) self.old self.new n) }
         ensures kept { OnErr result ((self.new ≡ self.old) × (I.got input.new ≡ I.got input.old)) }
         ensures end { IfOk result (λ n. n ≡ 0 → IfSome (I.ended input.old) (λ _. I.ended input.new ≡ Some true)) }

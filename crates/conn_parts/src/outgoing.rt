@@ -1,7 +1,7 @@
 // Frames on their way to a link.
 ghost use Rattle.std.specs.Prelude.{◌≡◌, ◌+◌, ◌≤◌, ◌++◌, [], length, Some, true, IfOk, IfSome, IsTrue};
 ghost use Rattle.net_frames.specs.Frames.{KeepsRanges, IsFrame, spelling};
-ghost use Rattle.net_frames.specs.declared.frame.TheConstants.{LEN_MAX};
+ghost use Rattle.net_frames.specs.Limits.{frame_max};
 ghost use Rattle.outside.specs.Links.{IsUnfinished};
 ghost use Rattle.conn_parts.specs.declared.outgoing.TheConstants.{OUT_ROOM};
 ghost use Rattle.conn_parts.specs.Messages.{closing};
@@ -53,8 +53,8 @@ impl Outgoing {
 
     /// Whether a frame of any length fits.
     pub fn has_room(&self) -> bool
-        ensures fits { IsTrue result → length self.now + LEN_MAX ≤ OUT_ROOM }
-        ensures full { length self.now + LEN_MAX ≤ OUT_ROOM → IsTrue result }
+        ensures fits { IsTrue result → length self.now + frame_max ≤ OUT_ROOM }
+        ensures full { length self.now + frame_max ≤ OUT_ROOM → IsTrue result }
     {
         self.bytes.as_slice().len() <= OUT_ROOM - LEN_MAX as usize
     }
@@ -62,7 +62,7 @@ impl Outgoing {
     /// Lays a frame down.
     pub fn put(&mut self, frame: &Frame, content: &[u8])
         requires ranges { KeepsRanges frame.now content.now }
-        requires room { length self.old + LEN_MAX ≤ OUT_ROOM }
+        requires room { length self.old + frame_max ≤ OUT_ROOM }
         ensures laid { self.new ≡ self.old ++ spelling frame.now content.now }
         ensures is_frame { IsFrame frame.now content.now }
     {

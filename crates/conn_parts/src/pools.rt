@@ -1,37 +1,34 @@
 // Segments of the tasks' local pools, in turns of their cells.
-ghost use Rattle.std.specs.Prelude.{◌≡◌, ◌<◌, ◌≤◌, ◌++◌, [], ◌∷◌, length, slice_get, Some, IfSome};
+ghost use Rattle.std.specs.Prelude.{◌≡◌, ◌<◌, ◌≤◌, ◌++◌, [], ◌∷◌, length, slice_get, ℕ, Some, IfSome};
 ghost use Rattle.std.specs.List.{swap};
-ghost use Rattle.conn_parts.specs.Shares.{AreOf, HavePoolSize, numbers_of};
+ghost use Rattle.local_pool.specs.declared.entry.PoolEntry.TheVariants.{Returned};
+ghost use Rattle.local_pool.specs.Lending.{lent_in_turn};
+ghost use Rattle.conn_parts.specs.Shares.{AreOf, GrewAt, HavePoolSize, numbers_of};
 ghost use Rattle.conn_parts.specs.Places.{IsWithout};
 
 use flow_defs::ListOf;
-use local_pool::HeldPool;
+use local_pool::{HeldPool, give_in_turn, request_in_turn};
 use segment_pool::Segment;
 use std::sync::Wait;
 use turn_cell::{Pass, TurnCell};
 
-/// Gives a segment back to the local pool at a place. Where none is lent there, or the segment has
-/// another size, it is dropped.
+/// Gives a segment back to the local pool at a place. Where none is lent there, it is dropped.
 pub fn give_segment<'p, R: Wait>(
     rt: &R,
     cells: &[TurnCell<HeldPool<'p>>],
     passes: &mut ListOf<Pass<HeldPool<'p>>>,
     place: usize,
-    size: u32,
     segment: Segment,
 )
     requires passes { AreOf cells.now passes.old.items }
     requires within { place < length cells.now }
-    requires sizes { HavePoolSize size cells.now }
+    requires size { HavePoolSize (length segment) cells.now }
     ensures passes { AreOf cells.now passes.new.items }
     ensures numbers { numbers_of passes.new.items ≡ numbers_of passes.old.items }
+    ensures returned { GrewAt place (Returned ∷ []) passes.old.items passes.new.items }
 {
     let pass = take_out(passes, place);
-    let (mut pool, turn) = cells[place].enter_owned(rt, pass);
-    if pool.lent() > 0 && segment.bytes().len() == size as usize {
-        pool.give(rt, segment);
-    }
-    let pass = turn.leave_as_is(pool);
+    let pass = give_in_turn(rt, &cells[place], pass, segment);
     put_back(passes, place, pass);
 }
 
@@ -41,19 +38,16 @@ pub fn request_segment<'p, R: Wait>(
     cells: &[TurnCell<HeldPool<'p>>],
     passes: &mut ListOf<Pass<HeldPool<'p>>>,
     place: usize,
-    size: u32,
 ) -> Option<Segment>
     requires passes { AreOf cells.now passes.old.items }
     requires within { place < length cells.now }
-    requires sizes { HavePoolSize size cells.now }
     ensures passes { AreOf cells.now passes.new.items }
     ensures numbers { numbers_of passes.new.items ≡ numbers_of passes.old.items }
-    ensures size { IfSome result (λ segment. length segment ≡ size) }
+    ensures lent { GrewAt place (lent_in_turn result) passes.old.items passes.new.items }
+    ensures size { (size : ℕ) → HavePoolSize size cells.now → IfSome result (λ segment. length segment ≡ size) }
 {
     let pass = take_out(passes, place);
-    let (mut lender, turn) = cells[place].enter_owned(rt, pass);
-    let segment = lender.request(rt);
-    let pass = turn.leave_as_is(lender);
+    let (pass, segment) = request_in_turn(rt, &cells[place], pass);
     put_back(passes, place, pass);
     segment
 }

@@ -13,18 +13,17 @@ use Rattle.net_frames.specs.Frames.{Begins, spelling}
 use Rattle.input_channel.specs.declared.entry.ReceiveEntry.{ReceiveEntry}
 use Rattle.input_channel.specs.declared.fault.AcceptFault.{AcceptFault}
 use Rattle.input_channel.specs.declared.fault.AcceptFault.TheVariants as faults
-use Rattle.input_channel.specs.Inboxes.{pushed}
 use Rattle.conn_parts.specs.Shares.{mine_at}
-use Rattle.conn_receive.specs.Receiving.{reads_items, arrival_with, shuts, NamesWrong, WasRefused}
+use Rattle.conn_receive.specs.Receiving.{reads_items, arrival_with, noted, shuts, NamesWrong, WasRefused}
 use Rattle.conn_receive.specs.Turning.{InputPass, Refuses}
 use Rattle.conn_receive.specs.Taking.{RefusedAt, GaveNothing, IsUnknown, RefusedBy, EndsWith, EndsBy, cause_of}
-use Rattle.conn_receive.proofs.EntryLaws.{shut_pushes}
+use Rattle.conn_receive.proofs.EntryLaws.{shut_notes}
 
 -- ---- no channel was given anything
 
 pub nothing_same : (before after : List InputPass) (cause : Cause) → after ≡ before → GaveNothing before after cause
 nothing_same before after cause same = record {
-  none = λ k. ap (λ (l : List InputPass). pushed (mine_at k l)) same;
+  none = λ k. ap (λ (l : List InputPass). noted (mine_at k l)) same;
   open_still = λ _ k. ap (λ (l : List InputPass). shuts (mine_at k l)) same;
 }
 
@@ -36,13 +35,13 @@ module _ (k : ℕ) (before after : List InputPass) (others : (j : ℕ) → j ≢
   ]
 
   nothing_refused : (cause : Cause) → mine_at k after ≡ mine_at k before → GaveNothing before after cause
-  nothing_refused cause same = record { none = λ j. ap pushed (mine_all same j); open_still = λ _ j. ap shuts (mine_all same j) }
+  nothing_refused cause same = record { none = λ j. ap noted (mine_all same j); open_still = λ _ j. ap shuts (mine_all same j) }
 
-  nothing_shut : (channel : ChannelId) (received announced : ℕ) → pushed (mine_at k after) ≡ pushed (mine_at k before) → GaveNothing before after (causes.OverCredit channel received announced)
+  nothing_shut : (channel : ChannelId) (received announced : ℕ) → noted (mine_at k after) ≡ noted (mine_at k before) → GaveNothing before after (causes.OverCredit channel received announced)
   nothing_shut channel received announced same = record {
     none = λ j. elim (cases_eq j k) [
-      | inl is ↦ ap (λ n. pushed (mine_at n after)) is ∙ same ∙ ap (λ n. pushed (mine_at n before)) (sym is)
-      | inr ne ↦ ap pushed (others j ne)
+      | inl is ↦ ap (λ n. noted (mine_at n after)) is ∙ same ∙ ap (λ n. noted (mine_at n before)) (sym is)
+      | inr ne ↦ ap noted (others j ne)
     ];
     open_still = λ over. absurd (cc);
   }
@@ -76,7 +75,7 @@ module _ (channels : List ChannelId) (before after : List InputPass) (bytes cont
     by_fault k (faults.WrongSequence want got) place at = (nothing_refused k before after at.others _ at.why.0, (want, got, (k, was_refused k _ _ place at.why.1)))
     by_fault k faults.AfterEnd place at = (nothing_refused k before after at.others _ at.why.0, (k, was_refused k _ _ place at.why.1))
     by_fault k (faults.OverCredit received announced) place at = (
-      nothing_shut k before after at.others channel received announced (shut_pushes _ _ at.why.entry),
+      nothing_shut k before after at.others channel received announced (shut_notes _ _ at.why.entry),
       record { place = k; is = place; history = at.why.history; shut = at.why.shut; refused = was_refused k _ _ place at.why.refuses },
     )
     by_fault k (faults.OverSize got size) place at = (nothing_refused k before after at.others _ at.why.0, (got, size, (k, was_refused k _ _ place at.why.1)))

@@ -1,4 +1,5 @@
 pub mod AccountLaws
+pub mod Asking
 pub mod EndLaws
 pub mod EntryLaws
 pub mod MessageLaws

@@ -4,7 +4,6 @@ use Rattle.std.specs.List.{refill}
 use Rattle.std.proofs.lemmas.List.Elements.{All-get_or}
 use Rattle.turn_cell.specs.declared.cell.TurnCell.{TurnCell}
 use Rattle.turn_cell.specs.Passes.{IsPassOf, number, seen, mine, opened_with}
-use Rattle.flow_defs.specs.declared.parcel.Parcel.{Parcel}
 use Rattle.input_channel.specs.declared.arrival.Arrival.{Arrival}
 use Rattle.input_channel.specs.declared.entry.ReceiveEntry.{ReceiveEntry}
 use Rattle.input_channel.specs.declared.fault.AcceptFault.{AcceptFault}
@@ -15,7 +14,8 @@ use Rattle.conn_parts.proofs.Lists.{refilled_set}
 use Rattle.conn_parts.proofs.Passes.{pass_at, number_at, are_own_lent, mine_here, mine_set, mine_set_else, seen_set}
 use Rattle.conn_receive.specs.declared.cells.Cells.{Cells}
 use Rattle.conn_receive.specs.Turning.{InputPass, WasRefusedWith}
-use Rattle.conn_receive.specs.Taking.{AreLent, PushedMore, GaveAt, RefusedAt}
+use Rattle.conn_receive.specs.Asking.{Asked, AskedAt}
+use Rattle.conn_receive.specs.Taking.{AreLent, NotedMore, GaveAt, RefusedAt}
 
 abbrev pub InputCell : Type 0
 InputCell = TurnCell ChannelState ReceiveEntry ℕ
@@ -49,10 +49,10 @@ module _ (passes list : List InputPass) (k : ℕ) (pass after : InputPass) (same
   others : (j : ℕ) → j ≢ k → mine_at j (refill (length passes) passes (set list k after)) ≡ mine_at j passes
   others j ne = ap (mine_at j) back ∙ mine_set_else passes k j after ne
 
-  pub gave_at : (items : List Parcel) → PushedMore (mine (get_or list k pass)) (mine after) items → GaveAt k passes (refill (length passes) passes (set list k after)) items
-  gave_at items more = record {
-    here = subst (λ es. PushedMore es (mine_at k (refill (length passes) passes (set list k after))) items) (sym mine_before)
-        (subst (λ es. PushedMore (mine (get_or list k pass)) es items) (sym mine_after) more);
+  pub gave_at : (notes : List ReceiveEntry) → NotedMore (mine (get_or list k pass)) (mine after) notes → GaveAt k passes (refill (length passes) passes (set list k after)) notes
+  gave_at notes more = record {
+    here = subst (λ es. NotedMore es (mine_at k (refill (length passes) passes (set list k after))) notes) (sym mine_before)
+        (subst (λ es. NotedMore (mine (get_or list k pass)) es notes) (sym mine_after) more);
     others = others;
   }
 
@@ -62,6 +62,16 @@ module _ (passes list : List InputPass) (k : ℕ) (pass after : InputPass) (same
         (subst (λ es. WasRefusedWith (mine (get_or list k pass)) es (seen_at k (refill (length passes) passes (set list k after))) a bytes fault) (sym mine_after)
         (subst (λ h. WasRefusedWith (mine (get_or list k pass)) (mine after) h a bytes fault) (sym seen_after) why));
     others = others;
+  }
+
+  pub asked_at : (before now : SharePasses) (to : ℕ) → before.inputs.items ≡ passes → now.inputs.items ≡ refill (length passes) passes (set list k after) →
+      Asked to (mine (get_or list k pass)) (mine after) before.pools.items now.pools.items → AskedAt k to before now
+  asked_at before now to was is asked = record {
+    here = subst (λ ps. Asked to (mine_at k ps) (mine_at k now.inputs.items) before.pools.items now.pools.items) (sym was)
+        (subst (λ ps. Asked to (mine_at k passes) (mine_at k ps) before.pools.items now.pools.items) (sym is)
+        (subst (λ es. Asked to es (mine_at k (refill (length passes) passes (set list k after))) before.pools.items now.pools.items) (sym mine_before)
+        (subst (λ es. Asked to (mine (get_or list k pass)) es before.pools.items now.pools.items) (sym mine_after) asked)));
+    others = λ j ne. ap (mine_at j) is ∙ others j ne ∙ ap (mine_at j) (sym was);
   }
 
 -- The passes are still those of the cells.

@@ -7,27 +7,27 @@ use Rattle.flow_defs.specs.declared.task.ChannelId.{ChannelId}
 use Rattle.flow_defs.specs.declared.cause.Cause.{Cause}
 use Rattle.flow_defs.specs.declared.cause.Cause.TheVariants as causes
 use Rattle.net_frames.specs.Frames.{spelling, all_spelled}
-use Rattle.input_channel.specs.Inboxes.{pushed}
 use Rattle.outside.specs.declared.stop.StopEntry.{StopEntry}
 use Rattle.outside.specs.declared.stop.StopEntry.TheVariants.{Met}
 use Rattle.outside.specs.Links.{Appended}
 use Rattle.outside.specs.Stops.{first_met, is_fault, told_of}
 use Rattle.conn_parts.specs.declared.share.SharePasses.{SharePasses}
 use Rattle.conn_parts.specs.Coming.{CameOn}
-use Rattle.conn_parts.specs.Messages.{items_on, is_from_sender}
+use Rattle.conn_parts.specs.Messages.{is_from_sender}
 use Rattle.conn_parts.specs.Shares.{mine_at}
 use Rattle.conn_parts.specs.Stopping.{StopCell, StopPass, ToldStop}
-use Rattle.conn_parts.proofs.Appends.{spelled-append, frames-append, from-append, items-append}
+use Rattle.conn_parts.proofs.Appends.{spelled-append, frames-append, from-append}
 use Rattle.conn_parts.proofs.Telling.{appended_none, appended_more, risen_before}
 use Rattle.conn_receive.specs.declared.cells.Cells.{Cells}
-use Rattle.conn_receive.specs.Receiving.{IsKnown}
+use Rattle.conn_receive.specs.Receiving.{noted, notes_on, IsKnown}
 use Rattle.conn_receive.specs.Turning.{InputPass}
 use Rattle.conn_receive.specs.Taking.{Gave, GaveNothing, TookMessage, EndsBy, WhyEnded, WentOn, ReadToEnd}
+use Rattle.conn_receive.proofs.EntryLaws.{notes-append, pushes_of}
 
 -- ---- one round
 
-gave_no_more : (channels : List ChannelId) (passes : List InputPass) → Gave channels passes passes (λ c. items_on c [])
-gave_no_more channels passes = record { each = λ k c at. sym (append-nil (pushed (mine_at k passes))); open_still = λ k. refl }
+gave_no_more : (channels : List ChannelId) (passes : List InputPass) → Gave channels passes passes (λ c. notes_on c [])
+gave_no_more channels passes = record { each = λ k c at. sym (append-nil (noted (mine_at k passes))); open_still = λ k. refl }
 
 -- Some bytes came behind those that were there.
 pub went_on_read : (channels : List ChannelId) (before after : List InputPass) (old new : Option (List ℕ)) (pending left : List ℕ) (count : ℕ) →
@@ -40,7 +40,7 @@ went_on_read channels before after old new pending left count same came = record
   added = came.bytes;
   told = came.told;
   spelled = sym came.behind;
-  gave = subst (λ (l : List InputPass). Gave channels before l (λ c. items_on c [])) (sym same) (gave_no_more channels before);
+  gave = subst (λ (l : List InputPass). Gave channels before l (λ c. notes_on c [])) (sym same) (gave_no_more channels before);
 }
 
 -- The first message was taken.
@@ -83,9 +83,9 @@ went_further channels a b c o p q x y z u v = record {
   spelled = sym (append_assoc x u.added v.added) ∙ ap (λ l. l ++ v.added) u.spelled ∙ append_assoc (all_spelled u.messages) y v.added ∙ ap (λ l. all_spelled u.messages ++ l) v.spelled
       ∙ sym (append_assoc (all_spelled u.messages) (all_spelled v.messages) z) ∙ ap (λ l. l ++ z) (sym (spelled-append u.messages v.messages));
   gave = record {
-    each = λ k d at. v.gave.each k d at ∙ ap (λ l. l ++ items_on d v.messages) (u.gave.each k d at)
-        ∙ append_assoc (pushed (mine_at k a)) (items_on d u.messages) (items_on d v.messages)
-        ∙ ap (λ l. pushed (mine_at k a) ++ l) (sym (items-append d u.messages v.messages));
+    each = λ k d at. v.gave.each k d at ∙ ap (λ l. l ++ notes_on d v.messages) (u.gave.each k d at)
+        ∙ append_assoc (noted (mine_at k a)) (notes_on d u.messages) (notes_on d v.messages)
+        ∙ ap (λ l. noted (mine_at k a) ++ l) (sym (notes-append d u.messages v.messages));
     open_still = λ k. v.gave.open_still k ∙ u.gave.open_still k;
   };
 }
@@ -114,7 +114,8 @@ read_to_end cells a b c o p q was now ended left fell mid rose cause went same l
   };
   known = went.known;
   pushed = record {
-    pushes = λ k d at. nothing.none k ∙ went.gave.each k d at;
+    pushes = λ k d at. pushes_of (mine_at k a.inputs.items) (mine_at k c.inputs.items) d went.messages (nothing.none k ∙ went.gave.each k d at);
+    notes = λ k d at. nothing.none k ∙ went.gave.each k d at;
     open_still = λ calm k. nothing.open_still calm k ∙ went.gave.open_still k;
   };
   why = why_still cells.channels.now c was now ended left fell mid rose cause same le why;

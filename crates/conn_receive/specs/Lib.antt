@@ -1,3 +1,4 @@
+pub mod Asking
 pub mod Receiving
 pub mod Taking
 pub mod Turning

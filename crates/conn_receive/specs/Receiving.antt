@@ -1,5 +1,5 @@
 -- What the loop that reads items did. What it reads is that of Flink's credit-based flow control; the loop is this project's own choice.
-use Rattle.std.specs.Prelude.{◌≡◌, ◌≢◌, ℕ, ◌<◌, ◌≤◌, true, false, Bool, List, [], ◌∷◌, ◌++◌, length, count_by, slice_get, All, Option, Some, IfSome}
+use Rattle.std.specs.Prelude.{◌≡◌, ◌≢◌, ℕ, ◌<◌, ◌≤◌, true, false, Bool, List, [], ◌∷◌, ◌++◌, length, count_by, filter, flat_map, slice_get, if◌then◌else◌, All, Option, Some, IfSome}
 use Rattle.turn_cell.specs.declared.cell.TurnCell.{TurnCell}
 use Rattle.turn_cell.specs.History.{StartsWith}
 use Rattle.turn_cell.specs.Passes.{IsPassOf, seen, opened_with}
@@ -9,7 +9,7 @@ use Rattle.flow_defs.specs.declared.cause.Cause.{Cause}
 use Rattle.flow_defs.specs.declared.cause.Cause.TheVariants as causes
 use Rattle.flow_defs.specs.declared.cause.PeerFault.{PeerFault}
 use Rattle.flow_defs.specs.declared.cause.PeerFault.TheVariants as peers
-use Rattle.credit_reader.specs.Senders.{AreDistinct}
+use Rattle.credit_reader.specs.Senders.{AreDistinct, is_same}
 use Rattle.net_frames.specs.declared.frame.Frame.{Frame}
 use Rattle.net_frames.specs.declared.frame.Frame.TheVariants as frames
 use Rattle.net_frames.specs.declared.frame.ArrivalKind2.{ArrivalKind2}
@@ -18,7 +18,7 @@ use Rattle.input_channel.specs.declared.arrival.Arrival.{Arrival}
 use Rattle.input_channel.specs.declared.arrival.ArrivalKind.{ArrivalKind}
 use Rattle.input_channel.specs.declared.arrival.ArrivalKind.TheVariants as kinds
 use Rattle.input_channel.specs.declared.entry.ReceiveEntry.{ReceiveEntry}
-use Rattle.input_channel.specs.declared.entry.ReceiveEntry.TheVariants.{Shut}
+use Rattle.input_channel.specs.declared.entry.ReceiveEntry.TheVariants.{Push, Backlog, Shut}
 use Rattle.input_channel.specs.declared.fault.AcceptFault.{AcceptFault}
 use Rattle.input_channel.specs.declared.fault.AcceptFault.TheVariants as faults
 use Rattle.input_channel.specs.Inboxes.{pushed}
@@ -29,7 +29,7 @@ use Rattle.outside.specs.Stops.{first_met}
 use Rattle.conn_parts.specs.declared.share.ConnShare.{ConnShare}
 use Rattle.conn_parts.specs.declared.share.SharePasses.{SharePasses}
 use Rattle.conn_parts.specs.Shares.{AreOf, AreOwn, mine_at, seen_at, HavePoolSize}
-use Rattle.conn_parts.specs.Messages.{Message, closing, is_from_sender, items_on}
+use Rattle.conn_parts.specs.Messages.{Message, closing, is_from_sender, parcel_with, items_on}
 use Rattle.conn_parts.specs.Reading.{Read, BeginsBadly, BeginsWith}
 
 -- What the loop is lent: passes of the cells that it enters, with the number of a reader of items.
@@ -62,10 +62,35 @@ abbrev pub is_over_credit : Cause → Bool
 is_over_credit (causes.OverCredit channel received announced) = true
 is_over_credit cause = false
 
--- Each channel was given the items of the messages that were read, in order. None was shut but for data over the credit.
+-- What a channel notes of the messages on it: items, each with its backlog, and backlogs that were announced.
+abbrev pub is_note : ReceiveEntry → Bool
+is_note (Push p backlog) = true
+is_note (Backlog n) = true
+is_note e = false
+
+abbrev pub noted : List ReceiveEntry → List ReceiveEntry
+noted es = filter is_note es
+
+-- What is to be noted of a message: the number in the frame, beside the item that it brings or alone.
+abbrev pub note_of : ChannelId → Message → List ReceiveEntry
+note_of c (frames.BufferResponse channel sequence backlog what, content) = if is_same channel c then Push (parcel_with what content) backlog ∷ [] else []
+note_of c (frames.BacklogAnnouncement channel backlog, content) = if is_same channel c then Backlog backlog ∷ [] else []
+note_of c (frames.ErrorResponse channel code, content) = []
+note_of c (frames.PartitionRequest channel credit, content) = []
+note_of c (frames.Close, content) = []
+note_of c (frames.AddCredit channel credit, content) = []
+note_of c (frames.ResumeConsumption channel, content) = []
+note_of c (frames.NewBufferSize channel size, content) = []
+
+abbrev pub notes_on : ChannelId → List Message → List ReceiveEntry
+notes_on c ms = flat_map (note_of c) ms
+
+-- Each channel was given the items of the messages that were read, in order, each with the backlog of its frame, and the backlogs that
+-- were announced. None was shut but for data over the credit.
 pub record PushedItems (channels : List ChannelId) (before after : SharePasses) (messages : List Message) (cause : Cause) : Type 0 where
   pub pushes : (k : ℕ) (c : ChannelId) → slice_get channels k ≡ Some c →
       pushed (mine_at k after.inputs.items) ≡ pushed (mine_at k before.inputs.items) ++ items_on c messages
+  pub notes : (k : ℕ) (c : ChannelId) → slice_get channels k ≡ Some c → noted (mine_at k after.inputs.items) ≡ noted (mine_at k before.inputs.items) ++ notes_on c messages
   pub open_still : is_over_credit cause ≡ false → (k : ℕ) → shuts (mine_at k after.inputs.items) ≡ shuts (mine_at k before.inputs.items)
 
 -- What this end reads.

@@ -4,13 +4,12 @@ use Rattle.turn_cell.specs.declared.cell.TurnCell.{TurnCell}
 use Rattle.turn_cell.specs.History.{StartsWith}
 use Rattle.turn_cell.specs.Passes.{IsPassOf, seen, opened_with}
 use Rattle.flow_defs.specs.declared.task.ChannelId.{ChannelId}
-use Rattle.flow_defs.specs.declared.parcel.Parcel.{Parcel}
 use Rattle.flow_defs.specs.declared.cause.Cause.{Cause}
 use Rattle.flow_defs.specs.declared.cause.Cause.TheVariants as causes
 use Rattle.flow_defs.specs.declared.cause.PeerFault.{PeerFault}
 use Rattle.flow_defs.specs.declared.cause.PeerFault.TheVariants as peers
 use Rattle.credit_reader.specs.Senders.{AreDistinct, is_same}
-use Rattle.net_frames.specs.declared.frame.TheConstants.{LEN_MAX}
+use Rattle.net_frames.specs.Limits.{frame_max}
 use Rattle.net_frames.specs.declared.frame.Frame.{Frame}
 use Rattle.net_frames.specs.declared.frame.Frame.TheVariants as frames
 use Rattle.net_frames.specs.Frames.{AreFrames, Begins, all_spelled}
@@ -19,20 +18,19 @@ use Rattle.input_channel.specs.declared.entry.ReceiveEntry.{ReceiveEntry}
 use Rattle.input_channel.specs.declared.entry.ReceiveEntry.TheVariants.{Shut}
 use Rattle.input_channel.specs.declared.fault.AcceptFault.{AcceptFault}
 use Rattle.input_channel.specs.declared.fault.AcceptFault.TheVariants as faults
-use Rattle.input_channel.specs.Inboxes.{pushed}
 use Rattle.input_channel.specs.States.{ChannelState}
 use Rattle.outside.specs.Faults.{HasRisen}
 use Rattle.outside.specs.Links.{Appended}
 use Rattle.outside.specs.Stops.{first_met}
 use Rattle.conn_parts.specs.declared.share.SharePasses.{SharePasses}
 use Rattle.conn_parts.specs.Shares.{AreOf, AreOwn, mine_at, seen_at, HavePoolSize}
-use Rattle.conn_parts.specs.Messages.{Message, closing, is_from_sender, items_on, AreFrom}
+use Rattle.conn_parts.specs.Messages.{Message, closing, is_from_sender, AreFrom}
 use Rattle.conn_parts.specs.Reading.{BeginsBadly, BeginsWith}
 use Rattle.conn_parts.specs.Stopping.{ToldStop}
 use Rattle.conn_receive.specs.declared.cells.Cells.{Cells}
 use Rattle.conn_receive.specs.declared.message.Step.{Step}
 use Rattle.conn_receive.specs.declared.message.Step.TheVariants as steps
-use Rattle.conn_receive.specs.Receiving.{shuts, is_over_credit, reads_items, arrival_with, IsKnown, NamesWrong, WasRefused, PushedItems}
+use Rattle.conn_receive.specs.Receiving.{noted, notes_on, shuts, is_over_credit, reads_items, arrival_with, IsKnown, NamesWrong, WasRefused, PushedItems}
 use Rattle.conn_receive.specs.Turning.{InputPass, WasRefusedWith}
 use Rattle.conn_parts.specs.Reading.{Read}
 
@@ -61,14 +59,14 @@ pub record KeepsStop (before after : SharePasses) : Type 0 where
 
 -- ---- what was given to channels
 
--- A pass pushed these items more, and shut nothing.
-pub record PushedMore (before after : List ReceiveEntry) (items : List Parcel) : Type 0 where
-  pub pushed : pushed after ≡ pushed before ++ items
+-- A pass noted these more, and shut nothing.
+pub record NotedMore (before after notes : List ReceiveEntry) : Type 0 where
+  pub noted : noted after ≡ noted before ++ notes
   pub shuts : shuts after ≡ shuts before
 
 -- The pass at a place did, and the others made no entry.
-pub record GaveAt (k : ℕ) (before after : List InputPass) (items : List Parcel) : Type 0 where
-  pub here : PushedMore (mine_at k before) (mine_at k after) items
+pub record GaveAt (k : ℕ) (before after : List InputPass) (notes : List ReceiveEntry) : Type 0 where
+  pub here : NotedMore (mine_at k before) (mine_at k after) notes
   pub others : (j : ℕ) → j ≢ k → mine_at j after ≡ mine_at j before
 
 -- The channel at a place refused an arrival, and the other passes made no entry.
@@ -76,19 +74,19 @@ pub record RefusedAt (k : ℕ) (before after : List InputPass) (a : Arrival) (by
   pub why : WasRefusedWith (mine_at k before) (mine_at k after) (seen_at k after) a bytes fault
   pub others : (j : ℕ) → j ≢ k → mine_at j after ≡ mine_at j before
 
--- Each channel was given these items, and none was shut.
-pub record Gave (channels : List ChannelId) (before after : List InputPass) (items : ChannelId → List Parcel) : Type 0 where
-  pub each : (k : ℕ) (c : ChannelId) → slice_get channels k ≡ Some c → pushed (mine_at k after) ≡ pushed (mine_at k before) ++ items c
+-- Each channel noted these, and none was shut.
+pub record Gave (channels : List ChannelId) (before after : List InputPass) (notes : ChannelId → List ReceiveEntry) : Type 0 where
+  pub each : (k : ℕ) (c : ChannelId) → slice_get channels k ≡ Some c → noted (mine_at k after) ≡ noted (mine_at k before) ++ notes c
   pub open_still : (k : ℕ) → shuts (mine_at k after) ≡ shuts (mine_at k before)
 
 -- No channel was given anything, and none was shut but for data over the credit.
 pub record GaveNothing (before after : List InputPass) (cause : Cause) : Type 0 where
-  pub none : (k : ℕ) → pushed (mine_at k after) ≡ pushed (mine_at k before)
+  pub none : (k : ℕ) → noted (mine_at k after) ≡ noted (mine_at k before)
   pub open_still : is_over_credit cause ≡ false → (k : ℕ) → shuts (mine_at k after) ≡ shuts (mine_at k before)
 
--- One item for a channel.
-abbrev pub brought : ChannelId → Parcel → ChannelId → List Parcel
-brought channel item c = if is_same channel c then item ∷ [] else []
+-- One note for a channel.
+abbrev pub brought : ChannelId → ReceiveEntry → ChannelId → List ReceiveEntry
+brought channel note c = if is_same channel c then note ∷ [] else []
 
 -- ---- a frame
 
@@ -120,7 +118,7 @@ module _ (channels : List ChannelId) (before after : List InputPass) where
   pub record TookFrame (frame : Frame) (content : List ℕ) : Type 0 where
     pub direction : is_from_sender frame ≡ true
     pub known : IsKnown channels (frame, content)
-    pub gave : Gave channels before after (λ c. items_on c ((frame, content) ∷ []))
+    pub gave : Gave channels before after (λ c. notes_on c ((frame, content) ∷ []))
 
   -- A frame ended the loop.
   abbrev pub EndsWith : Frame → List ℕ → Cause → Type 0
@@ -198,7 +196,7 @@ pub record WentOn (channels : List ChannelId) (before after : List InputPass) (o
   pub added : List ℕ
   pub told : Appended old new added
   pub spelled : pending ++ added ≡ all_spelled messages ++ left
-  pub gave : Gave channels before after (λ c. items_on c messages)
+  pub gave : Gave channels before after (λ c. notes_on c messages)
 
 -- A round that ended the loop: nothing came, and the stop cell was told.
 pub record EndedHere (cells : Cells) (before after : SharePasses) (old new : Option (List ℕ)) (was_ended ended : Option Bool) (left : List ℕ) (fell rose : ℕ) (cause : Cause) : Type 0 where
@@ -219,5 +217,5 @@ pub record ReadToEnd (cells : Cells) (before after : SharePasses) (old new : Opt
 -- What became of the bytes.
 abbrev pub Stepped : List ChannelId → List InputPass → List InputPass → List ℕ → Step → Type 0
 Stepped channels before after bytes (steps.Took count) = TookMessage channels before after bytes count
-Stepped channels before after bytes steps.More = (length bytes < LEN_MAX) × (after ≡ before)
+Stepped channels before after bytes steps.More = (length bytes < frame_max) × (after ≡ before)
 Stepped channels before after bytes (steps.Ends cause) = GaveNothing before after cause × EndsBy channels after bytes cause

@@ -1,9 +1,11 @@
 // What a message does at the place of its channel.
 ghost use Rattle.std.specs.Prelude.{◌≡◌, ◌<◌, ◌^◌, [], ◌∷◌, length, OnOk, IfErr};
 ghost use Rattle.turn_cell.specs.Passes.{IsPassOf, opened_with, mine, number};
+ghost use Rattle.input_channel.specs.declared.entry.ReceiveEntry.TheVariants.{Push, Backlog};
 ghost use Rattle.input_channel.specs.Answers.{parcel_in};
 ghost use Rattle.conn_parts.specs.Shares.{AreOf, HavePoolSize};
-ghost use Rattle.conn_receive.specs.Taking.{AreLent, KeepsStop, PushedMore, GaveAt, RefusedAt};
+ghost use Rattle.conn_receive.specs.Asking.{Asked, AskedAt};
+ghost use Rattle.conn_receive.specs.Taking.{AreLent, KeepsStop, NotedMore, GaveAt, RefusedAt};
 
 use crate::cells::Cells;
 use crate::turns::{accept, add_floating, obey_backlog};
@@ -32,15 +34,16 @@ fn ask_floating<'p, R: Wait>(
     requires sizes { HavePoolSize cells.now.size cells.now.pools.now }
     requires within { to < length cells.now.pools.now }
     ensures pass { IsPassOf cell.now pass.new × (number pass.new ≡ 1) }
-    ensures pushed { PushedMore (mine pass.old) (mine pass.new) [] }
+    ensures noted { NotedMore (mine pass.old) (mine pass.new) [] }
     ensures pools { AreOf cells.now.pools.now pool_passes.new.items }
+    ensures asked { Asked to (mine pass.old) (mine pass.new) pool_passes.old.items pool_passes.new.items }
 {
     'asks: for _ask in 0..wanted {
-        let Some(segment) = request_segment(rt, cells.pools, pool_passes, to, cells.size) else {
+        let Some(segment) = request_segment(rt, cells.pools, pool_passes, to) else {
             return;
         };
         if let Some(segment) = add_floating(rt, cell, pass, segment) {
-            give_segment(rt, cells.pools, pool_passes, to, cells.size, segment);
+            give_segment(rt, cells.pools, pool_passes, to, segment);
             return;
         }
     }
@@ -62,7 +65,8 @@ pub(crate) fn give_at<'p, R: Wait>(
     requires backlog { a.backlog < 2 ^ 31 }
     ensures lent { AreLent cells.now passes.new }
     ensures others { KeepsStop passes.old passes.new }
-    ensures gave { OnOk result (GaveAt place passes.old.inputs.items passes.new.inputs.items (parcel_in a.what bytes.now ∷ [])) }
+    ensures asked { AskedAt place to passes.old passes.new }
+    ensures gave { OnOk result (GaveAt place passes.old.inputs.items passes.new.inputs.items (Push (parcel_in a.what bytes.now) a.backlog ∷ [])) }
     ensures refused { IfErr result (λ fault. RefusedAt place passes.old.inputs.items passes.new.inputs.items a bytes.now fault) }
 {
     let cell = &cells.inputs[place];
@@ -92,7 +96,8 @@ pub(crate) fn announce_at<'p, R: Wait>(
     requires backlog { n < 2 ^ 31 }
     ensures lent { AreLent cells.now passes.new }
     ensures others { KeepsStop passes.old passes.new }
-    ensures gave { GaveAt place passes.old.inputs.items passes.new.inputs.items [] }
+    ensures asked { AskedAt place to passes.old passes.new }
+    ensures gave { GaveAt place passes.old.inputs.items passes.new.inputs.items (Backlog n ∷ []) }
 {
     let cell = &cells.inputs[place];
     let pass = &mut passes.inputs.as_mut_slice()[place];

@@ -1,8 +1,10 @@
 // One message of the sender's end.
-ghost use Rattle.std.specs.Prelude.{◌≡◌, ◌<◌, ◌≤◌, ◌⊎◌, ◌^◌, [], OnOk, IfErr};
+ghost use Rattle.std.specs.Prelude.{◌≡◌, ◌<◌, ◌≤◌, ◌⊎◌, ◌^◌, OnOk, IfErr};
 ghost use Rattle.net_frames.specs.Frames.{IsFrame};
+ghost use Rattle.input_channel.specs.declared.entry.ReceiveEntry.TheVariants.{Push, Backlog};
 ghost use Rattle.input_channel.specs.Answers.{parcel_in};
 ghost use Rattle.conn_receive.specs.Receiving.{arrival_with, IsChannel};
+ghost use Rattle.conn_receive.specs.Asking.{AskedForAll};
 ghost use Rattle.conn_receive.specs.Taking.{AreLent, KeepsStop, Gave, IsUnknown, RefusedBy, TookFrame, EndsWith, Stepped, brought, cause_of};
 
 use crate::cells::Cells;
@@ -88,8 +90,9 @@ fn take_arrival<'p, R: Wait>(
     requires backlog { a.backlog < 2 ^ 31 }
     ensures lent { AreLent cells.now passes.new }
     ensures others { KeepsStop passes.old passes.new }
+    ensures asked { AskedForAll cells.now.channels.now passes.old passes.new }
     ensures known { OnOk result (IsChannel cells.now.channels.now channel) }
-    ensures gave { OnOk result (Gave cells.now.channels.now passes.old.inputs.items passes.new.inputs.items (brought channel (parcel_in a.what bytes.now))) }
+    ensures gave { OnOk result (Gave cells.now.channels.now passes.old.inputs.items passes.new.inputs.items (brought channel (Push (parcel_in a.what bytes.now) a.backlog))) }
     ensures ended { IfErr result (λ cause. IsUnknown cells.now.channels.now passes.old.inputs.items passes.new.inputs.items channel cause ⊎ RefusedBy cells.now.channels.now passes.old.inputs.items passes.new.inputs.items channel a bytes.now cause) }
 {
     let Some(place) = place_of(cells.channels, channel) else {
@@ -115,8 +118,9 @@ fn take_backlog<'p, R: Wait>(
     requires backlog { n < 2 ^ 31 }
     ensures lent { AreLent cells.now passes.new }
     ensures others { KeepsStop passes.old passes.new }
+    ensures asked { AskedForAll cells.now.channels.now passes.old passes.new }
     ensures known { OnOk result (IsChannel cells.now.channels.now channel) }
-    ensures gave { OnOk result (Gave cells.now.channels.now passes.old.inputs.items passes.new.inputs.items (λ _. [])) }
+    ensures gave { OnOk result (Gave cells.now.channels.now passes.old.inputs.items passes.new.inputs.items (brought channel (Backlog n))) }
     ensures ended { IfErr result (λ cause. IsUnknown cells.now.channels.now passes.old.inputs.items passes.new.inputs.items channel cause) }
 {
     let Some(place) = place_of(cells.channels, channel) else {
@@ -140,6 +144,7 @@ fn take_frame<'p, R: Wait>(
     requires frame { IsFrame frame content.now }
     ensures lent { AreLent cells.now passes.new }
     ensures others { KeepsStop passes.old passes.new }
+    ensures asked { AskedForAll cells.now.channels.now passes.old passes.new }
     ensures took { OnOk result (TookFrame cells.now.channels.now passes.old.inputs.items passes.new.inputs.items frame content.now) }
     ensures ended { IfErr result (λ cause. EndsWith cells.now.channels.now passes.old.inputs.items passes.new.inputs.items frame content.now cause) }
 {
@@ -189,6 +194,7 @@ pub(crate) fn take_message<'p, R: Wait>(
     requires { AreLent cells.now passes.old }
     ensures lent { AreLent cells.now passes.new }
     ensures others { KeepsStop passes.old passes.new }
+    ensures asked { AskedForAll cells.now.channels.now passes.old passes.new }
     ensures step { Stepped cells.now.channels.now passes.old.inputs.items passes.new.inputs.items bytes.now result }
 {
     match decode(bytes) {

@@ -2,6 +2,7 @@
 ghost use Rattle.std.specs.Prelude.{◌≡◌, ◌≤◌};
 ghost use Rattle.conn_parts.specs.Coming.{Came};
 ghost use Rattle.conn_parts.specs.Stopping.{ToldStop};
+ghost use Rattle.conn_receive.specs.Asking.{AskedForAll};
 ghost use Rattle.conn_receive.specs.Receiving.{MayReadItems, ItemsHandBack, ItemsAccount};
 ghost use Rattle.conn_receive.specs.Taking.{AreLent, KeepsOthers, ReadToEnd};
 
@@ -24,6 +25,7 @@ fn read_messages<'p, I: LinkIn, R: Wait>(
     requires { AreLent cells.now passes.old }
     ensures lent { AreLent cells.now passes.new }
     ensures others { KeepsOthers passes.old passes.new }
+    ensures asked { AskedForAll cells.now.channels.now passes.old passes.new }
     ensures line { I.line input.new ≡ I.line input.old }
     ensures never_falls { I.faults input.old ≤ I.faults input.new }
     ensures account { ReadToEnd cells.now passes.old passes.new (I.got input.old) (I.got input.new) (I.ended input.old) (I.ended input.new) (I.faults input.old) (I.faults input.new) result }
@@ -70,6 +72,7 @@ pub fn read_items<'a, 'p, I: LinkIn, R: Wait>(
     ensures passes { ItemsHandBack share.entry result.passes }
     ensures line { I.line result.half ≡ I.line input }
     ensures account { ItemsAccount share.entry result.passes (I.got input) (I.got result.half) (I.ended input) (I.ended result.half) (I.faults input) (I.faults result.half) result.cause }
+    ensures asked { AskedForAll share.entry.channels.now share.entry.passes result.passes }
     ensures stop { ToldStop share.entry.stop.now result.cause share.entry.passes.stop result.passes.stop }
 {
     let ConnShare {

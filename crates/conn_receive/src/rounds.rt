@@ -1,9 +1,10 @@
 // The rounds of the loop.
 ghost use Rattle.std.specs.Prelude.{◌≡◌, ◌<◌, ◌≤◌, ◌⊎◌, [], length, Some, IfNone, IfSome};
-ghost use Rattle.net_frames.specs.declared.frame.TheConstants.{LEN_MAX};
+ghost use Rattle.net_frames.specs.Limits.{frame_max};
 ghost use Rattle.turn_cell.specs.Passes.{IsPassOf, seen};
 ghost use Rattle.outside.specs.Stops.{first_met};
 ghost use Rattle.conn_parts.specs.Stopping.{ToldStop};
+ghost use Rattle.conn_receive.specs.Asking.{AskedForAll};
 ghost use Rattle.conn_receive.specs.Taking.{AreLent, KeepsOthers, KeepsStop, WentOn, EndedHere, ReadToEnd};
 
 use crate::cells::Cells;
@@ -38,10 +39,11 @@ fn read_more<'p, I: LinkIn, R: Wait>(
     input: &mut I,
 ) -> Option<Cause>
     requires lent { AreLent cells.now passes.old }
-    requires short { length incoming.old < LEN_MAX }
+    requires short { length incoming.old < frame_max }
     requires calm { seen passes.old.stop ≡ [] }
     ensures lent { AreLent cells.now passes.new }
     ensures others { KeepsOthers passes.old passes.new }
+    ensures asked { AskedForAll cells.now.channels.now passes.old passes.new }
     ensures line { I.line input.new ≡ I.line input.old }
     ensures never_falls { I.faults input.old ≤ I.faults input.new }
     ensures went_on { IfNone result (WentOn cells.now.channels.now passes.old.inputs.items passes.new.inputs.items (I.got input.old) (I.got input.new) incoming.old incoming.new) }
@@ -76,6 +78,7 @@ fn go_on<'p, I: LinkIn, R: Wait>(
     requires calm { seen passes.old.stop ≡ [] }
     ensures lent { AreLent cells.now passes.new }
     ensures others { KeepsOthers passes.old passes.new }
+    ensures asked { AskedForAll cells.now.channels.now passes.old passes.new }
     ensures line { I.line input.new ≡ I.line input.old }
     ensures never_falls { I.faults input.old ≤ I.faults input.new }
     ensures went_on { IfNone result (WentOn cells.now.channels.now passes.old.inputs.items passes.new.inputs.items (I.got input.old) (I.got input.new) incoming.old incoming.new) }
@@ -109,6 +112,7 @@ pub(crate) fn read_rounds<'p, I: LinkIn, R: Wait>(
     requires fresh { incoming.old ≡ [] }
     ensures lent { AreLent cells.now passes.new }
     ensures others { KeepsOthers passes.old passes.new }
+    ensures asked { AskedForAll cells.now.channels.now passes.old passes.new }
     ensures line { I.line input.new ≡ I.line input.old }
     ensures never_falls { I.faults input.old ≤ I.faults input.new }
     ensures account { ReadToEnd cells.now passes.old passes.new (I.got input.old) (I.got input.new) (I.ended input.old) (I.ended input.new) (I.faults input.old) (I.faults input.new) result }

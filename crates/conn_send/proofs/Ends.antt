@@ -9,11 +9,13 @@ use Rattle.net_frames.specs.Frames.{AreFrames, all_spelled}
 use Rattle.outside.specs.Faults.{HasRisen}
 use Rattle.outside.specs.Links.{Appended}
 use Rattle.reader_state.specs.declared.entry.ReaderEntry.{ReaderEntry}
+use Rattle.reader_state.specs.Standing.{told_last}
+use Rattle.conn_parts.specs.Shares.{seen_at}
 use Rattle.conn_parts.specs.Messages.{Message, AreFrom, is_from_sender, closing}
 use Rattle.conn_parts.specs.Writing.{AppendedFront, Wrote}
 use Rattle.conn_parts.proofs.Appends.{spelled-append}
 use Rattle.conn_parts.proofs.Telling.{appended_none, appended_more, risen_before, risen_after}
-use Rattle.conn_send.specs.Fronts.{SendPass}
+use Rattle.conn_send.specs.Fronts.{SendPass, backlog_after}
 use Rattle.conn_send.specs.Sending.{IsSendCause}
 use Rattle.conn_send.specs.Steps.{Sends, Writes, WritesUntil, WrittenUntil, HasWritten, SendsUntil, ClosedAs}
 use Rattle.conn_send.proofs.Standing.{there}
@@ -71,8 +73,9 @@ module _ (channels : List ChannelId) where
   -- ---- from the first turn on
 
   pub until_all : (a b c : List SendPass) (l m n : List ReaderEntry) (f g : List Bool) (o p : Option (List ℕ)) (k r : ℕ) (cause : Cause) → l ≡ [] → ((i : ℕ) → slice_get f i ≢ Some true) →
-      Sends channels a b l m [] → WritesUntil channels b c m n f g o p k r cause → SendsUntil channels a c n o p k r cause
-  until_all a b c l m n f g o p k r cause new none quiet until = record {
+      Sends channels a b l m [] → WritesUntil channels b c m n f g o p k r cause → ((i : ℕ) (d : ChannelId) → slice_get channels i ≡ Some d → told_last d n ≡ backlog_after (seen_at i c)) →
+      SendsUntil channels a c n o p k r cause
+  until_all a b c l m n f g o p k r cause new none quiet until last = record {
     added = until.added;
     frames = until.says.frames;
     direction = until.says.direction;
@@ -82,6 +85,7 @@ module _ (channels : List ChannelId) where
       | inl was ↦ absurd (none i was)
       | inr end ↦ end
     ];
+    last = λ _. last;
     cause_is = until.cause_is;
   }
 
@@ -93,6 +97,7 @@ module _ (channels : List ChannelId) where
     sends = subst (λ own. Sends channels a a own l []) new (sends_none channels a l);
     written = appended_none o;
     ends = λ is. absurd (cc);
+    last = λ ne. absurd (ne refl);
     cause_is = tt;
   }
 
@@ -188,3 +193,7 @@ module _ (messages : List Message) (frames : AreFrames messages) (direction : Ar
   closes Stopped Memory is written closed = failed_closing Stopped written Memory closed
   closes Stopped (OverCredit c n a) is written closed = failed_closing Stopped written (OverCredit c n a) closed
   closes Stopped (Peer fault) is written closed = failed_closing Stopped written (Peer fault) closed
+
+-- Where there was no memory that stays the cause.
+pub memory_stays : (o p : Option (List ℕ)) (k l : ℕ) (before after : Cause) → ClosedAs o p k l before after → before ≡ Memory → after ≡ Memory
+memory_stays o p k l before after closed is = let h = subst (λ b. ClosedAs o p k l b after) is closed in h.0

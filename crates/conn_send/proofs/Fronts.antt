@@ -1,9 +1,9 @@
 -- What stands first on a channel, from one turn of its sender to the next.
 use Rattle.std.proofs.Common.{◌≡◌, ◌≢◌, ℕ, zero, suc, ◌+◌, ◌≤◌, true, false, cond, eqb, true≢false, List, [], ◌∷◌, ◌++◌, map, refl, sym, ap, subst, ◌∙◌, arith, eqb-true, eq-eqb, append_assoc, append-nil}
-use Rattle.std.specs.Prelude.{slice_get, Some, None}
+use Rattle.std.specs.Prelude.{slice_get, Some, None, All}
 use Rattle.std.specs.List.{filter, range_with_len}
 use Rattle.std.proofs.lemmas.List.{map-append}
-use Rattle.std.proofs.lemmas.List.Elements.{filter-append}
+use Rattle.std.proofs.lemmas.List.Elements.{All-get_or, filter-append}
 use Rattle.flow_defs.specs.declared.task.BarrierKind.{BarrierKind}
 use Rattle.flow_defs.specs.declared.task.BarrierKind.TheVariants.{Inline}
 use Rattle.flow_defs.specs.declared.task.Head.TheVariants.{Nothing}
@@ -15,14 +15,15 @@ use Rattle.subpartition.specs.declared.entry.SendEntry.{SendEntry}
 use Rattle.subpartition.specs.declared.entry.SendEntry.TheVariants.{Put, PutInline, Finish, Take, Size}
 use Rattle.subpartition.specs.declared.item.Item.{Item}
 use Rattle.subpartition.specs.declared.item.Item.TheVariants as item
-use Rattle.subpartition.specs.Sending.{Outbox, sent_one, sent_from, outbox, may_send, MaySendAs, numbers_of}
-use Rattle.subpartition.specs.Queues.{Queue, parcel_of, head_of}
+use Rattle.subpartition.specs.Sending.{Outbox, take_first, sent_one, sent_from, outbox, may_send, MaySendAs, numbers_of}
+use Rattle.subpartition.specs.Queues.{Queue, HasLength, parcel_of, head_of}
 use Rattle.subpartition.specs.Standing.{StandsFor}
 use Rattle.subpartition.specs.Theorems.{EntriesAreHistory, BarriersAreNumbered, BarriersTravelInOrder}
 use Rattle.subpartition.proofs.Growing.{entries_of-append, cancel_nil}
 use Rattle.subpartition.proofs.Travelling.{sent_from-append}
 use Rattle.turn_cell.specs.Passes.{IsTurnOf, IsSamePass, seen}
-use Rattle.conn_send.specs.Fronts.{SendCell, SendPass, IsSender, left_after, first_of, front_after, FrontStays}
+use Rattle.subpartition.specs.Queues as queues
+use Rattle.conn_send.specs.Fronts.{SendCell, SendPass, IsSender, left_after, first_of, front_after, FrontStays, backlog_of, backlog_after, behind_first, behind_one, behind_from, behind_taken, behind_in, taken_in, NoneTaken, OneTaken}
 use Rattle.conn_send.specs.Items.{IsNumbered}
 
 -- ---- the entries of others
@@ -164,3 +165,75 @@ numbered entries numbers travel queue history (item.Barrier k kind) stands is =
 pub own_same : (cell at_cell : SendCell) (before at : SendPass) → IsSender cell before → IsTurnOf at_cell at → IsSamePass before at → by 1 (seen at) ≡ by 1 (seen before)
 own_same cell at_cell before at is turn same =
     ap (λ n. by n (seen at)) (sym (same.0 ∙ is.1)) ∙ turn.0.5 ∙ same.1 ∙ sym is.0.0.5 ∙ ap (λ n. by n (seen before)) is.1
+
+-- ---- backlogs
+
+backlog_same : (items : List Item) → backlog_of (map parcel_of items) ≡ queues.backlog_of items
+backlog_same [] = refl
+backlog_same (item.Buffer filled ∷ items) = ap suc (backlog_same items)
+backlog_same (item.Barrier k kind ∷ items) = backlog_same items
+backlog_same (item.End ∷ items) = backlog_same items
+
+-- The backlog of the queue is that of what is left.
+pub backlog_is : (queue : Queue) (history : List (ℕ × SendEntry)) → StandsFor queue history → backlog_after history ≡ queues.backlog_of queue.items
+backlog_is queue history stands = ap backlog_of (sym stands.items) ∙ backlog_same queue.items
+
+behind-append : (o : Outbox) (xs ys : List SendEntry) → behind_from o (xs ++ ys) ≡ behind_from o xs ++ behind_from (sent_from o xs) ys
+behind-append o [] ys = refl
+behind-append o (x ∷ xs) ys = ap (λ l. behind_one o x ++ l) (behind-append (sent_one o x) xs ys) ∙ sym (append_assoc (behind_one o x) (behind_from (sent_one o x) xs) (behind_from (sent_from (sent_one o x) xs) ys))
+
+-- One that is not the sender's takes nothing.
+takes_none : (n : ℕ) (o : Outbox) (e : SendEntry) → may_send n e ≡ true → eqb 1 n ≡ false → behind_one o e ≡ []
+takes_none n o (Put bytes) may apart = refl
+takes_none n o (PutInline k) may apart = refl
+takes_none n o Finish may apart = refl
+takes_none n o Take may apart = absurd (true≢false (sym (eq-eqb 1 n (sym (eqb-true n 1 may))) ∙ apart))
+takes_none n o (Size size) may apart = refl
+
+none_behind : (size : ℕ) (front : List (ℕ × SendEntry)) (o : Outbox) (rest : List (ℕ × SendEntry)) → IsHistory (MaySendAs size) (front ++ rest) → by 1 rest ≡ [] → behind_from o (entries_of rest) ≡ []
+none_behind size front o [] legal none = refl
+none_behind size front o (pair ∷ rest) legal none =
+    let apart = first_apart pair rest none in
+    ap (λ l. l ++ behind_from (sent_one o pair.1) (entries_of rest)) (takes_none pair.0 o pair.1 (legal front rest pair refl).0 apart.0)
+    ∙ none_behind size (front ++ pair ∷ []) (sent_one o pair.1) rest (subst (IsHistory (MaySendAs size)) (sym (append_assoc front (pair ∷ []) rest)) legal) apart.1
+
+-- Between two turns of the sender nothing is taken.
+behind_stays : (size : ℕ) (before now : List (ℕ × SendEntry)) → IsHistory (MaySendAs size) now → StartsWith now before → by 1 now ≡ by 1 before → behind_in now ≡ behind_in before
+behind_stays size before now legal starts same =
+    let none : by 1 starts.0 ≡ [] = cancel_nil (by 1 before) (by 1 starts.0) (sym (by-append 1 before starts.0) ∙ ap (by 1) (sym starts.1) ∙ same) in
+    ap behind_in starts.1 ∙ ap behind_taken (entries_of-append before starts.0) ∙ behind-append (record { taken = []; items = [] }) (entries_of before) (entries_of starts.0)
+    ∙ ap (λ l. behind_in before ++ l) (none_behind size before (outbox (entries_of before)) starts.0 (subst (IsHistory (MaySendAs size)) starts.1 legal) none)
+    ∙ append-nil (behind_in before)
+
+pub none_taken : (size : ℕ) (before now after : List (ℕ × SendEntry)) → IsHistory (MaySendAs size) now → StartsWith now before → by 1 now ≡ by 1 before → after ≡ now → taken_in now ≡ taken_in before → NoneTaken before after
+none_taken size before now after legal starts same is taken = subst (NoneTaken before) (sym is) (record { grows = starts; taken = taken; behind = behind_stays size before now legal starts same })
+
+-- What is left behind the first item that is taken.
+left_behind : (taken ps : List Parcel) → first_of ps ≢ Nothing → behind_first ps ≡ backlog_of (take_first taken ps).items ∷ []
+left_behind taken [] some = absurd (some refl)
+left_behind taken (p ∷ ps) some = refl
+
+behind_take : (history : List (ℕ × SendEntry)) (n : ℕ) → front_after history ≢ Nothing → behind_in (history ++ (n, Take) ∷ []) ≡ behind_in history ++ backlog_after (history ++ (n, Take) ∷ []) ∷ []
+behind_take history n some =
+    let o = outbox (entries_of history) in
+    let left : backlog_after (history ++ (n, Take) ∷ []) ≡ backlog_of (sent_one o Take).items =
+    ap (λ es. backlog_of (outbox es).items) (entries_of-append history ((n, Take) ∷ []))
+    ∙ ap (λ (p : Outbox). backlog_of p.items) (sent_from-append (record { taken = []; items = [] }) (entries_of history) (Take ∷ [])) in
+    ap behind_taken (entries_of-append history ((n, Take) ∷ [])) ∙ behind-append (record { taken = []; items = [] }) (entries_of history) (Take ∷ [])
+    ∙ ap (λ l. behind_in history ++ l) (append-nil (behind_first o.items) ∙ left_behind o.taken o.items some ∙ ap (λ k. k ∷ []) (sym left))
+
+pub one_taken : (size : ℕ) (before now after : List (ℕ × SendEntry)) (n : ℕ) (item : Parcel) (backlog : ℕ) → IsHistory (MaySendAs size) now → StartsWith now before → by 1 now ≡ by 1 before →
+    front_after before ≢ Nothing → after ≡ now ++ (n, Take) ∷ [] → taken_in after ≡ taken_in before ++ item ∷ [] → backlog_after after ≡ backlog → OneTaken before after item backlog
+one_taken size before now after n item backlog legal starts same some is taken left =
+    let still = front_stays size before now legal starts same some in
+    record {
+      grows = (starts.0 ++ (n, Take) ∷ [], is ∙ ap (λ l. l ++ (n, Take) ∷ []) starts.1 ∙ append_assoc before starts.0 ((n, Take) ∷ []));
+      taken = taken;
+      behind = ap behind_in is ∙ behind_take now n (λ none. some (sym still ∙ none)) ∙ ap (λ l. l ++ backlog_after (now ++ (n, Take) ∷ []) ∷ []) (behind_stays size before now legal starts same)
+          ∙ ap (λ k. behind_in before ++ k ∷ []) (ap backlog_after (sym is) ∙ left);
+    }
+
+-- Where all segments have a length, that of the first item does.
+pub first_long : (size : ℕ) (items : List Item) (item : Item) → All (HasLength size) items → slice_get items 0 ≡ Some item → HasLength size item
+first_long size [] item all first = absurd (cc)
+first_long size (x ∷ items) item all first = let same : x ≡ item = cc in subst (HasLength size) same (All-get_or (HasLength size) (x ∷ items) 0 x (omega arith) all)

@@ -1,11 +1,13 @@
 -- The sender's pass at a place, lent for a turn.
-use Rattle.std.proofs.Common.{◌≡◌, ℕ, ◌<◌, List, length, get_or, set, ap, subst, ◌∙◌, arith}
+use Rattle.std.proofs.Common.{◌≡◌, ℕ, ◌<◌, List, length, get_or, set, sym, ap, subst, ◌∙◌, arith}
+use Rattle.flow_defs.specs.declared.parcel.Parcel.{Parcel}
+use Rattle.subpartition.specs.declared.entry.SendEntry.{SendEntry}
 use Rattle.std.specs.List.{refill}
 use Rattle.turn_cell.specs.Passes.{seen}
 use Rattle.conn_parts.specs.Shares.{AreOwn, seen_at}
 use Rattle.conn_parts.proofs.Lists.{refilled_set}
 use Rattle.conn_parts.proofs.Passes.{pass_at, number_at, are_own_lent, seen_here, seen_set, seen_set_else}
-use Rattle.conn_send.specs.Fronts.{SendCell, SendPass, IsSender, OthersStay}
+use Rattle.conn_send.specs.Fronts.{SendCell, SendPass, IsSender, NoneTaken, OneTaken, OthersStay}
 
 module _ (cells : List SendCell) (passes lent : List SendPass) (place : ℕ) (cell : SendCell) (pass : SendPass)
     (is : lent ≡ passes) (own : AreOwn 1 cells passes) (within : place < length cells)
@@ -32,3 +34,11 @@ module _ (cells : List SendCell) (passes lent : List SendPass) (place : ℕ) (ce
 
     pub others_now : OthersStay place passes (refill (length passes) passes (set lent place after))
     others_now k apart = ap (λ (ps : List SendPass). seen_at k ps) (refilled_set passes lent place after is) ∙ seen_set_else passes place k after apart
+
+-- What a turn took, of the pass that was lent.
+module _ (was now a b : List (ℕ × SendEntry)) (was_is : was ≡ a) (now_is : now ≡ b) where
+  pub none_taken_at : NoneTaken a b → NoneTaken was now
+  none_taken_at t = subst (λ h. NoneTaken h now) (sym was_is) (subst (NoneTaken a) (sym now_is) t)
+
+  pub one_taken_at : (item : Parcel) (backlog : ℕ) → OneTaken a b item backlog → OneTaken was now item backlog
+  one_taken_at item backlog t = subst (λ h. OneTaken h now item backlog) (sym was_is) (subst (λ h. OneTaken a h item backlog) (sym now_is) t)

@@ -1,6 +1,10 @@
 -- What was sent, step after step.
 use Rattle.std.proofs.Common.{◌≡◌, inl, inr, ℕ, ◌+◌, Bool, true, false, cond, List, [], ◌∷◌, ◌++◌, length, map, length-append, refl, sym, ap, subst, ◌∙◌, append_assoc, append-nil}
-use Rattle.std.specs.Prelude.{Option, Ok, Err}
+use Rattle.std.specs.Prelude.{All, Option, Ok, Err}
+use Rattle.std.proofs.lemmas.Grind.{flat_map-append}
+use Rattle.std.proofs.lemmas.List.Elements.{All-nil, All-append, All-weaker}
+use Rattle.turn_cell.specs.History.{StartsWith}
+use Rattle.subpartition.specs.declared.entry.SendEntry.{SendEntry}
 use Rattle.std.proofs.lemmas.Bool.{cases_eq}
 use Rattle.std.proofs.lemmas.List.{map-append, length-map}
 use Rattle.flow_defs.specs.declared.task.ChannelId.{ChannelId}
@@ -10,7 +14,7 @@ use Rattle.flow_defs.specs.Parcels.{has_end}
 use Rattle.credit_reader.specs.Senders.{is_same}
 use Rattle.reader_state.specs.declared.entry.ReaderEntry.{ReaderEntry}
 use Rattle.reader_state.specs.declared.entry.ReaderEntry.TheVariants.{Ready, Sent, Told, Asked, Granted, Resumed}
-use Rattle.reader_state.specs.Standing.{sent_on}
+use Rattle.reader_state.specs.Standing.{sent_on, told_last_from, told_last, announced_from, announced_on}
 use Rattle.net_frames.specs.Frames.{all_spelled}
 use Rattle.outside.specs.Faults.{HasRisen}
 use Rattle.outside.specs.Links.{Appended}
@@ -18,7 +22,8 @@ use Rattle.conn_parts.specs.Shares.{seen_at}
 use Rattle.conn_parts.specs.Writing.{AppendedFront}
 use Rattle.conn_parts.specs.Messages.{Message, is_from_sender, items_on, sequences_on, counted}
 use Rattle.conn_parts.proofs.Appends.{frames-append, from-append, spelled-append, items-append, sequences-append, counted-append}
-use Rattle.conn_send.specs.Fronts.{SendPass, taken_in, OthersStay}
+use Rattle.conn_send.specs.Fronts.{SendPass, taken_in, behind_in, NoneTaken, StoodIn, OthersStay}
+use Rattle.conn_send.specs.Items.{backlog_with, backlogs_on, announced_in, announcements_on}
 use Rattle.conn_send.specs.Sending.{kind_of}
 use Rattle.conn_send.specs.Steps.{Sends, Ends, Says, Lays, Writes}
 
@@ -36,6 +41,55 @@ sent_on-append c (Told d ∷ xs) ys = sent_on-append c xs ys
 sent_on-append c (Asked d n ∷ xs) ys = sent_on-append c xs ys
 sent_on-append c (Granted d n ∷ xs) ys = sent_on-append c xs ys
 sent_on-append c (Resumed d ∷ xs) ys = sent_on-append c xs ys
+
+pub told_from-append : (c : ChannelId) (n : ℕ) (xs ys : List ReaderEntry) → told_last_from c n (xs ++ ys) ≡ told_last_from c (told_last_from c n xs) ys
+told_from-append c n [] ys = refl
+told_from-append c n (Ready d head backlog ∷ xs) ys = told_from-append c (cond (is_same d c) backlog n) xs ys
+told_from-append c n (Sent d what head backlog ∷ xs) ys = told_from-append c (cond (is_same d c) backlog n) xs ys
+told_from-append c n (Told d ∷ xs) ys = told_from-append c n xs ys
+told_from-append c n (Asked d k ∷ xs) ys = told_from-append c n xs ys
+told_from-append c n (Granted d k ∷ xs) ys = told_from-append c n xs ys
+told_from-append c n (Resumed d ∷ xs) ys = told_from-append c n xs ys
+
+pub announced_from-append : (c : ChannelId) (n : ℕ) (xs ys : List ReaderEntry) → announced_from c n (xs ++ ys) ≡ announced_from c n xs ++ announced_from c (told_last_from c n xs) ys
+announced_from-append c n [] ys = refl
+announced_from-append c n (Ready d head backlog ∷ xs) ys = announced_from-append c (cond (is_same d c) backlog n) xs ys
+announced_from-append c n (Sent d what head backlog ∷ xs) ys = announced_from-append c (cond (is_same d c) backlog n) xs ys
+announced_from-append c n (Told d ∷ xs) ys =
+    elim (is_same d c) as (λ b. cond b (n ∷ announced_from c n (xs ++ ys)) (announced_from c n (xs ++ ys)) ≡ cond b (n ∷ announced_from c n xs) (announced_from c n xs) ++ announced_from c (told_last_from c n xs) ys) [
+      | true ↦ ap (λ l. n ∷ l) (announced_from-append c n xs ys)
+      | false ↦ announced_from-append c n xs ys
+    ]
+announced_from-append c n (Asked d k ∷ xs) ys = announced_from-append c n xs ys
+announced_from-append c n (Granted d k ∷ xs) ys = announced_from-append c n xs ys
+announced_from-append c n (Resumed d ∷ xs) ys = announced_from-append c n xs ys
+
+-- What one entry more tells.
+pub announced_more : (c : ChannelId) (own own_after : List ReaderEntry) (e : ReaderEntry) → own_after ≡ own ++ e ∷ [] → announced_on c own_after ≡ announced_on c own ++ announced_from c (told_last c own) (e ∷ [])
+announced_more c own own_after e is = ap (announced_on c) is ∙ announced_from-append c 0 own (e ∷ [])
+
+pub told_more : (c : ChannelId) (own own_after : List ReaderEntry) (e : ReaderEntry) → own_after ≡ own ++ e ∷ [] → told_last c own_after ≡ told_last_from c (told_last c own) (e ∷ [])
+told_more c own own_after e is = ap (told_last c) is ∙ told_from-append c 0 own (e ∷ [])
+
+-- ---- backlogs of messages
+
+pub backlogs-append : (c : ChannelId) (xs ys : List Message) → backlogs_on c (xs ++ ys) ≡ backlogs_on c xs ++ backlogs_on c ys
+backlogs-append c xs ys = flat_map-append (backlog_with c) xs ys
+
+pub announcements-append : (c : ChannelId) (xs ys : List Message) → announcements_on c (xs ++ ys) ≡ announcements_on c xs ++ announcements_on c ys
+announcements-append c xs ys = flat_map-append (announced_in c) xs ys
+
+-- ---- histories that grow
+
+pub grows_then : {X : Type 0} (a b c : List X) → StartsWith b a → StartsWith c b → StartsWith c a
+grows_then a b c first second = (first.0 ++ second.0, second.1 ∙ ap (λ l. l ++ second.0) first.1 ∙ append_assoc a first.0 second.0)
+
+pub grows_not : {X : Type 0} (a : List X) → StartsWith a a
+grows_not a = ([], sym (append-nil a))
+
+-- What stood there at a turn did so in a longer history.
+pub stood_more : (a b : List (ℕ × SendEntry)) → StartsWith b a → (n : ℕ) → StoodIn a n → StoodIn b n
+stood_more a b grows n stood = (stood.0, grows_then stood.0 a b stood.1 grows, stood.2)
 
 -- ---- ends
 
@@ -55,25 +109,40 @@ module _ (channels : List ChannelId) where
   -- ---- nothing was sent
 
   pub sends_quiet : (place : ℕ) (before after : List SendPass) (own own_after : List ReaderEntry) → OthersStay place before after →
-      taken_in (seen_at place after) ≡ taken_in (seen_at place before) → ((c : ChannelId) → sent_on c own_after ≡ sent_on c own) → Sends channels before after own own_after []
-  sends_quiet place before after own own_after others here told = record {
+      NoneTaken (seen_at place before) (seen_at place after) → ((c : ChannelId) → sent_on c own_after ≡ sent_on c own) → ((c : ChannelId) → announced_on c own_after ≡ announced_on c own) → Sends channels before after own own_after []
+  sends_quiet place before after own own_after others here told announced = record {
     took = λ k c at. elim (cases_eq k place) [
-      | inl is ↦ ap (λ j. taken_in (seen_at j after)) is ∙ here ∙ ap (λ j. taken_in (seen_at j before)) (sym is) ∙ sym (append-nil (taken_in (seen_at k before)))
+      | inl is ↦ ap (λ j. taken_in (seen_at j after)) is ∙ here.taken ∙ ap (λ j. taken_in (seen_at j before)) (sym is) ∙ sym (append-nil (taken_in (seen_at k before)))
       | inr ne ↦ ap taken_in (others k ne) ∙ sym (append-nil (taken_in (seen_at k before)))
     ];
     numbers = λ c. refl;
     told = λ c. told c ∙ sym (append-nil (sent_on c own));
+    grows = λ k. elim (cases_eq k place) [
+      | inl is ↦ subst (λ j. StartsWith (seen_at j after) (seen_at j before)) (sym is) here.grows
+      | inr ne ↦ subst (λ h. StartsWith h (seen_at k before)) (sym (others k ne)) (grows_not (seen_at k before))
+    ];
+    behind = λ k c at. elim (cases_eq k place) [
+      | inl is ↦ ap (λ j. behind_in (seen_at j after)) is ∙ here.behind ∙ ap (λ j. behind_in (seen_at j before)) (sym is) ∙ sym (append-nil (behind_in (seen_at k before)))
+      | inr ne ↦ ap behind_in (others k ne) ∙ sym (append-nil (behind_in (seen_at k before)))
+    ];
+    announced = λ c. announced c ∙ sym (append-nil (announced_on c own));
+    stood = λ k c at. All-nil (StoodIn (seen_at k after));
   }
 
-  pub sends_told : (passes : List SendPass) (own own_after : List ReaderEntry) → ((c : ChannelId) → sent_on c own_after ≡ sent_on c own) → Sends channels passes passes own own_after []
-  sends_told passes own own_after told = record {
+  pub sends_told : (passes : List SendPass) (own own_after : List ReaderEntry) → ((c : ChannelId) → sent_on c own_after ≡ sent_on c own) → ((c : ChannelId) → announced_on c own_after ≡ announced_on c own) →
+      Sends channels passes passes own own_after []
+  sends_told passes own own_after told announced = record {
     took = λ k c at. sym (append-nil (taken_in (seen_at k passes)));
     numbers = λ c. refl;
     told = λ c. told c ∙ sym (append-nil (sent_on c own));
+    grows = λ k. grows_not (seen_at k passes);
+    behind = λ k c at. sym (append-nil (behind_in (seen_at k passes)));
+    announced = λ c. announced c ∙ sym (append-nil (announced_on c own));
+    stood = λ k c at. All-nil (StoodIn (seen_at k passes));
   }
 
   pub sends_none : (passes : List SendPass) (own : List ReaderEntry) → Sends channels passes passes own own []
-  sends_none passes own = sends_told passes own own (λ c. refl)
+  sends_none passes own = sends_told passes own own (λ c. refl) (λ c. refl)
 
   -- ---- one step after another
 
@@ -89,6 +158,14 @@ module _ (channels : List ChannelId) where
         ∙ ap (counted (length (sent_on d l))) (sym (length-append (items_on d xs) (items_on d ys)) ∙ ap length (sym (items-append d xs ys)));
     told = λ d. q.told d ∙ ap (λ z. z ++ map kind_of (items_on d ys)) (p.told d) ∙ append_assoc (sent_on d l) (map kind_of (items_on d xs)) (map kind_of (items_on d ys))
         ∙ ap (λ z. sent_on d l ++ z) (sym (map-append kind_of (items_on d xs) (items_on d ys)) ∙ ap (map kind_of) (sym (items-append d xs ys)));
+    grows = λ k. grows_then (seen_at k a) (seen_at k b) (seen_at k c) (p.grows k) (q.grows k);
+    behind = λ k d at. q.behind k d at ∙ ap (λ z. z ++ backlogs_on d ys) (p.behind k d at) ∙ append_assoc (behind_in (seen_at k a)) (backlogs_on d xs) (backlogs_on d ys)
+        ∙ ap (λ z. behind_in (seen_at k a) ++ z) (sym (backlogs-append d xs ys));
+    announced = λ d. q.announced d ∙ ap (λ z. z ++ announcements_on d ys) (p.announced d) ∙ append_assoc (announced_on d l) (announcements_on d xs) (announcements_on d ys)
+        ∙ ap (λ z. announced_on d l ++ z) (sym (announcements-append d xs ys));
+    stood = λ k d at. subst (All (StoodIn (seen_at k c))) (sym (announcements-append d xs ys))
+        (All-append (StoodIn (seen_at k c)) (announcements_on d xs) (announcements_on d ys)
+        (All-weaker (StoodIn (seen_at k b)) (StoodIn (seen_at k c)) (stood_more (seen_at k b) (seen_at k c) (q.grows k)) (announcements_on d xs) (p.stood k d at)) (q.stood k d at));
   }
 
   pub ends_none : (flags : List Bool) → Ends channels flags flags []

@@ -1,6 +1,6 @@
 -- One item that is taken and sent, and one backlog that is announced.
 use Rattle.std.proofs.Common.{◌≡◌, ◌≢◌, inl, inr, ℕ, ◌%◌, ◌^◌, Bool, true, false, cond, List, [], ◌∷◌, ◌++◌, length, map, set, zero, suc, refl, sym, ap, subst, ◌∙◌, append-nil}
-use Rattle.std.specs.Prelude.{slice_get, Option, Some, None, option_to_list}
+use Rattle.std.specs.Prelude.{slice_get, All, Option, Some, None, option_to_list}
 use Rattle.std.specs.Option.{option_map}
 use Rattle.std.proofs.lemmas.Bool.{cases_eq}
 use Rattle.flow_defs.specs.declared.task.ChannelId.{ChannelId}
@@ -17,15 +17,17 @@ use Rattle.subpartition.specs.declared.item.Item.TheVariants.{Buffer, Barrier, E
 use Rattle.subpartition.specs.Queues.{parcel_of}
 use Rattle.reader_state.specs.declared.entry.ReaderEntry.{ReaderEntry}
 use Rattle.reader_state.specs.declared.entry.ReaderEntry.TheVariants.{Sent, Told}
-use Rattle.reader_state.specs.Standing.{sent_on}
+use Rattle.reader_state.specs.Standing.{sent_on, told_last, announced_from, announced_on}
+use Rattle.turn_cell.specs.History.{StartsWith}
+use Rattle.std.proofs.lemmas.List.Elements.{All-nil, All-cons}
 use Rattle.conn_parts.specs.Shares.{seen_at}
 use Rattle.conn_parts.specs.Messages.{parcel_with, items_on, sequences_on, counted}
-use Rattle.conn_send.specs.Fronts.{SendPass, taken_in, OthersStay}
-use Rattle.conn_send.specs.Items.{arrival_of, content_of, response, announcement}
+use Rattle.conn_send.specs.Fronts.{SendPass, taken_in, backlog_after, behind_in, OneTaken, StoodIn, OthersStay}
+use Rattle.conn_send.specs.Items.{arrival_of, content_of, response, announcement, backlogs_on, announcements_on}
 use Rattle.conn_send.specs.Sending.{kind_of}
 use Rattle.conn_send.specs.Steps.{Sends, Ends, EndsWith, Lays}
 use Rattle.conn_send.proofs.Standing.{is_same_self, same_channel, apart_at, one_at}
-use Rattle.conn_send.proofs.Saying.{sent_on-append}
+use Rattle.conn_send.proofs.Saying.{sent_on-append, announced_more, grows_not}
 
 -- ---- what a response brings
 
@@ -50,20 +52,26 @@ module _ (d c : ChannelId) (s b : ℕ) (item : Item) where
         | false ↦ refl
       ]
 
+  pub one_backlog : backlogs_on d (response c s b item ∷ []) ≡ cond (is_same c d) (b ∷ []) []
+  one_backlog = elim (is_same c d) as (λ q. cond q (b ∷ []) [] ++ [] ≡ cond q (b ∷ []) []) [
+    | true ↦ refl
+    | false ↦ refl
+  ]
+
 is_same_of : (c d : ChannelId) → c ≡ d → is_same c d ≡ true
 is_same_of c d is = subst (λ e. is_same c e ≡ true) is (is_same_self c)
 
 -- An item was taken at a place, and its response has the next sequence number.
 module _ (channels : List ChannelId) (distinct : AreDistinct channels) (place : ℕ) (c : ChannelId) (is_there : slice_get channels place ≡ Some c) where
   pub sends_one : (before after : List SendPass) (own own_after : List ReaderEntry) (s b left : ℕ) (head : Head) (what : SentKind) (item : Item) → OthersStay place before after →
-      taken_in (seen_at place after) ≡ taken_in (seen_at place before) ++ parcel_of item ∷ [] → what ≡ kind_of (parcel_of item) → own_after ≡ own ++ Sent c what head left ∷ [] →
+      OneTaken (seen_at place before) (seen_at place after) (parcel_of item) b → what ≡ kind_of (parcel_of item) → own_after ≡ own ++ Sent c what head left ∷ [] →
       s ≡ length (sent_on c own) % 2 ^ 32 → Sends channels before after own own_after (response c s b item ∷ [])
   sends_one before after own own_after s b left head what item others took kind told number = record {
     took = λ k d at. elim (cases_eq k place) [
       | inl is ↦
           let same : c ≡ d = one_at channels place c d is_there (ap (slice_get channels) (sym is) ∙ at) in
           let brings : items_on d (response c s b item ∷ []) ≡ parcel_of item ∷ [] = one_item d c s b item ∙ ap (λ q. cond q (parcel_of item ∷ []) []) (is_same_of c d same) in
-          ap (λ j. taken_in (seen_at j after)) is ∙ took ∙ ap (λ j. taken_in (seen_at j before) ++ parcel_of item ∷ []) (sym is) ∙ ap (λ l. taken_in (seen_at k before) ++ l) (sym brings)
+          ap (λ j. taken_in (seen_at j after)) is ∙ took.taken ∙ ap (λ j. taken_in (seen_at j before) ++ parcel_of item ∷ []) (sym is) ∙ ap (λ l. taken_in (seen_at k before) ++ l) (sym brings)
       | inr ne ↦
           let brings : items_on d (response c s b item ∷ []) ≡ [] =
           one_item d c s b item ∙ ap (λ q. cond q (parcel_of item ∷ []) []) (apart_at channels distinct place k c d is_there at (λ is. ne (sym is))) in
@@ -81,6 +89,22 @@ module _ (channels : List ChannelId) (distinct : AreDistinct channels) (place : 
           | true ↦ ap (λ w. w ∷ []) kind
           | false ↦ refl
         ]) ∙ ap (map kind_of) (sym (one_item d c s b item)));
+    grows = λ k. elim (cases_eq k place) [
+      | inl is ↦ subst (λ j. StartsWith (seen_at j after) (seen_at j before)) (sym is) took.grows
+      | inr ne ↦ subst (λ h. StartsWith h (seen_at k before)) (sym (others k ne)) (grows_not (seen_at k before))
+    ];
+    behind = λ k d at. elim (cases_eq k place) [
+      | inl is ↦
+          let same : c ≡ d = one_at channels place c d is_there (ap (slice_get channels) (sym is) ∙ at) in
+          let brings : backlogs_on d (response c s b item ∷ []) ≡ b ∷ [] = one_backlog d c s b item ∙ ap (λ q. cond q (b ∷ []) []) (is_same_of c d same) in
+          ap (λ j. behind_in (seen_at j after)) is ∙ took.behind ∙ ap (λ j. behind_in (seen_at j before) ++ b ∷ []) (sym is) ∙ ap (λ l. behind_in (seen_at k before) ++ l) (sym brings)
+      | inr ne ↦
+          let brings : backlogs_on d (response c s b item ∷ []) ≡ [] =
+          one_backlog d c s b item ∙ ap (λ q. cond q (b ∷ []) []) (apart_at channels distinct place k c d is_there at (λ is. ne (sym is))) in
+          ap behind_in (others k ne) ∙ sym (append-nil (behind_in (seen_at k before))) ∙ ap (λ l. behind_in (seen_at k before) ++ l) (sym brings)
+    ];
+    announced = λ d. announced_more d own own_after (Sent c what head left) told;
+    stood = λ k d at. All-nil (StoodIn (seen_at k after));
   }
 
 -- ---- flags
@@ -124,9 +148,10 @@ lays_one channels before after passes own own_after entries flags now out out_af
 
 -- An announcement was laid down. It brings no item.
 pub lays_told : (channels : List ChannelId) (passes : List SendPass) (own own_after : List ReaderEntry) (flags : List Bool) (out out_after : List ℕ) (c : ChannelId) (b : ℕ) →
-    ((d : ChannelId) → sent_on d own_after ≡ sent_on d own) → IsFrame (announcement c b).0 (announcement c b).1 → out_after ≡ out ++ spelling (announcement c b).0 (announcement c b).1 →
+    ((d : ChannelId) → sent_on d own_after ≡ sent_on d own) → own_after ≡ own ++ Told c ∷ [] → told_last c own ≡ b →
+    ((k : ℕ) (d : ChannelId) → slice_get channels k ≡ Some d → told_last d own ≡ backlog_after (seen_at k passes)) → IsFrame (announcement c b).0 (announcement c b).1 → out_after ≡ out ++ spelling (announcement c b).0 (announcement c b).1 →
     Lays channels passes passes own own_after flags flags out out_after
-lays_told channels passes own own_after flags out out_after c b told frame laid = record {
+lays_told channels passes own own_after flags out out_after c b told own_is told_is stands frame laid = record {
   added = announcement c b ∷ [];
   says = record {
     frames = (frame, tt);
@@ -135,13 +160,34 @@ lays_told channels passes own own_after flags out out_after c b told frame laid 
       took = λ k d at. sym (append-nil (taken_in (seen_at k passes)));
       numbers = λ d. refl;
       told = λ d. told d ∙ sym (append-nil (sent_on d own));
+      grows = λ k. grows_not (seen_at k passes);
+      behind = λ k d at. sym (append-nil (behind_in (seen_at k passes)));
+      announced = λ d. announced_more d own own_after (Told c) own_is ∙ ap (λ l. announced_on d own ++ l) (tells d);
+      stood = λ k d at. elim (is_same c d) as (λ q. is_same c d ≡ q → All (StoodIn (seen_at k passes)) (cond q (b ∷ []) [] ++ [])) [
+        | true ↦ λ same. All-cons (StoodIn (seen_at k passes)) b []
+            (seen_at k passes, grows_not (seen_at k passes), sym (stands k d at) ∙ ap (λ e. told_last e own) (sym (same_channel c d same)) ∙ told_is) (All-nil (StoodIn (seen_at k passes)))
+        | false ↦ λ other. All-nil (StoodIn (seen_at k passes))
+      ] refl;
     };
     ends = λ k d at raised. inl raised;
   };
   laid = laid ∙ ap (λ l. out ++ l) (sym (append-nil (spelling (announcement c b).0 (announcement c b).1)));
 }
+  where
+    tells : (d : ChannelId) → announced_from d (told_last d own) (Told c ∷ []) ≡ announcements_on d (announcement c b ∷ [])
+    tells d = elim (is_same c d) as (λ q. is_same c d ≡ q → cond q (told_last d own ∷ []) [] ≡ cond q (b ∷ []) [] ++ []) [
+      | true ↦ λ same. ap (λ n. n ∷ []) (ap (λ e. told_last e own) (sym (same_channel c d same)) ∙ told_is)
+      | false ↦ λ other. refl
+    ] refl
 
 -- An announcement tells the readers of no item.
 pub announced_quiet : (own own_after : List ReaderEntry) (told : Option Announced) → own_after ≡ own ++ option_to_list (option_map (λ (t : Announced). Told t.channel) told) → (d : ChannelId) → sent_on d own_after ≡ sent_on d own
 announced_quiet own own_after None is d = ap (sent_on d) (is ∙ append-nil own)
 announced_quiet own own_after (Some t) is d = ap (sent_on d) is ∙ sent_on-append d own (Told t.channel ∷ []) ∙ append-nil (sent_on d own)
+
+-- Where nothing is due nothing is announced.
+pub announced_none : (own own_after : List ReaderEntry) (told : Option Announced) → told ≡ None → own_after ≡ own ++ option_to_list (option_map (λ (t : Announced). Told t.channel) told) → own_after ≡ own
+announced_none own own_after told none is = is ∙ ap (λ (o : Option Announced). own ++ option_to_list (option_map (λ (t : Announced). Told t.channel) o)) none ∙ append-nil own
+
+pub announced_one : (own own_after : List ReaderEntry) (told : Option Announced) (t : Announced) → told ≡ Some t → own_after ≡ own ++ option_to_list (option_map (λ (t : Announced). Told t.channel) told) → own_after ≡ own ++ Told t.channel ∷ []
+announced_one own own_after told t one is = is ∙ ap (λ (o : Option Announced). own ++ option_to_list (option_map (λ (t : Announced). Told t.channel) o)) one

@@ -1,18 +1,19 @@
 -- What stands first on a channel, as the loop that writes items sees it between its turns. Heads and backlog are those of Flink's
 -- network stack; that the readers are told of them in turns of their own is this project's own choice.
-use Rattle.std.specs.Prelude.{◌≡◌, ◌≢◌, ℕ, List, [], ◌∷◌, slice_get, Some}
+use Rattle.std.specs.Prelude.{◌≡◌, ◌≢◌, ℕ, suc, List, [], ◌∷◌, ◌++◌, slice_get, All, Some}
 use Rattle.turn_cell.specs.declared.cell.TurnCell.{TurnCell}
 use Rattle.turn_cell.specs.declared.pass.Pass.{Pass}
-use Rattle.turn_cell.specs.History.{entries_of}
-use Rattle.turn_cell.specs.Passes.{IsPassOf, number}
+use Rattle.turn_cell.specs.History.{entries_of, StartsWith}
+use Rattle.turn_cell.specs.Passes.{IsPassOf, opened_with, number}
 use Rattle.flow_defs.specs.declared.task.ChannelId.{ChannelId}
 use Rattle.flow_defs.specs.declared.task.Head.{Head}
 use Rattle.flow_defs.specs.declared.task.Head.TheVariants.{Nothing, Buffer, Event}
 use Rattle.flow_defs.specs.declared.parcel.Parcel.{Parcel}
 use Rattle.flow_defs.specs.declared.parcel.Parcel.TheVariants.{Data, Barrier, End}
 use Rattle.subpartition.specs.declared.entry.SendEntry.{SendEntry}
+use Rattle.subpartition.specs.declared.entry.SendEntry.TheVariants.{Put, PutInline, Finish, Take, Size}
 use Rattle.subpartition.specs.Queues.{Queue}
-use Rattle.subpartition.specs.Sending.{outbox, taken}
+use Rattle.subpartition.specs.Sending.{Outbox, sent_one, outbox, taken}
 use Rattle.reader_state.specs.declared.entry.ReaderEntry.{ReaderEntry}
 use Rattle.reader_state.specs.Turning.{head_told}
 use Rattle.conn_parts.specs.Shares.{seen_at}
@@ -22,6 +23,10 @@ SendCell = TurnCell Queue SendEntry ℕ
 
 abbrev pub SendPass : Type 0
 SendPass = Pass Queue SendEntry ℕ
+
+-- The segments of each have this size.
+abbrev pub HaveQueueSize : ℕ → List SendCell → Type 0
+HaveQueueSize size cells = All (λ (cell : SendCell). (opened_with cell).size ≡ size) cells
 
 -- It is a pass of this cell, that of the sender.
 abbrev pub IsSender : SendCell → SendPass → Type 0
@@ -33,6 +38,56 @@ taken_in history = taken (entries_of history)
 
 abbrev pub left_after : List (ℕ × SendEntry) → List Parcel
 left_after history = (outbox (entries_of history)).items
+
+-- The backlog of these parcels: the number of data among them.
+abbrev pub backlog_of : List Parcel → ℕ
+backlog_of [] = 0
+backlog_of (Data bytes ∷ ps) = suc (backlog_of ps)
+backlog_of (Barrier k kind ∷ ps) = backlog_of ps
+backlog_of (End ∷ ps) = backlog_of ps
+
+-- The backlog of what is left after a history.
+abbrev pub backlog_after : List (ℕ × SendEntry) → ℕ
+backlog_after history = backlog_of (left_after history)
+
+-- The backlog behind the first of these.
+abbrev pub behind_first : List Parcel → List ℕ
+behind_first [] = []
+behind_first (p ∷ ps) = backlog_of ps ∷ []
+
+abbrev pub behind_one : Outbox → SendEntry → List ℕ
+behind_one o (Put bytes) = []
+behind_one o (PutInline k) = []
+behind_one o Finish = []
+behind_one o Take = behind_first o.items
+behind_one o (Size n) = []
+
+-- The backlog behind each item as it is taken, in order.
+abbrev pub behind_from : Outbox → List SendEntry → List ℕ
+behind_from o [] = []
+behind_from o (e ∷ es) = behind_one o e ++ behind_from (sent_one o e) es
+
+abbrev pub behind_taken : List SendEntry → List ℕ
+behind_taken es = behind_from (record { taken = []; items = [] }) es
+
+abbrev pub behind_in : List (ℕ × SendEntry) → List ℕ
+behind_in history = behind_taken (entries_of history)
+
+-- Nothing was taken between two turns.
+pub record NoneTaken (before now : List (ℕ × SendEntry)) : Type 0 where
+  pub grows : StartsWith now before
+  pub taken : taken_in now ≡ taken_in before
+  pub behind : behind_in now ≡ behind_in before
+
+-- One item was taken, with this backlog behind it.
+pub record OneTaken (before now : List (ℕ × SendEntry)) (item : Parcel) (backlog : ℕ) : Type 0 where
+  pub grows : StartsWith now before
+  pub taken : taken_in now ≡ taken_in before ++ item ∷ []
+  pub behind : behind_in now ≡ behind_in before ++ backlog ∷ []
+
+-- So many data stood there at a turn of this history.
+abbrev pub StoodIn : List (ℕ × SendEntry) → ℕ → Type 0
+StoodIn history backlog = (then : List (ℕ × SendEntry)) × StartsWith history then × (backlog_after then ≡ backlog)
 
 -- The head of these parcels.
 abbrev pub first_of : List Parcel → Head

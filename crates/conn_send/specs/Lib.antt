@@ -1,4 +1,5 @@
 pub mod Sending
+pub mod Giving
 pub mod Fronts
 pub mod Items
 pub mod Steps

@@ -1,6 +1,6 @@
 -- What the loop that writes items did. The loop is this project's own choice; what it writes is that of Flink's credit-based flow
 -- control: items with sequence numbers and backlog, and announcements of backlog.
-use Rattle.std.specs.Prelude.{◌≡◌, ℕ, ◌<◌, true, List, [], ◌++◌, length, map, slice_get, All, Option, Some}
+use Rattle.std.specs.Prelude.{◌≡◌, ◌≢◌, ℕ, ◌<◌, true, List, [], ◌++◌, length, map, slice_get, All, Option, Some}
 use Rattle.std.specs.Option.{option_map_or}
 use Rattle.turn_cell.specs.History.{entries_of}
 use Rattle.turn_cell.specs.Passes.{IsPassOf, mine}
@@ -16,13 +16,15 @@ use Rattle.credit_reader.specs.declared.reader.SentKind.{SentKind}
 use Rattle.credit_reader.specs.declared.reader.SentKind.TheVariants as kinds
 use Rattle.subpartition.specs.Sending.{taken}
 use Rattle.reader_state.specs.declared.entry.ReaderEntry.{ReaderEntry}
-use Rattle.reader_state.specs.Standing.{sent_on}
+use Rattle.reader_state.specs.Standing.{sent_on, told_last, announced_on}
 use Rattle.reader_state.specs.Turning.{ReaderPass, channels_in, IsReaderPass}
 use Rattle.conn_parts.specs.declared.share.ConnShare.{ConnShare}
 use Rattle.conn_parts.specs.declared.share.SharePasses.{SharePasses}
 use Rattle.conn_parts.specs.Shares.{AreOf, AreOwn, seen_at, HavePoolSize}
 use Rattle.conn_parts.specs.Messages.{Message, is_from_sender, items_on, sequences_on, counted}
 use Rattle.conn_parts.specs.Writing.{Wrote}
+use Rattle.conn_send.specs.Fronts.{HaveQueueSize, backlog_after, behind_in, StoodIn}
+use Rattle.conn_send.specs.Items.{backlogs_on, announcements_on}
 
 -- What the loop is lent: passes of the cells that it enters, with the numbers of a writer of items, of which that of the readers has
 -- made no entry.
@@ -35,6 +37,7 @@ pub record MaySendItems (share : ConnShare) : Type 0 where
   pub reader_is : IsReaderPass share.readers.now 0 reader_pass
   pub new : mine reader_pass ≡ []
   pub subpartitions : AreOwn 1 share.subpartitions.now share.passes.subpartitions.items
+  pub queue_sizes : HaveQueueSize share.size share.subpartitions.now
   pub pools : AreOf share.pools.now share.passes.pools.items
   pub sizes : HavePoolSize share.size share.pools.now
   pub senders : All (λ c. c.from < length share.pools.now) share.channels.now
@@ -68,6 +71,16 @@ IsSendCause causes.Link = Unit {0}
 IsSendCause causes.Memory = Unit {0}
 IsSendCause other = ⊥
 
+-- The backlog in the frame of an item is that of what was left behind it in the turn in which it was taken. One that is announced is
+-- what the readers were told last, and stood there at a turn of the loop's. In the end what they were told last of a channel is what the
+-- loop saw there last, where it had the memory to begin.
+pub record BacklogsAreTold (channels : List ChannelId) (before after : SharePasses) (messages : List Message) (cause : Cause) : Type 0 where
+  pub behind : (k : ℕ) (c : ChannelId) → slice_get channels k ≡ Some c →
+      behind_in (seen_at k after.subpartitions.items) ≡ behind_in (seen_at k before.subpartitions.items) ++ backlogs_on c messages
+  pub announced : (c : ChannelId) → announced_on c (told_readers after) ≡ announcements_on c messages
+  pub stood : (k : ℕ) (c : ChannelId) → slice_get channels k ≡ Some c → All (StoodIn (seen_at k after.subpartitions.items)) (announcements_on c messages)
+  pub last : cause ≢ causes.Memory → (k : ℕ) (c : ChannelId) → slice_get channels k ≡ Some c → told_last c (told_readers after) ≡ backlog_after (seen_at k after.subpartitions.items)
+
 -- The messages are the items that it took, channel by channel, with their sequence numbers, and announcements; the readers were told
 -- of each item. Where it is done the end of each channel is among them.
 pub record SentItems (channels : List ChannelId) (before after : SharePasses) (messages : List Message) (cause : Cause) : Type 0 where
@@ -75,6 +88,7 @@ pub record SentItems (channels : List ChannelId) (before after : SharePasses) (m
       taken (entries_of (seen_at k after.subpartitions.items)) ≡ taken (entries_of (seen_at k before.subpartitions.items)) ++ items_on c messages
   pub numbers : (c : ChannelId) → sequences_on c messages ≡ counted 0 (length (items_on c messages))
   pub told : (c : ChannelId) → sent_on c (told_readers after) ≡ map kind_of (items_on c messages)
+  pub backlogs : BacklogsAreTold channels before after messages cause
   pub ends : cause ≡ causes.Done → (k : ℕ) (c : ChannelId) → slice_get channels k ≡ Some c → has_end (items_on c messages) ≡ true
 
 -- What the loop took, and what it wrote.

@@ -1,6 +1,7 @@
 -- What the steps of the loop that writes items do. The loop is this project's own choice.
 use Rattle.std.specs.Prelude.{◌≡◌, ◌≢◌, ◌⊎◌, ℕ, ◌<◌, Bool, true, List, [], ◌++◌, length, map, slice_get, slice_set as set, All, Option, Some, Result}
-use Rattle.turn_cell.specs.Passes.{IsPassOf, IsSamePass, seen}
+use Rattle.turn_cell.specs.History.{StartsWith}
+use Rattle.turn_cell.specs.Passes.{IsPassOf, IsSamePass, mine, seen}
 use Rattle.flow_defs.specs.declared.task.ChannelId.{ChannelId}
 use Rattle.flow_defs.specs.Parcels.{has_end}
 use Rattle.flow_defs.specs.declared.cause.Cause.{Cause}
@@ -12,15 +13,17 @@ use Rattle.subpartition.specs.declared.item.Item.TheVariants.{Buffer, Barrier, E
 use Rattle.outside.specs.Faults.{HasRisen}
 use Rattle.outside.specs.Links.{Appended}
 use Rattle.reader_state.specs.declared.entry.ReaderEntry.{ReaderEntry}
-use Rattle.reader_state.specs.Standing.{sent_on}
+use Rattle.reader_state.specs.Standing.{sent_on, told_last, announced_on}
 use Rattle.reader_state.specs.Turning.{channels_in, IsReaderPass}
 use Rattle.conn_parts.specs.Shares.{AreOf, AreOwn, seen_at, HavePoolSize}
 use Rattle.conn_parts.specs.Messages.{Message, AreFrom, is_from_sender, items_on, sequences_on, counted, closing}
 use Rattle.conn_parts.specs.Stopping.{StopCell, StopPass}
 use Rattle.conn_parts.specs.Writing.{AppendedFront, WrittenWhole}
+use Rattle.conn_send.specs.declared.cells.Front.{Front}
 use Rattle.conn_send.specs.declared.cells.SendCells.{SendCells}
 use Rattle.conn_send.specs.declared.cells.SendPasses.{SendPasses}
-use Rattle.conn_send.specs.Fronts.{SendPass, taken_in, StandsAt}
+use Rattle.conn_send.specs.Fronts.{SendPass, HaveQueueSize, taken_in, backlog_after, behind_in, StoodIn, StandsAt}
+use Rattle.conn_send.specs.Items.{backlogs_on, announcements_on}
 use Rattle.conn_send.specs.Sending.{kind_of, IsSendCause}
 
 -- ---- what a loop is lent
@@ -32,6 +35,7 @@ pub record AreCells (cells : SendCells) : Type 0 where
   pub places : length cells.subpartitions.now ≡ length cells.channels.now
   pub sizes : HavePoolSize cells.size cells.pools.now
   pub senders : All (λ c. c.from < length cells.pools.now) cells.channels.now
+  pub queue_sizes : HaveQueueSize cells.size cells.subpartitions.now
 
 -- Passes of them, with the numbers of a writer of items.
 pub record HasPasses (cells : SendCells) (passes : SendPasses) : Type 0 where
@@ -48,6 +52,24 @@ abbrev pub KeepsStanding : SendCells → SendPasses → SendPasses → Type 0
 KeepsStanding cells before now = (k : ℕ) → StandsAt cells.channels.now (seen before.readers) before.subpartitions.items k →
     StandsAt cells.channels.now (seen now.readers) now.subpartitions.items k
 
+-- The reader of the channel at a place was told this backlog last, and just that stands there.
+abbrev pub BacklogAt : List ChannelId → List ReaderEntry → List SendPass → ℕ → ℕ → Type 0
+BacklogAt channels own passes k backlog = ((c : ChannelId) → slice_get channels k ≡ Some c → told_last c own ≡ backlog) × (backlog_after (seen_at k passes) ≡ backlog)
+
+-- So it is at a place with a front, and at the others as it was.
+pub record TellsBacklog (cells : SendCells) (before now : SendPasses) (place : ℕ) (front : Front) : Type 0 where
+  pub here : BacklogAt cells.channels.now (mine now.readers) now.subpartitions.items place front.backlog
+  pub others : (k n : ℕ) → k ≢ place → BacklogAt cells.channels.now (mine before.readers) before.subpartitions.items k n → BacklogAt cells.channels.now (mine now.readers) now.subpartitions.items k n
+
+-- At all places it is as it was.
+abbrev pub KeepsBacklogs : SendCells → SendPasses → SendPasses → Type 0
+KeepsBacklogs cells before now = (k n : ℕ) → BacklogAt cells.channels.now (mine before.readers) before.subpartitions.items k n → BacklogAt cells.channels.now (mine now.readers) now.subpartitions.items k n
+
+-- So it is at each place with the front that the loop noted there.
+pub record AreNoted (cells : SendCells) (passes : SendPasses) (fronts : List Front) : Type 0 where
+  pub many : length fronts ≡ length cells.channels.now
+  pub each : (k : ℕ) (front : Front) → slice_get fronts k ≡ Some front → BacklogAt cells.channels.now (mine passes.readers) passes.subpartitions.items k front.backlog
+
 -- The flag of a place is raised where the item is the end.
 abbrev pub EndsWith : ℕ → Item → List Bool → List Bool → Type 0
 EndsWith place (Buffer filled) flags now = now ≡ flags
@@ -62,11 +84,16 @@ WrittenUntil old new fell rose bytes other = Appended old new bytes
 -- ---- what a step does
 
 module _ (channels : List ChannelId) where
-  -- The messages bring the items that were taken, with the next sequence numbers, and the readers were told of each.
+  -- The messages bring the items that were taken, with the next sequence numbers and the backlog behind each, and the readers were told
+  -- of each. What is announced is what the readers were told last, and stood there at a turn.
   pub record Sends (before after : List SendPass) (own own_after : List ReaderEntry) (added : List Message) : Type 0 where
     pub took : (k : ℕ) (c : ChannelId) → slice_get channels k ≡ Some c → taken_in (seen_at k after) ≡ taken_in (seen_at k before) ++ items_on c added
     pub numbers : (c : ChannelId) → sequences_on c added ≡ counted (length (sent_on c own)) (length (items_on c added))
     pub told : (c : ChannelId) → sent_on c own_after ≡ sent_on c own ++ map kind_of (items_on c added)
+    pub grows : (k : ℕ) → StartsWith (seen_at k after) (seen_at k before)
+    pub behind : (k : ℕ) (c : ChannelId) → slice_get channels k ≡ Some c → behind_in (seen_at k after) ≡ behind_in (seen_at k before) ++ backlogs_on c added
+    pub announced : (c : ChannelId) → announced_on c own_after ≡ announced_on c own ++ announcements_on c added
+    pub stood : (k : ℕ) (c : ChannelId) → slice_get channels k ≡ Some c → All (StoodIn (seen_at k after)) (announcements_on c added)
 
   -- Where a flag was raised, the end of that channel is among them.
   abbrev pub Ends : List Bool → List Bool → List Message → Type 0
@@ -116,6 +143,7 @@ pub record SendsUntil (channels : List ChannelId) (before after : List SendPass)
   pub sends : Sends channels before after [] own_after added
   pub written : WrittenUntil old new fell rose (all_spelled added) cause
   pub ends : cause ≡ causes.Done → (k : ℕ) (c : ChannelId) → slice_get channels k ≡ Some c → has_end (items_on c added) ≡ true
+  pub last : cause ≢ causes.Memory → (k : ℕ) (c : ChannelId) → slice_get channels k ≡ Some c → told_last c own_after ≡ backlog_after (seen_at k after)
   pub cause_is : IsSendCause cause
 
 -- ---- how a loop ends

@@ -2,7 +2,8 @@
 ghost use Rattle.std.specs.Prelude.{◌≡◌, ◌≤◌, [], length};
 ghost use Rattle.turn_cell.specs.Passes.{mine};
 ghost use Rattle.outside.specs.Links.{IsUnfinished};
-ghost use Rattle.conn_send.specs.Steps.{AreCells, HasPasses, AllStand, Lays, Writes};
+ghost use Rattle.conn_send.specs.Giving.{Gives};
+ghost use Rattle.conn_send.specs.Steps.{AreCells, HasPasses, AllStand, AreNoted, Lays, Writes};
 
 use crate::announce::announce_one;
 use crate::cells::{SendCells, SendPasses};
@@ -24,11 +25,12 @@ fn lay_items<'p, R: Wait>(
     requires passes { HasPasses cells.now passes.old }
     requires stand { AllStand cells.now passes.old }
     requires ended { length room.old.ended.items ≡ length cells.now.channels.now }
-    requires told { length room.old.told.items ≡ length cells.now.channels.now }
+    requires told { AreNoted cells.now passes.old room.old.told.items }
     ensures passes { HasPasses cells.now passes.new }
     ensures stand { AllStand cells.now passes.new }
     ensures ended { length room.new.ended.items ≡ length cells.now.channels.now }
-    ensures told { length room.new.told.items ≡ length cells.now.channels.now }
+    ensures told { AreNoted cells.now passes.new room.new.told.items }
+    ensures gives { Gives cells.now.channels.now passes.old passes.new }
     ensures lays { Lays cells.now.channels.now passes.old.subpartitions.items passes.new.subpartitions.items (mine passes.old.readers) (mine passes.new.readers) room.old.ended.items room.new.ended.items room.old.outgoing room.new.outgoing }
 {
     let mut some = false;
@@ -51,10 +53,12 @@ fn lay_announcements<R: Wait>(
     requires cells { AreCells cells.now }
     requires passes { HasPasses cells.now passes.old }
     requires stand { AllStand cells.now passes.old }
+    requires told { AreNoted cells.now passes.old room.old.told.items }
     ensures passes { HasPasses cells.now passes.new }
     ensures stand { AllStand cells.now passes.new }
     ensures ended { room.new.ended ≡ room.old.ended }
-    ensures told { room.new.told ≡ room.old.told }
+    ensures told { AreNoted cells.now passes.new room.new.told.items }
+    ensures kept { (passes.new.subpartitions ≡ passes.old.subpartitions) × (passes.new.pools ≡ passes.old.pools) }
     ensures lays { Lays cells.now.channels.now passes.old.subpartitions.items passes.new.subpartitions.items (mine passes.old.readers) (mine passes.new.readers) room.old.ended.items room.new.ended.items room.old.outgoing room.new.outgoing }
 {
     let mut some = false;
@@ -79,18 +83,19 @@ pub fn round<'p, O: LinkOut, R: Wait>(
     requires cells { AreCells cells.now }
     requires passes { HasPasses cells.now passes.old }
     requires stand { AllStand cells.now passes.old }
-    requires told { length room.old.told.items ≡ length cells.now.channels.now }
+    requires told { AreNoted cells.now passes.old room.old.told.items }
     requires ended { length room.old.ended.items ≡ length cells.now.channels.now }
     requires empty { room.old.outgoing ≡ [] }
     requires unfinished { IsUnfinished (O.finished out.old) }
     ensures passes { HasPasses cells.now passes.new }
     ensures stand { AllStand cells.now passes.new }
-    ensures told { length room.new.told.items ≡ length cells.now.channels.now }
+    ensures told { AreNoted cells.now passes.new room.new.told.items }
     ensures ended { length room.new.ended.items ≡ length cells.now.channels.now }
     ensures empty { room.new.outgoing ≡ [] }
     ensures unfinished { O.finished out.new ≡ O.finished out.old }
     ensures line { O.line out.new ≡ O.line out.old }
     ensures never_falls { O.faults out.old ≤ O.faults out.new }
+    ensures gives { Gives cells.now.channels.now passes.old passes.new }
     ensures writes { Writes cells.now.channels.now passes.old.subpartitions.items passes.new.subpartitions.items (mine passes.old.readers) (mine passes.new.readers) room.old.ended.items room.new.ended.items (O.sent out.old) (O.sent out.new) (O.faults out.old) (O.faults out.new) result }
 {
     tell_new_fronts(rt, cells, passes, &mut room.told);

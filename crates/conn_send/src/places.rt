@@ -1,10 +1,10 @@
 // Turns at the subpartition of a place.
-ghost use Rattle.std.specs.Prelude.{◌≡◌, ◌≢◌, ◌≤◌, ◌<◌, ◌++◌, ◌∷◌, [], length};
+ghost use Rattle.std.specs.Prelude.{◌≡◌, ◌≢◌, ◌≤◌, ◌<◌, ◌∷◌, [], length, ℕ};
 ghost use Rattle.flow_defs.specs.declared.task.Head.TheVariants.{Nothing};
-ghost use Rattle.credit_reader.specs.declared.reader.TheConstants.{CREDIT_MAX};
-ghost use Rattle.subpartition.specs.Queues.{head_of, parcel_of};
+ghost use Rattle.flow_defs.specs.Limits.{credit_max};
+ghost use Rattle.subpartition.specs.Queues.{HasLength, head_of, parcel_of};
 ghost use Rattle.conn_parts.specs.Shares.{AreOwn, seen_at};
-ghost use Rattle.conn_send.specs.Fronts.{taken_in, front_after, FrontStays, OthersStay};
+ghost use Rattle.conn_send.specs.Fronts.{HaveQueueSize, NoneTaken, OneTaken, front_after, backlog_after, FrontStays, OthersStay};
 ghost use Rattle.conn_send.specs.Items.{IsNumbered};
 
 use crate::cells::Front;
@@ -24,10 +24,11 @@ pub fn look_at<R: Wait>(
     requires within { place < length cells.now }
     requires passes { AreOwn 1 cells.now passes.old.items }
     ensures passes { AreOwn 1 cells.now passes.new.items }
-    ensures taken { taken_in (seen_at place passes.new.items) ≡ taken_in (seen_at place passes.old.items) }
+    ensures taken { NoneTaken (seen_at place passes.old.items) (seen_at place passes.new.items) }
     ensures stays { FrontStays (seen_at place passes.old.items) (seen_at place passes.new.items) }
     ensures front { front_after (seen_at place passes.new.items) ≡ result.head }
-    ensures fits { result.backlog ≤ CREDIT_MAX }
+    ensures backlog { backlog_after (seen_at place passes.new.items) ≡ result.backlog }
+    ensures fits { result.backlog ≤ credit_max }
     ensures others { OthersStay place passes.old.items passes.new.items }
 {
     look(rt, &cells[place], &mut passes.as_mut_slice()[place])
@@ -44,11 +45,13 @@ pub fn take_at<R: Wait>(
     requires passes { AreOwn 1 cells.now passes.old.items }
     requires standing { front_after (seen_at place passes.old.items) ≢ Nothing }
     ensures passes { AreOwn 1 cells.now passes.new.items }
-    ensures taken { taken_in (seen_at place passes.new.items) ≡ taken_in (seen_at place passes.old.items) ++ parcel_of result.item ∷ [] }
+    ensures taken { OneTaken (seen_at place passes.old.items) (seen_at place passes.new.items) (parcel_of result.item) result.front.backlog }
     ensures was { head_of (result.item ∷ []) ≡ front_after (seen_at place passes.old.items) }
     ensures numbered { IsNumbered result.item }
+    ensures size { (size : ℕ) → HaveQueueSize size cells.now → HasLength size result.item }
     ensures front { front_after (seen_at place passes.new.items) ≡ result.front.head }
-    ensures fits { result.front.backlog ≤ CREDIT_MAX }
+    ensures backlog { backlog_after (seen_at place passes.new.items) ≡ result.front.backlog }
+    ensures fits { result.front.backlog ≤ credit_max }
     ensures others { OthersStay place passes.old.items passes.new.items }
 {
     take(rt, &cells[place], &mut passes.as_mut_slice()[place])

@@ -2,7 +2,7 @@
 ghost use Rattle.std.specs.Prelude.{◌≡◌, ◌<◌, [], length};
 ghost use Rattle.turn_cell.specs.Passes.{mine, seen};
 ghost use Rattle.conn_send.specs.Fronts.{StandsAt};
-ghost use Rattle.conn_send.specs.Steps.{AreCells, HasPasses, AllStand, KeepsStanding, Sends};
+ghost use Rattle.conn_send.specs.Steps.{AreCells, HasPasses, AllStand, KeepsStanding, BacklogAt, TellsBacklog, AreNoted, Sends};
 
 use crate::cells::{Front, SendCells, SendPasses};
 use crate::places::look_at;
@@ -17,8 +17,10 @@ fn tell_front<R: Wait>(rt: &R, cells: &SendCells, passes: &mut SendPasses, place
     requires passes { HasPasses cells.now passes.old }
     ensures passes { HasPasses cells.now passes.new }
     ensures quiet { Sends cells.now.channels.now passes.old.subpartitions.items passes.new.subpartitions.items (mine passes.old.readers) (mine passes.new.readers) [] }
+    ensures pools { passes.new.pools ≡ passes.old.pools }
     ensures here { StandsAt cells.now.channels.now (seen passes.new.readers) passes.new.subpartitions.items place }
     ensures stays { KeepsStanding cells.now passes.old passes.new }
+    ensures backlog { TellsBacklog cells.now passes.old passes.new place result }
 {
     let front = look_at(rt, cells.subpartitions, &mut passes.subpartitions, place);
     tell_ready(
@@ -43,9 +45,12 @@ fn tell_new_front<R: Wait>(
     requires cells { AreCells cells.now }
     requires within { place < length cells.now.channels.now }
     requires passes { HasPasses cells.now passes.old }
+    requires last { BacklogAt cells.now.channels.now (mine passes.old.readers) passes.old.subpartitions.items place last.backlog }
     ensures passes { HasPasses cells.now passes.new }
     ensures quiet { Sends cells.now.channels.now passes.old.subpartitions.items passes.new.subpartitions.items (mine passes.old.readers) (mine passes.new.readers) [] }
+    ensures pools { passes.new.pools ≡ passes.old.pools }
     ensures stays { KeepsStanding cells.now passes.old passes.new }
+    ensures backlog { TellsBacklog cells.now passes.old passes.new place result }
 {
     let front = look_at(rt, cells.subpartitions, &mut passes.subpartitions, place);
     if front != last {
@@ -71,9 +76,10 @@ pub fn tell_fronts<R: Wait>(
     requires cells { AreCells cells.now }
     requires passes { HasPasses cells.now passes.old }
     requires told { length told.old.items ≡ length cells.now.channels.now }
-    ensures told { length told.new.items ≡ length cells.now.channels.now }
+    ensures told { AreNoted cells.now passes.new told.new.items }
     ensures passes { HasPasses cells.now passes.new }
     ensures quiet { Sends cells.now.channels.now passes.old.subpartitions.items passes.new.subpartitions.items (mine passes.old.readers) (mine passes.new.readers) [] }
+    ensures pools { passes.new.pools ≡ passes.old.pools }
     ensures stand { AllStand cells.now passes.new }
 {
     for place in 0..cells.channels.len() {
@@ -91,10 +97,11 @@ pub fn tell_new_fronts<R: Wait>(
     requires cells { AreCells cells.now }
     requires passes { HasPasses cells.now passes.old }
     requires stand { AllStand cells.now passes.old }
-    requires told { length told.old.items ≡ length cells.now.channels.now }
-    ensures told { length told.new.items ≡ length cells.now.channels.now }
+    requires told { AreNoted cells.now passes.old told.old.items }
+    ensures told { AreNoted cells.now passes.new told.new.items }
     ensures passes { HasPasses cells.now passes.new }
     ensures quiet { Sends cells.now.channels.now passes.old.subpartitions.items passes.new.subpartitions.items (mine passes.old.readers) (mine passes.new.readers) [] }
+    ensures pools { passes.new.pools ≡ passes.old.pools }
     ensures stand { AllStand cells.now passes.new }
 {
     for place in 0..cells.channels.len() {

@@ -3,8 +3,9 @@ ghost use Rattle.std.specs.Prelude.{◌≡◌, ◌≢◌, ◌<◌, ◌≤◌, �
 ghost use Rattle.turn_cell.specs.Passes.{IsPassOf, mine};
 ghost use Rattle.outside.specs.Links.{IsUnfinished};
 ghost use Rattle.conn_parts.specs.Stopping.{ToldStop};
+ghost use Rattle.conn_send.specs.Giving.{Gives, GivesAllBack};
 ghost use Rattle.conn_send.specs.Sending.{MaySendItems, SendHandsBack, SendAccount};
-ghost use Rattle.conn_send.specs.Steps.{AreCells, HasPasses, AllStand, WritesUntil, SendsUntil, LooksForStop};
+ghost use Rattle.conn_send.specs.Steps.{AreCells, HasPasses, AllStand, AreNoted, WritesUntil, SendsUntil, LooksForStop};
 
 use crate::cells::{SendCells, SendPasses};
 use crate::ending::end_half;
@@ -58,16 +59,18 @@ fn send_until<'p, O: LinkOut, R: Wait>(
     requires cells { AreCells cells.now }
     requires passes { HasPasses cells.now passes.old }
     requires stand { AllStand cells.now passes.old }
-    requires told { length room.old.told.items ≡ length cells.now.channels.now }
+    requires told { AreNoted cells.now passes.old room.old.told.items }
     requires ended { length room.old.ended.items ≡ length cells.now.channels.now }
     requires empty { room.old.outgoing ≡ [] }
     requires unfinished { IsUnfinished (O.finished out.old) }
     requires stop { IsPassOf stop.now stop_pass.old }
     ensures passes { HasPasses cells.now passes.new }
+    ensures told { AreNoted cells.now passes.new room.new.told.items }
     ensures ended { length room.new.ended.items ≡ length cells.now.channels.now }
     ensures unfinished { O.finished out.new ≡ O.finished out.old }
     ensures line { O.line out.new ≡ O.line out.old }
     ensures never_falls { O.faults out.old ≤ O.faults out.new }
+    ensures gives { Gives cells.now.channels.now passes.old passes.new }
     ensures writes { WritesUntil cells.now.channels.now passes.old.subpartitions.items passes.new.subpartitions.items (mine passes.old.readers) (mine passes.new.readers) room.old.ended.items room.new.ended.items (O.sent out.old) (O.sent out.new) (O.faults out.old) (O.faults out.new) result }
     ensures stop { LooksForStop stop.now stop_pass.old stop_pass.new result }
 {
@@ -113,6 +116,7 @@ fn send_all<'p, O: LinkOut, R: Wait>(
     ensures unfinished { O.finished out.new ≡ O.finished out.old }
     ensures line { O.line out.new ≡ O.line out.old }
     ensures never_falls { O.faults out.old ≤ O.faults out.new }
+    ensures gives { Gives cells.now.channels.now passes.old passes.new }
     ensures sends { SendsUntil cells.now.channels.now passes.old.subpartitions.items passes.new.subpartitions.items (mine passes.new.readers) (O.sent out.old) (O.sent out.new) (O.faults out.old) (O.faults out.new) result }
     ensures stop { LooksForStop stop.now stop_pass.old stop_pass.new result }
 {
@@ -141,6 +145,7 @@ pub fn send_items<'a, 'p, O: LinkOut, R: Wait>(
     ensures finished { IfSome (O.finished out) (λ _. O.finished result.half ≡ Some true) }
     ensures line { O.line result.half ≡ O.line out }
     ensures account { SendAccount share.entry.channels.now share.entry.passes result.passes (O.sent out) (O.sent result.half) (O.faults out) (O.faults result.half) result.cause }
+    ensures given { GivesAllBack share.entry.channels.now share.entry.passes result.passes }
     ensures stop { ToldStop share.entry.stop.now result.cause share.entry.passes.stop result.passes.stop }
 {
     let ConnShare {

@@ -1,12 +1,15 @@
 // One item is taken and laid down.
-ghost use Rattle.std.specs.Prelude.{◌≡◌, ◌+◌, ◌<◌, ◌≤◌, ◌++◌, ◌∷◌, [], true, false, length, slice_get, Some, IfSome, IfNone, IsTrue};
+ghost use Rattle.std.specs.Prelude.{◌≡◌, ◌+◌, ◌<◌, ◌≤◌, ◌++◌, ◌∷◌, [], true, false, length, slice_get, slice_set as set, Some, IfSome, IfNone, IsTrue};
 ghost use Rattle.turn_cell.specs.Passes.{mine, seen};
 ghost use Rattle.net_frames.specs.Frames.{IsFrame, spelling};
-ghost use Rattle.net_frames.specs.declared.frame.TheConstants.{LEN_MAX};
-ghost use Rattle.credit_reader.specs.declared.reader.TheConstants.{CREDIT_MAX};
+ghost use Rattle.flow_defs.specs.Limits.{credit_max};
+ghost use Rattle.net_frames.specs.Limits.{frame_max};
 ghost use Rattle.conn_parts.specs.declared.outgoing.TheConstants.{OUT_ROOM};
+ghost use Rattle.subpartition.specs.Queues.{HasLength};
+ghost use Rattle.conn_parts.specs.Shares.{GrewAt};
+ghost use Rattle.conn_send.specs.Giving.{TookOne, Gives, returned_of};
 ghost use Rattle.conn_send.specs.Items.{IsNumbered, response};
-ghost use Rattle.conn_send.specs.Steps.{AreCells, HasPasses, AllStand, Sends, Lays, EndsWith};
+ghost use Rattle.conn_send.specs.Steps.{AreCells, HasPasses, AllStand, TellsBacklog, KeepsBacklogs, AreNoted, Sends, Lays, EndsWith};
 
 use crate::cells::{Front, SendCells, SendPasses};
 use crate::items::{arrival_of, content_of, kind_of};
@@ -45,8 +48,13 @@ fn take_next<'p, R: Wait>(
     ensures stand { AllStand cells.now passes.new }
     ensures none { IfNone result (Sends cells.now.channels.now passes.old.subpartitions.items passes.new.subpartitions.items (mine passes.old.readers) (mine passes.new.readers) []) }
     ensures some { IfSome result (λ next. Sends cells.now.channels.now passes.old.subpartitions.items passes.new.subpartitions.items (mine passes.old.readers) (mine passes.new.readers) (response next.channel next.sequence next.backlog next.item ∷ [])) }
+    ensures kept { IfNone result (KeepsBacklogs cells.now passes.old passes.new) }
+    ensures backlog { IfSome result (λ next. TellsBacklog cells.now passes.old passes.new next.place next.front) }
     ensures place { IfSome result (λ next. (next.place < length cells.now.channels.now) × (slice_get cells.now.channels.now next.place ≡ Some next.channel)) }
-    ensures ranges { IfSome result (λ next. IsNumbered next.item × (next.backlog ≤ CREDIT_MAX)) }
+    ensures ranges { IfSome result (λ next. IsNumbered next.item × (next.backlog ≤ credit_max)) }
+    ensures took { IfSome result (λ next. TookOne next.place next.item passes.old.subpartitions.items passes.new.subpartitions.items) }
+    ensures size { IfSome result (λ next. HasLength cells.now.size next.item) }
+    ensures pools { passes.new.pools ≡ passes.old.pools }
 {
     let Some(channel) = next_to_send(rt, cells.readers, &mut passes.readers) else {
         return None;
@@ -76,8 +84,8 @@ fn take_next<'p, R: Wait>(
 
 // Lays down the frame of an item.
 fn lay(room: &mut Room, next: &Next)
-    requires ranges { IsNumbered next.now.item × (next.now.backlog ≤ CREDIT_MAX) }
-    requires room { length room.old.outgoing + LEN_MAX ≤ OUT_ROOM }
+    requires ranges { IsNumbered next.now.item × (next.now.backlog ≤ credit_max) }
+    requires room { length room.old.outgoing + frame_max ≤ OUT_ROOM }
     requires place { next.now.place < length room.old.ended.items }
     ensures laid { room.new.outgoing ≡ room.old.outgoing ++ spelling (response next.now.channel next.now.sequence next.now.backlog next.now.item).0 (response next.now.channel next.now.sequence next.now.backlog next.now.item).1 }
     ensures frame { IsFrame (response next.now.channel next.now.sequence next.now.backlog next.now.item).0 (response next.now.channel next.now.sequence next.now.backlog next.now.item).1 }
@@ -105,8 +113,10 @@ fn give_back<'p, R: Wait>(
 )
     requires cells { AreCells cells.now }
     requires place { slice_get cells.now.channels.now next.place ≡ Some next.channel }
+    requires size { HasLength cells.now.size next.item }
     requires passes { HasPasses cells.now passes.old }
     ensures passes { HasPasses cells.now passes.new }
+    ensures returned { GrewAt next.channel.from (returned_of next.item) passes.old.pools.items passes.new.pools.items }
     ensures readers { passes.new.readers ≡ passes.old.readers }
     ensures subpartitions { passes.new.subpartitions ≡ passes.old.subpartitions }
 {
@@ -114,21 +124,14 @@ fn give_back<'p, R: Wait>(
     if let Item::Buffer(filled) = item {
         let Filled { segment, .. } = filled;
         let from = channel.from as usize;
-        give_segment(
-            rt,
-            cells.pools,
-            &mut passes.pools,
-            from,
-            cells.size,
-            segment,
-        );
+        give_segment(rt, cells.pools, &mut passes.pools, from, segment);
     }
 }
 
 // Notes what the readers were told last of the channel at a place.
 fn note_front(told: &mut ListOf<Front>, place: usize, front: Front)
     requires { place < length told.old.items }
-    ensures { length told.new.items ≡ length told.old.items }
+    ensures { told.new.items ≡ set told.old.items place front }
 {
     told.as_mut_slice()[place] = front;
 }
@@ -144,13 +147,14 @@ pub fn send_one<'p, R: Wait>(
     requires passes { HasPasses cells.now passes.old }
     requires stand { AllStand cells.now passes.old }
     requires ended { length room.old.ended.items ≡ length cells.now.channels.now }
-    requires told { length room.old.told.items ≡ length cells.now.channels.now }
-    requires room { length room.old.outgoing + LEN_MAX ≤ OUT_ROOM }
+    requires told { AreNoted cells.now passes.old room.old.told.items }
+    requires room { length room.old.outgoing + frame_max ≤ OUT_ROOM }
     ensures passes { HasPasses cells.now passes.new }
     ensures stand { AllStand cells.now passes.new }
     ensures ended { length room.new.ended.items ≡ length cells.now.channels.now }
-    ensures told { length room.new.told.items ≡ length cells.now.channels.now }
+    ensures told { AreNoted cells.now passes.new room.new.told.items }
     ensures lays { Lays cells.now.channels.now passes.old.subpartitions.items passes.new.subpartitions.items (mine passes.old.readers) (mine passes.new.readers) room.old.ended.items room.new.ended.items room.old.outgoing room.new.outgoing }
+    ensures gives { Gives cells.now.channels.now passes.old passes.new }
     ensures grows { IsTrue result → length room.old.outgoing < length room.new.outgoing }
 {
     let Some(next) = take_next(rt, cells, passes) else {

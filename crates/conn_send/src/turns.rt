@@ -1,10 +1,10 @@
 // Turns of the sender at a subpartition.
-ghost use Rattle.std.specs.Prelude.{◌≡◌, ◌≢◌, ◌≤◌, ◌++◌, ◌∷◌, []};
-ghost use Rattle.turn_cell.specs.Passes.{seen};
+ghost use Rattle.std.specs.Prelude.{◌≡◌, ◌≢◌, ◌≤◌, ◌∷◌, []};
+ghost use Rattle.turn_cell.specs.Passes.{opened_with, seen};
 ghost use Rattle.flow_defs.specs.declared.task.Head.TheVariants.{Nothing};
-ghost use Rattle.credit_reader.specs.declared.reader.TheConstants.{CREDIT_MAX};
-ghost use Rattle.subpartition.specs.Queues.{head_of, parcel_of};
-ghost use Rattle.conn_send.specs.Fronts.{IsSender, taken_in, front_after, FrontStays};
+ghost use Rattle.flow_defs.specs.Limits.{credit_max};
+ghost use Rattle.subpartition.specs.Queues.{HasLength, head_of, parcel_of};
+ghost use Rattle.conn_send.specs.Fronts.{IsSender, NoneTaken, OneTaken, front_after, backlog_after, FrontStays};
 ghost use Rattle.conn_send.specs.Items.{IsNumbered};
 
 use crate::cells::Front;
@@ -27,10 +27,11 @@ pub struct Taken {
 pub fn look<R: Wait>(rt: &R, cell: &TurnCell<Subpartition>, pass: &mut Pass<Subpartition>) -> Front
     requires { IsSender cell.now pass.old }
     ensures pass { IsSender cell.now pass.new }
-    ensures taken { taken_in (seen pass.new) ≡ taken_in (seen pass.old) }
+    ensures taken { NoneTaken (seen pass.old) (seen pass.new) }
     ensures stays { FrontStays (seen pass.old) (seen pass.new) }
     ensures front { front_after (seen pass.new) ≡ result.head }
-    ensures fits { result.backlog ≤ CREDIT_MAX }
+    ensures backlog { backlog_after (seen pass.new) ≡ result.backlog }
+    ensures fits { result.backlog ≤ credit_max }
 {
     let mut turn = cell.enter(rt, pass);
     passes_tell();
@@ -48,11 +49,13 @@ pub fn take<R: Wait>(rt: &R, cell: &TurnCell<Subpartition>, pass: &mut Pass<Subp
     requires pass { IsSender cell.now pass.old }
     requires standing { front_after (seen pass.old) ≢ Nothing }
     ensures pass { IsSender cell.now pass.new }
-    ensures taken { taken_in (seen pass.new) ≡ taken_in (seen pass.old) ++ parcel_of result.item ∷ [] }
+    ensures taken { OneTaken (seen pass.old) (seen pass.new) (parcel_of result.item) result.front.backlog }
     ensures was { head_of (result.item ∷ []) ≡ front_after (seen pass.old) }
     ensures numbered { IsNumbered result.item }
+    ensures size { HasLength (opened_with cell.now).size result.item }
     ensures front { front_after (seen pass.new) ≡ result.front.head }
-    ensures fits { result.front.backlog ≤ CREDIT_MAX }
+    ensures backlog { backlog_after (seen pass.new) ≡ result.front.backlog }
+    ensures fits { result.front.backlog ≤ credit_max }
 {
     let mut turn = cell.enter(rt, pass);
     calls_add_entries();

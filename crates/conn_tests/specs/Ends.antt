@@ -12,7 +12,6 @@ use Rattle.conn_tests.specs.declared.carrying.Putting.TheVariants.{Puts, HasPut}
 -- A source has passes of the pools and of the stop cell.
 pub record MayPut (source : Source) : Type 0 where
   pub pools : AreOf source.pools.now source.passes.items
-  pub sizes : HavePoolSize source.size source.pools.now
   pub stop : IsPassOf source.stop.now source.stop_pass
 
 abbrev pub MayPutOr : Putting → Type 0

@@ -24,7 +24,7 @@ fn leave_put<E: Named<SendEntry>>(turn: Turn<Subpartition>)
     turn.leave::<E>();
 }
 
-// Puts a buffer in a turn, or hands it back where there is no room.
+// Puts a buffer in a turn, or hands it back where there is no room or its segment has another length.
 fn put_in_turn<R: Wait>(
     rt: &R,
     cell: &TurnCell<Subpartition>,
@@ -40,7 +40,8 @@ fn put_in_turn<R: Wait>(
     let mut turn = cell.enter(rt, pass);
     calls_add_entries();
     calls_tell();
-    if turn.state().spare() == 0 {
+    let size = turn.state().size() as usize;
+    if turn.state().spare() == 0 || size != filled.segment.bytes().len() {
         turn.leave_as_is();
         return Err(filled);
     }
@@ -91,7 +92,7 @@ impl<'a> Outlet<'a> {
         Outlet { cell, pass }
     }
 
-    /// Puts a buffer, or hands it back where there is no room.
+    /// Puts a buffer, or hands it back where there is no room or its segment has another length.
     pub fn put<R: Wait>(self, rt: &R, filled: Filled) -> (Outlet<'a>, Result<(), Filled>) {
         let Outlet { cell, mut pass } = self;
         let done = put_in_turn(rt, cell, &mut pass, filled);

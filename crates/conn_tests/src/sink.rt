@@ -69,6 +69,24 @@ impl Counted {
     }
 }
 
+// Gives a segment back to the gate's pool. One that has another length than the pool's is dropped.
+fn give_back<'p, R: Wait>(
+    rt: &R,
+    pools: &[TurnCell<HeldPool<'p>>],
+    passes: &mut ListOf<Pass<HeldPool<'p>>>,
+    size: u32,
+    segment: Segment,
+)
+    requires passes { AreOf pools.now passes.old.items }
+    requires sizes { HavePoolSize size pools.now }
+    requires some { 0 < length pools.now }
+    ensures { AreOf pools.now passes.new.items }
+{
+    if segment.bytes().len() == size as usize {
+        give_segment(rt, pools, passes, 0, segment);
+    }
+}
+
 // Adds floating segments of the gate's pool, as many as are wanted and there.
 fn add_floating<'a, 'p, R: Wait>(
     rt: &R,
@@ -85,13 +103,13 @@ fn add_floating<'a, 'p, R: Wait>(
 {
     let mut inlet = inlet;
     for _want in 0..wants {
-        let Some(segment) = request_segment(rt, pools, passes, 0, size) else {
+        let Some(segment) = request_segment(rt, pools, passes, 0) else {
             return inlet;
         };
         let (back, added) = inlet.add(rt, segment);
         inlet = back;
         if let Err(segment) = added {
-            give_segment(rt, pools, passes, 0, size, segment);
+            give_back(rt, pools, passes, size, segment);
             return inlet;
         }
     }
@@ -114,7 +132,7 @@ fn settle<'a, 'p, R: Wait>(
     ensures { AreOf pools.now passes.new.items }
 {
     if let Some(segment) = free {
-        give_segment(rt, pools, passes, 0, size, segment);
+        give_back(rt, pools, passes, size, segment);
     }
     add_floating(rt, inlet, wants, pools, passes, size)
 }

@@ -1,7 +1,7 @@
 // What puts buffers on all channels.
 ghost use Rattle.std.specs.Prelude.{◌<◌, ◌≤◌, length};
 ghost use Rattle.turn_cell.specs.Passes.{IsPassOf};
-ghost use Rattle.conn_parts.specs.Shares.{AreOf, HavePoolSize};
+ghost use Rattle.conn_parts.specs.Shares.{AreOf};
 ghost use Rattle.conn_tests.specs.Ends.{MayPut};
 
 use crate::idle::Idle;
@@ -44,8 +44,6 @@ pub struct Source<'e, 'a, 'p> {
     pub lanes: VecDeque<Lane<'e>>,
     pub pools: &'a [TurnCell<HeldPool<'p>>],
     pub passes: ListOf<Pass<HeldPool<'p>>>,
-    /// The length of a segment, in bytes.
-    pub size: u32,
     pub stop: &'a TurnCell<StopState>,
     pub stop_pass: Pass<StopState>,
     pub work: Work,
@@ -81,14 +79,12 @@ fn segment_at<'p, R: Wait>(
     pools: &[TurnCell<HeldPool<'p>>],
     passes: &mut ListOf<Pass<HeldPool<'p>>>,
     place: usize,
-    size: u32,
 ) -> Option<Segment>
     requires passes { AreOf pools.now passes.old.items }
-    requires sizes { HavePoolSize size pools.now }
     ensures { AreOf pools.now passes.new.items }
 {
     if place < pools.len() {
-        request_segment(rt, pools, passes, place, size)
+        request_segment(rt, pools, passes, place)
     } else {
         None
     }
@@ -125,11 +121,9 @@ fn put_next<'a, 'p, R: Wait>(
     lane: Lane<'a>,
     pools: &[TurnCell<HeldPool<'p>>],
     passes: &mut ListOf<Pass<HeldPool<'p>>>,
-    size: u32,
     work: Work,
 ) -> Step<'a>
     requires passes { AreOf pools.now passes.old.items }
-    requires sizes { HavePoolSize size pools.now }
     ensures { AreOf pools.now passes.new.items }
 {
     let Lane {
@@ -152,7 +146,7 @@ fn put_next<'a, 'p, R: Wait>(
     if let Some(next) = waiting {
         return put_on(rt, outlet, pool, put, next);
     }
-    match segment_at(rt, pools, passes, pool, size) {
+    match segment_at(rt, pools, passes, pool) {
         Some(segment) => put_on(rt, outlet, pool, put, filled(segment, put, work.len)),
         None => Step::Nothing(Lane {
             outlet,
@@ -180,7 +174,6 @@ pub fn put_all<'e, 'a, 'p, R: Wait>(rt: &R, source: Source<'e, 'a, 'p>) -> u64
         mut lanes,
         pools,
         mut passes,
-        size,
         stop,
         mut stop_pass,
         work,
@@ -192,7 +185,7 @@ pub fn put_all<'e, 'a, 'p, R: Wait>(rt: &R, source: Source<'e, 'a, 'p>) -> u64
         let Some(lane) = lanes.pop_front() else {
             return count;
         };
-        let lane = match put_next(rt, lane, pools, &mut passes, size, work) {
+        let lane = match put_next(rt, lane, pools, &mut passes, work) {
             Step::Put(lane) => {
                 count = count.wrapping_add(1);
                 idle.found();

@@ -114,7 +114,6 @@ fn source_of<'a, 'p>(
         lanes,
         pools: cells.senders.as_slice(),
         passes: pools,
-        size: cells.size,
         stop: &cells.stop,
         stop_pass: stop,
         work,

@@ -1,8 +1,7 @@
 // Pools.
 ghost use Rattle.std.specs.Prelude.{◌≡◌, ◌≤◌, [], IfSome};
 ghost use Rattle.segment_pool.specs.Pools.{IsPassOf, limits_of, size_of};
-ghost use Rattle.segment_pool.specs.declared.segment.TheConstants.{SEGMENT_MIN};
-ghost use Rattle.segment_pool.specs.declared.stock.TheConstants.{SEGMENTS_MAX};
+ghost use Rattle.flow_defs.specs.Limits.{segments_max, segment_min};
 
 use segment_pool::{Pool, PoolPass, SEGMENT_MAX, SEGMENT_MIN, SEGMENTS_MAX};
 use std::alloc::Global;
@@ -26,9 +25,9 @@ pub fn open<R: Wait>(_rt: &R, alloc: Global, total: u32, size: u64) -> Option<u6
 
 // A pool of so many segments of 64 bytes, and its pass.
 pub fn small_pool(alloc: Global, total: u32) -> Option<(Pool, PoolPass)>
-    requires { (1 ≤ total) × (total ≤ SEGMENTS_MAX) }
+    requires { (1 ≤ total) × (total ≤ segments_max) }
     ensures pass { IfSome result (λ r. IsPassOf r.0 r.1) }
-    ensures opened { IfSome result (λ r. (limits_of r.0 ≡ []) × (size_of r.0 ≡ SEGMENT_MIN)) }
+    ensures opened { IfSome result (λ r. (limits_of r.0 ≡ []) × (size_of r.0 ≡ segment_min)) }
 {
     let Ok((pool, mut passes)) = Pool::new(alloc, total, SEGMENT_MIN as u32, 1) else {
         return None;

@@ -1,9 +1,11 @@
 -- One channel of a connection, once an item was put behind the others or the first one was taken.
-use Rattle.std.proofs.Common.{◌≡◌, ℕ, ◌+◌, ◌≤◌, min, cond, true, List, [], ◌∷◌, ◌++◌, length, map, take, drop, refl, sym, ap, subst, ◌∙◌, arith, length-append}
+use Rattle.std.proofs.Common.{◌≡◌, ℕ, suc, ◌+◌, ◌≤◌, min, cond, Some, true, List, [], ◌∷◌, ◌++◌, length, map, take, drop, refl, sym, ap, subst, ◌∙◌, arith, length-append}
+use Rattle.std.specs.Prelude.{slice_get}
 use Rattle.std.specs.List.{refill}
 use Rattle.std.proofs.lemmas.List.{map-append, take_at, length-take, length-drop, length-map}
-use Rattle.std.proofs.lemmas.List.Elements.{All-push}
+use Rattle.std.proofs.lemmas.List.Elements.{All-push, All-drop}
 use Rattle.std.proofs.lemmas.List.Sums.{sum_by-cons}
+use Rattle.flow_defs.specs.declared.task.BarrierKind.{BarrierKind}
 use Rattle.flow_defs.specs.declared.task.BarrierKind.TheVariants.{Inline}
 use Rattle.flow_defs.specs.declared.parcel.Parcel.{Parcel}
 use Rattle.flow_defs.specs.declared.parcel.Parcel.TheVariants as parcels
@@ -13,13 +15,13 @@ use Rattle.segment_pool.specs.Pools.{size_of}
 use Rattle.subpartition.specs.declared.item.Filled.{Filled}
 use Rattle.subpartition.specs.declared.item.Item.{Item}
 use Rattle.subpartition.specs.declared.item.Item.TheVariants as items
-use Rattle.subpartition.specs.Queues.{Queue, bytes_of, parcel_of, backlog_of, head_of, with_buffer, with_barrier, with_end}
+use Rattle.subpartition.specs.Queues.{Queue, bytes_of, parcel_of, backlog_of, head_of, with_buffer, with_barrier, with_end, without_first, HasLength}
 use Rattle.local_pool.specs.declared.local.LocalPool.{LocalPool}
 use Rattle.local_pool.specs.Locals.{IsLocalOf, IsSameLocal, lent_of}
 use Rattle.exchange_world.specs.Lanes.{backlog_in, head_in}
 use Rattle.exchange_world.specs.Steps.{with_items}
 use Rattle.exchange_core.specs.declared.lane.Lane.{Lane}
-use Rattle.exchange_core.specs.Exchanges.{world_lane, IsLaneOf, HasLength}
+use Rattle.exchange_core.specs.Exchanges.{world_lane, IsLaneOf}
 use Rattle.exchange_core.specs.Lanes.{HasPut}
 
 -- ---- the queue and its parcels
@@ -104,6 +106,43 @@ module _ (pool : Pool) (limit : ℕ) (before : Lane) (here : IsLaneOf pool limit
     lent = omega (arith, here.lent, backlog-append before.queue.items (items.Barrier k Inline ∷ []));
     owed = here.owed;
   }
+
+-- ---- the first item taken
+
+first_stood : (xs : List Item) (x : Item) → Some x ≡ slice_get xs 0 → xs ≡ x ∷ drop 1 xs
+first_stood [] x is = absurd (cc)
+first_stood (y ∷ ys) x is = let same : x ≡ y = cc in ap (λ z. z ∷ ys) (sym same)
+
+module _ (pool : Pool) (limit : ℕ) (before : Lane) (here : IsLaneOf pool limit before) where
+  left_of : (queue : Queue) (partition : LocalPool) → queue ≡ without_first before.queue → IsLocalOf pool partition → IsSameLocal before.partition partition →
+      lent_of partition ≡ backlog_of (drop 1 before.queue.items) → IsLaneOf pool limit (record before { queue = queue; partition = partition })
+  left_of queue partition is local same lent = subst (λ (q : Queue). IsLaneOf pool limit (record before { queue = q; partition = partition })) (sym is) record {
+    size = here.size;
+    room = here.room;
+    barriers = here.barriers;
+    finished = here.finished;
+    segments = All-drop (HasLength (size_of pool)) 1 before.queue.items here.segments;
+    partition = local;
+    need = same.need ∙ here.need;
+    limit_is = same.limit ∙ here.limit_is;
+    lent = lent;
+    owed = here.owed;
+  }
+
+  pub buffer_taken : (queue : Queue) (partition : LocalPool) (filled : Filled) → Some (items.Buffer filled) ≡ slice_get before.queue.items 0 → queue ≡ without_first before.queue →
+      IsLocalOf pool partition → IsSameLocal before.partition partition → lent_of before.partition ≡ lent_of partition + 1 → IsLaneOf pool limit (record before { queue = queue; partition = partition })
+  buffer_taken queue partition filled first is local same given =
+      let stood : backlog_of before.queue.items ≡ suc (backlog_of (drop 1 before.queue.items)) = ap backlog_of (first_stood before.queue.items (items.Buffer filled) first) in
+      left_of queue partition is local same (omega (arith, stood, given, here.lent))
+
+  kept : IsSameLocal before.partition before.partition
+  kept = record { need = refl; most = refl; limit = refl; number = refl }
+
+  pub barrier_taken : (queue : Queue) (k : ℕ) (kind : BarrierKind) → Some (items.Barrier k kind) ≡ slice_get before.queue.items 0 → queue ≡ without_first before.queue → IsLaneOf pool limit (record before { queue = queue })
+  barrier_taken queue k kind first is = left_of queue before.partition is here.partition kept (here.lent ∙ ap backlog_of (first_stood before.queue.items (items.Barrier k kind) first))
+
+  pub end_taken : (queue : Queue) → Some items.End ≡ slice_get before.queue.items 0 → queue ≡ without_first before.queue → IsLaneOf pool limit (record before { queue = queue })
+  end_taken queue first is = left_of queue before.partition is here.partition kept (here.lent ∙ ap backlog_of (first_stood before.queue.items items.End first))
 
 pub end_put : (before : Lane) (queue : Queue) → queue ≡ with_end before.queue → world_lane (record before { queue = queue; finished = true }) ≡ record (with_items (world_lane before) (parcels.End ∷ [])) { finished = true }
 end_put before queue is =

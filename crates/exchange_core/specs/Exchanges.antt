@@ -8,7 +8,7 @@ use Rattle.segment_pool.specs.declared.pool.Pool.{Pool}
 use Rattle.segment_pool.specs.Pools.{IsLimited, total_of, size_of}
 use Rattle.subpartition.specs.declared.item.Item.{Item}
 use Rattle.subpartition.specs.declared.item.Item.TheVariants as items
-use Rattle.subpartition.specs.Queues.{parcel_of, backlog_of}
+use Rattle.subpartition.specs.Queues.{parcel_of, backlog_of, HasLength}
 use Rattle.local_pool.specs.Locals.{IsLocalOf, lent_of, need_of, limit_of}
 use Rattle.input_channel.specs.declared.arrival.ArrivalKind.{ArrivalKind}
 use Rattle.input_channel.specs.declared.arrival.ArrivalKind.TheVariants as kinds
@@ -70,12 +70,6 @@ world_of c = record {
 }
 
 -- ---- its pools
-
--- The length of the segment of a buffer.
-abbrev pub HasLength : ℕ → Item → Type 0
-HasLength size (items.Buffer filled) = length filled.segment ≡ size
-HasLength size (items.Barrier k kind) = Unit {0}
-HasLength size items.End = Unit {0}
 
 -- A channel of this pool: its partition's pool has lent the segments of the buffers that wait to be sent, and no more.
 pub record IsLaneOf (pool : Pool) (limit : ℕ) (lane : Lane) : Type 0 where

@@ -1,6 +1,6 @@
 // One channel, both its ends.
 ghost use Rattle.std.specs.Prelude.{◌≡◌, ◌+◌, ◌-◌, ◌<◌, ◌≤◌, false, length, min, take, drop, IfOk};
-ghost use Rattle.flow_defs.specs.declared.TheConstants.{RECORD_MAX};
+ghost use Rattle.flow_defs.specs.Limits.{record_max};
 ghost use Rattle.flow_defs.specs.Records.{encoded};
 ghost use Rattle.segment_pool.specs.Pools.{IsLimited, size_of};
 ghost use Rattle.local_pool.specs.Locals.{lent_of};
@@ -44,7 +44,7 @@ fn put_buffer<R: Wait>(
     done: usize,
 ) -> usize
     requires lane { IsLaneOf pool.now limit lane.old × IsLimited pool.now }
-    requires short { length text.now ≤ RECORD_MAX }
+    requires short { length text.now ≤ record_max }
     requires within { done < length text.now + 4 }
     requires unfinished { lane.old.finished ≡ false }
     requires lent { lent_of lane.old.partition < limit }
@@ -67,7 +67,7 @@ fn put_buffer<R: Wait>(
 // Puts a record into buffers, the last one filled as far as the record goes.
 pub(crate) fn put_record<R: Wait>(rt: &R, pool: &Pool, lane: &mut Lane, limit: u32, text: &[u8])
     requires lane { IsLaneOf pool.now limit lane.old × IsLimited pool.now }
-    requires short { length text.now ≤ RECORD_MAX }
+    requires short { length text.now ≤ record_max }
     requires unfinished { lane.old.finished ≡ false }
     requires lent { backlog_in (world_lane lane.old).items + length (buffers pool.now text.now) ≤ limit }
     requires room { length lane.old.queue.items + length (buffers pool.now text.now) ≤ ITEMS_MAX }

@@ -1,6 +1,6 @@
 // What happens at the sending end.
 ghost use Rattle.std.specs.Prelude.{◌≡◌, ◌+◌, ◌≤◌, length, IsSome, IfOk};
-ghost use Rattle.flow_defs.specs.declared.TheConstants.{RECORD_MAX};
+ghost use Rattle.flow_defs.specs.Limits.{record_max};
 ghost use Rattle.flow_defs.specs.Records.{encoded};
 ghost use Rattle.credit_reader.specs.Readers.{Ready};
 ghost use Rattle.credit_reader.specs.Senders.{reader_of, happened};
@@ -44,7 +44,7 @@ fn tell(readers: &mut Readers, lane: &Lane, c: u32)
 
 // How many buffers of `size` bytes a record takes.
 fn count_buffers(text: &[u8], size: u32) -> u32
-    requires short { length text.now ≤ RECORD_MAX }
+    requires short { length text.now ≤ record_max }
     requires size { 1 ≤ size }
     ensures count { result ≡ length (pieces size (encoded text.now)) }
     ensures most { result ≤ length text.now + 4 }
@@ -57,7 +57,7 @@ impl Connection {
     pub(crate) fn emit<R: Wait>(&mut self, rt: &R, c: u32, text: &[u8]) -> Reply
         requires whole { IsWhole self.old }
         requires channel { IsChannel (length self.old.lanes.items) c }
-        requires short { length text.now ≤ RECORD_MAX }
+        requires short { length text.now ≤ record_max }
         requires sound { IsSound (length self.old.lanes.items) (emits (world_of self.old) c text.now).0 }
         ensures { HasActed self.old self.new result (emits (world_of self.old) c text.now) }
     {

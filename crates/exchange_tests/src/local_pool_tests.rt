@@ -8,7 +8,7 @@ ghost use Rattle.local_pool.specs.Locals.{IsLocalOf, lent_of, limit_of, most_of,
 ghost use Rattle.local_pool.specs.Shares.{IsWant, needs};
 
 use flow_defs::ListOf;
-use local_pool::{HeldPool, LocalFault, LocalPool, Want, share};
+use local_pool::{HeldPool, LocalFault, LocalPool, Want, give_in_turn, request_in_turn, share};
 use segment_pool::{Counts, Pool, PoolPass};
 use std::alloc::Global;
 use std::process::Abort;
@@ -269,17 +269,14 @@ fn lend_in_a_turn<'a, R: Wait + Abort>(
     requires { places.IsPassOf cell.now place }
     ensures { places.IsPassOf cell.now result × (places.number result ≡ places.number place.entry) }
 {
-    let (mut shared, turn) = cell.enter_owned(rt, place);
-    let Some(segment) = shared.request(rt) else {
+    let (place, lent) = request_in_turn(rt, cell, place);
+    let Some(segment) = lent else {
         panic!(rt; "a segment was kept")
     };
-    let place = turn.leave_as_is(shared);
-    let (mut shared, turn) = cell.enter_owned(rt, place);
+    let (shared, turn) = cell.enter_owned(rt, place);
     assert_eq!(rt; shared.lent(), 1);
-    if shared.lent() > 0 {
-        shared.give(rt, segment);
-    }
-    turn.leave_as_is(shared)
+    let place = turn.leave_as_is(shared);
+    give_in_turn(rt, cell, place, segment)
 }
 
 fn lend_by_turns<R: Wait + Abort>(rt: &R, alloc: Global, pool: &Pool, pass: PoolPass) -> PoolPass

@@ -40,6 +40,7 @@ pub(crate) fn put_in_turn<R: Wait>(
     requires pass { IsPassOf cell.now pass.old }
     requires task { number pass.old ≡ 0 }
     requires open_end { is_finished (mine pass.old) ≡ false }
+    requires size { length filled.segment ≡ (opened_with cell.now).size }
     ensures pass { IsPassOf cell.now pass.new × (number pass.new ≡ 0) }
     ensures entered { OnOk result (mine pass.new ≡ mine pass.old ++ Put (bytes_of filled) ∷ []) }
     ensures refused { IfErr result (λ back. (back ≡ filled) × (mine pass.new ≡ mine pass.old)) }
@@ -101,7 +102,8 @@ fn put_first<R: Wait>(
     task: Pass<Subpartition>,
     filled: Filled,
 ) -> (Pass<Subpartition>, Result<(), Filled>)
-    requires { IsPassOf cell.now task × (number task ≡ 0) × (mine task ≡ []) }
+    requires task { IsPassOf cell.now task × (number task ≡ 0) × (mine task ≡ []) }
+    requires size { length filled.segment ≡ (opened_with cell.now).size }
     ensures { IsPassOf cell.now result.0 × (number result.0 ≡ 0) × OnOk result.1 (mine result.0 ≡ Put (bytes_of filled) ∷ []) × IfErr result.1 (λ back. back ≡ filled) }
 {
     let mut task = task;
@@ -139,6 +141,7 @@ pub(crate) fn send_in_threads<R: Threads + Wait + Sync>(
     filled: Filled,
 ) -> Result<Sent, Filled>
     requires passes { AreFresh cell passes.items × (length passes.items ≡ 2) × (passes_of cell ≡ 2) }
+    requires size { length filled.segment ≡ (opened_with cell).size }
     ensures sent { IfOk result (λ sent. bytes_of filled ≡ data_of (map parcel_of (option_to_list sent.item)) ++ data_of (map parcel_of sent.left.items)) }
     ensures back { IfErr result (λ back. back ≡ filled) }
 {
@@ -148,7 +151,7 @@ pub(crate) fn send_in_threads<R: Threads + Wait + Sync>(
     let ((task, put), (sender, item)) = join(
         rt,
         || -> (Pass<Subpartition>, Result<(), Filled>)
-            requires { IsPassOf cell task × (number task ≡ 0) × (mine task ≡ []) }
+            requires { IsPassOf cell task × (number task ≡ 0) × (mine task ≡ []) × (length filled.segment ≡ (opened_with cell).size) }
             ensures { IsPassOf cell result.0 × (number result.0 ≡ 0) × OnOk result.1 (mine result.0 ≡ Put (bytes_of filled) ∷ []) × IfErr result.1 (λ back. back ≡ filled) }
         { put_first(rt, &cell, task, filled) },
         || -> (Pass<Subpartition>, Option<Item>)

@@ -26,12 +26,6 @@ use std::alloc::{AllocError, Global};
 use std::marker::Model;
 use turn_cell::Turned;
 
-/// The least room of a channel, in buffers: its two exclusive ones.
-pub const ROOM_MIN: u32 = 2;
-
-/// The greatest room of a channel, in buffers, and the greatest backlog that can be told.
-pub const ROOM_MAX: u32 = 0x7FFF_FFFF;
-
 /// No memory for a channel. It hands the segments back.
 #[derive(Drop)]
 pub struct NoRoom {
@@ -120,7 +114,7 @@ fn take_free(
 }
 
 impl InputChannel {
-    /// A channel with its two exclusive buffers and room for so many, from `ROOM_MIN` to `ROOM_MAX`.
+    /// A channel with its two exclusive buffers and room for so many, from 2 to 2,147,483,647.
     /// It takes the memory of its room at once.
     pub fn new(
         alloc: Global,

@@ -19,7 +19,7 @@ mod queue;
 mod segments;
 
 pub use arrival::{Arrival, ArrivalKind};
-pub use channel::{InputChannel, NoRoom, ROOM_MAX, ROOM_MIN};
+pub use channel::{InputChannel, NoRoom};
 pub use entry::{Gave, ReceiveEntry};
 pub use fault::AcceptFault;
 pub use held::HeldBuf;

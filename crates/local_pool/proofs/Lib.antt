@@ -1,3 +1,4 @@
 pub mod Dealing
 pub mod Fitting
 pub mod Moving
+pub mod Lendings

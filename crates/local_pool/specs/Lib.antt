@@ -1,4 +1,5 @@
 pub mod Helds
+pub mod Lending
 pub mod Locals
 pub mod Moves
 pub mod Shares

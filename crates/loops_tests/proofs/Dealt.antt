@@ -1,5 +1,5 @@
 -- Passes that the tests deal out, and cells that stand alone.
-use Rattle.std.proofs.Common.{◌≡◌, ℕ, zero, suc, ◌<◌, false, List, [], ◌∷◌, ◌++◌, length, refl, sym, ap, subst, ◌∙◌, arith}
+use Rattle.std.proofs.Common.{◌≡◌, ℕ, zero, suc, false, List, [], ◌∷◌, ◌++◌, length, refl, sym, ap, subst, ◌∙◌, arith}
 use Rattle.std.specs.Prelude.{slice_get, Some, All}
 use lib.ListN.{get_elem?}
 use Rattle.turn_cell.specs.declared.cell.TurnCell.{TurnCell}
@@ -11,7 +11,7 @@ use Rattle.subpartition.specs.declared.entry.SendEntry.{SendEntry}
 use Rattle.subpartition.specs.declared.entry.SendEntry.TheVariants.{Put, PutInline, Finish, Take, Size}
 use Rattle.subpartition.specs.declared.item.Filled.{Filled}
 use Rattle.subpartition.specs.Sending.{is_finished}
-use Rattle.subpartition.specs.Queues.{Queue, bytes_of, last_bytes, with_buffer}
+use Rattle.subpartition.specs.Queues.{Queue, last_bytes, with_buffer}
 use Rattle.subpartition.specs.Standing.{StandsFor}
 use Rattle.subpartition.specs.Theorems.{PutAdds, LastIsPut}
 use Rattle.conn_parts.specs.Shares.{AreOf, AreOwn}
@@ -57,8 +57,8 @@ open_put (Take ∷ es) bytes = open_put es bytes
 open_put (Size n ∷ es) bytes = open_put es bytes
 
 -- The queue with a buffer stands for one more entry, whose bytes are read off the last item.
-pub buffer_put : PutAdds → LastIsPut → (old now : Queue) (filled : Filled) (history : List (ℕ × SendEntry)) (n : ℕ) → StandsFor old history → n ≡ 0 → old.finished ≡ false → now ≡ with_buffer old filled →
+pub buffer_put : PutAdds → LastIsPut → (old now : Queue) (filled : Filled) (history : List (ℕ × SendEntry)) (n : ℕ) → StandsFor old history → n ≡ 0 → old.finished ≡ false → length filled.segment ≡ old.size → now ≡ with_buffer old filled →
     StandsFor now (history ++ (n, Put (last_bytes now.items)) ∷ [])
-buffer_put adds last old now filled history n stands zero_is open_end is =
+buffer_put adds last old now filled history n stands zero_is open_end long is =
     subst (λ (queue : Queue). StandsFor queue (history ++ (n, Put (last_bytes queue.items)) ∷ [])) (sym is)
-    (subst (λ bytes. StandsFor (with_buffer old filled) (history ++ (n, Put bytes) ∷ [])) (sym (last old filled)) (adds old history n filled stands zero_is open_end))
+    (subst (λ bytes. StandsFor (with_buffer old filled) (history ++ (n, Put bytes) ∷ [])) (sym (last old filled)) (adds old history n filled stands zero_is open_end long))

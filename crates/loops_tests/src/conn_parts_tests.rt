@@ -271,18 +271,18 @@ fn ask_and_give<'p, R: Wait + Abort>(
     requires two { 1 < length cells.now }
     requires sizes { HavePoolSize 64 cells.now }
 {
-    let Some(first) = request_segment(rt, cells, passes, 0, 64) else {
+    let Some(first) = request_segment(rt, cells, passes, 0) else {
         panic!(rt; "a segment was kept")
     };
-    assert!(rt; request_segment(rt, cells, passes, 0, 64).is_none());
-    let Some(second) = request_segment(rt, cells, passes, 1, 64) else {
+    assert!(rt; request_segment(rt, cells, passes, 0).is_none());
+    let Some(second) = request_segment(rt, cells, passes, 1) else {
         panic!(rt; "a segment was kept")
     };
-    give_segment(rt, cells, passes, 0, 64, second);
+    give_segment(rt, cells, passes, 0, second);
     // Nothing is lent there any more.
-    give_segment(rt, cells, passes, 0, 64, first);
-    assert!(rt; request_segment(rt, cells, passes, 0, 64).is_some());
-    assert!(rt; request_segment(rt, cells, passes, 1, 64).is_none());
+    give_segment(rt, cells, passes, 0, first);
+    assert!(rt; request_segment(rt, cells, passes, 0).is_some());
+    assert!(rt; request_segment(rt, cells, passes, 1).is_none());
 }
 
 #[test]

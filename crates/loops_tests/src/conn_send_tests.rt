@@ -87,6 +87,15 @@ fn leave_put<E: Named<SendEntry>>(turn: Turn<Subpartition>)
     turn.leave::<E>();
 }
 
+// The segment with these bytes at its front.
+fn written(segment: Segment, bytes: &[u8; 5]) -> Segment
+    ensures { length result ≡ length segment }
+{
+    let mut segment = segment;
+    segment.bytes_mut()[..5].copy_from_slice(bytes);
+    segment
+}
+
 // A task puts a buffer of these bytes.
 fn put<R: Wait + Abort>(
     rt: &R,
@@ -98,11 +107,11 @@ fn put<R: Wait + Abort>(
     requires pass { IsPassOf cell.now pass.old }
     requires task { number pass.old ≡ 0 }
     requires open_end { is_finished (mine pass.old) ≡ false }
+    requires size { length segment ≡ (opened_with cell.now).size }
     ensures pass { IsPassOf cell.now pass.new × (number pass.new ≡ 0) }
     ensures open_end { is_finished (mine pass.new) ≡ false }
 {
-    let mut segment = segment;
-    segment.bytes_mut()[..5].copy_from_slice(bytes);
+    let segment = written(segment, bytes);
     assert!(rt; segment.bytes().len() >= 5);
     let filled = Filled { segment, len: 5 };
     let mut turn = cell.enter(rt, pass);
@@ -177,6 +186,7 @@ fn shared_subpartition<R: Abort>(
 )
     ensures task { IsPassOf result.0 result.1 × (number result.1 ≡ 0) × (mine result.1 ≡ []) }
     ensures sender { IsPassOf result.0 result.2 × (number result.2 ≡ 1) }
+    ensures size { (opened_with result.0).size ≡ 64 }
 {
     calls_add_entries();
     let Ok(queue) = Subpartition::new(alloc, 64, 4) else {
@@ -238,13 +248,14 @@ fn fill<'p, R: Wait + Abort>(
     requires some { 0 < length pools.now }
     requires sizes { HavePoolSize 64 pools.now }
     requires task { IsPassOf cell.now task × (number task ≡ 0) × (mine task ≡ []) }
+    requires queue_size { (opened_with cell.now).size ≡ 64 }
     ensures givers { AreOf pools.now givers.new.items }
 {
     let mut task = task;
-    let Some(first) = request_segment(rt, pools, givers, 0, 64) else {
+    let Some(first) = request_segment(rt, pools, givers, 0) else {
         panic!(rt; "no segment")
     };
-    let Some(second) = request_segment(rt, pools, givers, 0, 64) else {
+    let Some(second) = request_segment(rt, pools, givers, 0) else {
         panic!(rt; "no segment")
     };
     put(rt, cell, &mut task, first, b"\0\0\0\x01a");

@@ -89,3 +89,17 @@ module _ {X : Type 0} (key : X → ChannelId) where
   key_of_found c xs x is =
       let there = found_there c xs x is in
       (there.0, slice_get-map key xs there.0 ∙ ap (option_map key) there.1 ∙ ap Some (found_key c xs x is))
+
+  -- Where no two are of one channel, each is what is found of its channel.
+  at_key : (xs : List X) (k : ℕ) (x : X) → slice_get xs k ≡ Some x → (k < length (map key xs)) × ((d : ChannelId) → get_or (map key xs) k d ≡ key x)
+  at_key [] k x is = absurd (cc)
+  at_key (y ∷ ys) zero x is = let same : y ≡ x = cc in (omega arith, λ d. ap key same)
+  at_key (y ∷ ys) (suc k) x is = let rest = at_key ys k x is in (omega (arith, rest.0), rest.1)
+
+  pub found_here : (xs : List X) → AllPairs (λ c d. c ≢ d) (map key xs) → (k : ℕ) (x : X) → slice_get xs k ≡ Some x → found (key x) xs ≡ Some x
+  found_here [] distinct k x is = absurd (cc)
+  found_here (y ∷ ys) distinct zero x is = let same : y ≡ x = cc in cond-true _ _ _ (is_same_of (key y) (key x) (ap key same)) ∙ ap Some same
+  found_here (y ∷ ys) distinct (suc k) x is =
+      let at = at_key ys k x is in
+      cond-false _ _ _ (is_other (key y) (key x) (λ e. distinct 0 (suc k) (key y) (omega arith) (omega (arith, at.0)) (e ∙ sym (at.1 (key y)))))
+      ∙ found_here ys (λ i j d less within e. distinct (suc i) (suc j) d (omega (arith, less)) (omega (arith, within)) e) k x is

@@ -14,3 +14,4 @@ mod Dealt
 mod Queueing
 mod Parts
 mod Covering
+mod Backlogs

@@ -7,7 +7,7 @@ use Rattle.credit_reader.specs.declared.reader.SentKind.{SentKind}
 use Rattle.credit_reader.specs.Senders.{is_same}
 use Rattle.reader_state.specs.declared.entry.ReaderEntry.{ReaderEntry}
 use Rattle.reader_state.specs.declared.entry.ReaderEntry.TheVariants.{Ready, Sent, Told, Asked, Granted, Resumed}
-use Rattle.reader_state.specs.Standing.{may_make, MayEnterAs, sent_on, credit_on, resumptions_on}
+use Rattle.reader_state.specs.Standing.{may_make, MayEnterAs, sent_on, credit_on, resumptions_on, told_last_from, told_last}
 use Rattle.reader_state.proofs.Histories.{eqb_comm, entries_of-append, by-cons, by-append, history_keeps}
 
 -- ---- what lists of entries tell, one after another
@@ -98,3 +98,34 @@ credit_by channels history c legal = told_by (credit_on c) (λ n m. n + m) (cred
 
 pub resumptions_by : (channels : List ChannelId) (history : List (ℕ × ReaderEntry)) (c : ChannelId) → IsHistory (MayEnterAs channels) history → resumptions_on c (entries_of history) ≡ resumptions_on c (by 1 history)
 resumptions_by channels history c legal = told_by (resumptions_on c) (λ n m. n + m) (resumptions_on-append c) 1 (none_resumed c) channels history legal
+
+-- ---- the backlog that was told last
+
+pub told_from-append : (c : ChannelId) (n : ℕ) (xs ys : List ReaderEntry) → told_last_from c n (xs ++ ys) ≡ told_last_from c (told_last_from c n xs) ys
+told_from-append c n [] ys = refl
+told_from-append c n (Ready d head backlog ∷ xs) ys = told_from-append c (cond (is_same d c) backlog n) xs ys
+told_from-append c n (Sent d what head backlog ∷ xs) ys = told_from-append c (cond (is_same d c) backlog n) xs ys
+told_from-append c n (Told d ∷ xs) ys = told_from-append c n xs ys
+told_from-append c n (Asked d k ∷ xs) ys = told_from-append c n xs ys
+told_from-append c n (Granted d k ∷ xs) ys = told_from-append c n xs ys
+told_from-append c n (Resumed d ∷ xs) ys = told_from-append c n xs ys
+
+none_told : (c : ChannelId) (n m : ℕ) (e : ReaderEntry) → may_make m e ≡ true → eqb 0 m ≡ false → told_last_from c n (e ∷ []) ≡ n
+none_told c n m (Ready d head backlog) makes other = made_by 0 m makes other
+none_told c n m (Sent d what head backlog) makes other = made_by 0 m makes other
+none_told c n m (Told d) makes other = refl
+none_told c n m (Asked d k) makes other = refl
+none_told c n m (Granted d k) makes other = refl
+none_told c n m (Resumed d) makes other = refl
+
+pub backlog_by : (channels : List ChannelId) (history : List (ℕ × ReaderEntry)) (c : ChannelId) → IsHistory (MayEnterAs channels) history → told_last c (entries_of history) ≡ told_last c (by 0 history)
+backlog_by channels history c legal = history_keeps (MayEnterAs channels) (λ h. told_last c (entries_of h) ≡ told_last c (by 0 h)) refl (λ h x same may.
+    ap (told_last c) (entries_of-append h (x ∷ [])) ∙ told_from-append c 0 (entries_of h) (x.1 ∷ []) ∙ ap (λ n. told_last_from c n (x.1 ∷ [])) same
+    ∙ last (told_last c (by 0 h)) x may.0 ∙ sym (ap (told_last c) (by-append 0 h (x ∷ [])) ∙ told_from-append c 0 (by 0 h) (by 0 (x ∷ [])))) history legal
+  where
+    last : (n : ℕ) (x : ℕ × ReaderEntry) → may_make x.0 x.1 ≡ true → told_last_from c n (x.1 ∷ []) ≡ told_last_from c n (by 0 (x ∷ []))
+    last n x makes =
+        (elim (eqb 0 x.0) as (λ b. eqb 0 x.0 ≡ b → told_last_from c n (x.1 ∷ []) ≡ told_last_from c n (cond b (x.1 ∷ []) [])) [
+          | true ↦ λ own. refl
+          | false ↦ λ other. none_told c n x.0 x.1 makes other
+        ] refl) ∙ sym (ap (told_last_from c n) (by-cons 0 x []))

@@ -8,7 +8,7 @@ use Rattle.flow_defs.specs.declared.task.Head.{Head}
 use Rattle.credit_reader.specs.declared.reader.Reader.{Reader}
 use Rattle.credit_reader.specs.declared.reader.SentKind.{SentKind}
 use Rattle.credit_reader.specs.declared.reader.SentKind.TheVariants as kinds
-use Rattle.credit_reader.specs.declared.reader.TheConstants.{CREDIT_MAX}
+use Rattle.flow_defs.specs.Limits.{credit_max}
 use Rattle.credit_reader.specs.Readers as readers
 use Rattle.credit_reader.specs.Senders.{Sender, sender_of, is_same, reader_of, MayHappen, happened, has_sent}
 use Rattle.credit_reader.specs.Answers.{due_first}
@@ -51,7 +51,7 @@ with_reader c happening l = record l { sender = happened c happening l.sender }
 
 -- How much of the early credit of a channel fits now: the credit of a reader has a greatest number.
 abbrev pub fitting : ChannelId → Ledger → ℕ
-fitting c l = min (option_map_or (λ e. e.credit) (early_of c l) 0) (CREDIT_MAX - option_map_or (λ r. r.credit) (reader_of c l.sender.readers) CREDIT_MAX)
+fitting c l = min (option_map_or (λ e. e.credit) (early_of c l) 0) (credit_max - option_map_or (λ r. r.credit) (reader_of c l.sender.readers) credit_max)
 
 -- So much of the early credit of a channel is given to its reader.
 abbrev pub credit_given : ChannelId → ℕ → Ledger → Ledger
@@ -105,11 +105,11 @@ is_requested c l = option_map_or (λ r. r.requested) (reader_of c l.sender.reade
 -- Which entry may come: a channel is requested once, gets credit and is resumed only after that, and only the reader whose turn it
 -- is sends, data only where it has credit.
 abbrev pub MayEnter : Ledger → ReaderEntry → Type 0
-MayEnter l (Ready c head backlog) = IsSomeAnd (reader_of c l.sender.readers) (λ r. backlog ≤ CREDIT_MAX)
-MayEnter l (Sent c what head backlog) = (slice_get l.sender.queue 0 ≡ Some c) × MayHappen c (readers.Sent what head backlog) l.sender × (backlog ≤ CREDIT_MAX)
+MayEnter l (Ready c head backlog) = IsSomeAnd (reader_of c l.sender.readers) (λ r. backlog ≤ credit_max)
+MayEnter l (Sent c what head backlog) = (slice_get l.sender.queue 0 ≡ Some c) × MayHappen c (readers.Sent what head backlog) l.sender × (backlog ≤ credit_max)
 MayEnter l (Told c) = IsSomeAnd (due_first l.sender) (λ r. r.channel ≡ c)
-MayEnter l (Asked c n) = MayHappen c (readers.Asked n) l.sender × (n ≤ CREDIT_MAX)
-MayEnter l (Granted c n) = (is_requested c l ≡ true) × (1 ≤ n) × (n ≤ CREDIT_MAX)
+MayEnter l (Asked c n) = MayHappen c (readers.Asked n) l.sender × (n ≤ credit_max)
+MayEnter l (Granted c n) = (is_requested c l ≡ true) × (1 ≤ n) × (n ≤ credit_max)
 MayEnter l (Resumed c) = is_requested c l ≡ true
 
 -- Early credit is still kept of a channel whose end was sent, and an early resumption likewise.

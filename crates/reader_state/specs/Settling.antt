@@ -5,7 +5,7 @@ use Rattle.flow_defs.specs.declared.task.ChannelId.{ChannelId}
 use Rattle.flow_defs.specs.declared.cause.PeerFault.{PeerFault}
 use Rattle.flow_defs.specs.declared.cause.PeerFault.TheVariants as peer
 use Rattle.credit_reader.specs.declared.reader.SentKind.{SentKind}
-use Rattle.credit_reader.specs.declared.reader.TheConstants.{CREDIT_MAX}
+use Rattle.flow_defs.specs.Limits.{credit_max}
 use Rattle.credit_reader.specs.Readers.{Granted, cost}
 use Rattle.credit_reader.specs.Senders.{Sender, reader_of, happened}
 use Rattle.reader_state.specs.declared.state.Early.{Early}
@@ -23,7 +23,7 @@ abbrev pub asked : ChannelId → Sender → Bool
 asked c s = option_map_or (λ r. r.requested) (reader_of c s.readers) false
 
 abbrev pub room_for : ChannelId → Sender → ℕ
-room_for c s = CREDIT_MAX - option_map_or (λ r. r.credit) (reader_of c s.readers) CREDIT_MAX
+room_for c s = credit_max - option_map_or (λ r. r.credit) (reader_of c s.readers) credit_max
 
 -- So much more credit for the reader of a channel.
 abbrev pub with_credit : ChannelId → ℕ → Sender → Sender

@@ -57,3 +57,30 @@ resumptions_on c (Told d ∷ es) = resumptions_on c es
 resumptions_on c (Asked d n ∷ es) = resumptions_on c es
 resumptions_on c (Granted d n ∷ es) = resumptions_on c es
 resumptions_on c (Resumed d ∷ es) = if is_same d c then 1 + resumptions_on c es else resumptions_on c es
+
+-- The backlog that the reader of a channel was told last, with what stands first or with an item that was sent; before that a first
+-- number, and at the beginning 0.
+abbrev pub told_last_from : ChannelId → ℕ → List ReaderEntry → ℕ
+told_last_from c n [] = n
+told_last_from c n (Ready d head backlog ∷ es) = told_last_from c (if is_same d c then backlog else n) es
+told_last_from c n (Sent d what head backlog ∷ es) = told_last_from c (if is_same d c then backlog else n) es
+told_last_from c n (Told d ∷ es) = told_last_from c n es
+told_last_from c n (Asked d credit ∷ es) = told_last_from c n es
+told_last_from c n (Granted d credit ∷ es) = told_last_from c n es
+told_last_from c n (Resumed d ∷ es) = told_last_from c n es
+
+abbrev pub told_last : ChannelId → List ReaderEntry → ℕ
+told_last c es = told_last_from c 0 es
+
+-- The backlogs that are announced on a channel, in order: each is what its reader was told last.
+abbrev pub announced_from : ChannelId → ℕ → List ReaderEntry → List ℕ
+announced_from c n [] = []
+announced_from c n (Ready d head backlog ∷ es) = announced_from c (if is_same d c then backlog else n) es
+announced_from c n (Sent d what head backlog ∷ es) = announced_from c (if is_same d c then backlog else n) es
+announced_from c n (Told d ∷ es) = if is_same d c then n ∷ announced_from c n es else announced_from c n es
+announced_from c n (Asked d credit ∷ es) = announced_from c n es
+announced_from c n (Granted d credit ∷ es) = announced_from c n es
+announced_from c n (Resumed d ∷ es) = announced_from c n es
+
+abbrev pub announced_on : ChannelId → List ReaderEntry → List ℕ
+announced_on c es = announced_from c 0 es

@@ -12,7 +12,7 @@ use Rattle.credit_reader.specs.Senders.{reader_of}
 use Rattle.reader_state.specs.declared.state.Early.{Early}
 use Rattle.reader_state.specs.declared.entry.ReaderEntry.{ReaderEntry}
 use Rattle.reader_state.specs.Ledgers.{KEPT_MAX, early_of, is_end}
-use Rattle.reader_state.specs.Standing.{MayEnterAs, sent_on, credit_on, resumptions_on}
+use Rattle.reader_state.specs.Standing.{MayEnterAs, sent_on, credit_on, resumptions_on, told_last}
 use Rattle.reader_state.specs.Turning.{IsOneOf, ledger_after}
 
 -- A legal history of the readers of these channels.
@@ -58,9 +58,15 @@ NotesEnd c es r e = e.ended ≡ list_any is_end (sent_on c es)
 abbrev pub CountsItems : ChannelId → List ReaderEntry → Reader → Early → Type 0
 CountsItems c es r e = r.sequence ≡ length (sent_on c es) % 2 ^ 32
 
--- What was sent, and the credit and the resumptions that came, are told by the own entries of the pass that makes them.
+-- The backlog is the number that was told last.
+abbrev pub KeepsBacklog : ChannelId → List ReaderEntry → Reader → Early → Type 0
+KeepsBacklog c es r e = r.backlog ≡ told_last c es
+
+-- What was sent, the backlog that was told last, and the credit and the resumptions that came, are told by the own entries of the pass
+-- that makes them.
 pub record PassesTell (channels : List ChannelId) (history : List (ℕ × ReaderEntry)) (c : ChannelId) : Type 0 where
   pub sent : sent_on c (entries_of history) ≡ sent_on c (by 0 history)
+  pub backlog : told_last c (entries_of history) ≡ told_last c (by 0 history)
   pub credit : credit_on c (entries_of history) ≡ credit_on c (by 1 history)
   pub resumptions : resumptions_on c (entries_of history) ≡ resumptions_on c (by 1 history)
 

@@ -1,6 +1,6 @@
 -- What a pass has seen of the readers between its turns.
-use Rattle.std.specs.Prelude.{◌≡◌, ◌≢◌, ℕ, true, false, List, [], ◌∷◌, ◌++◌, slice_get, Some, Result, Ok, Err}
-use Rattle.std.specs.Option.{option_map_or}
+use Rattle.std.specs.Prelude.{◌≡◌, ◌≢◌, ℕ, true, false, List, [], ◌∷◌, ◌++◌, slice_get, Option, Some, None, Result, Ok, Err}
+use Rattle.std.specs.Option.{option_map, option_map_or}
 use Rattle.turn_cell.specs.declared.cell.TurnCell.{TurnCell}
 use Rattle.turn_cell.specs.declared.pass.Pass.{Pass}
 use Rattle.turn_cell.specs.History.{entries_of}
@@ -10,11 +10,13 @@ use Rattle.flow_defs.specs.declared.task.Head.{Head}
 use Rattle.flow_defs.specs.declared.task.Head.TheVariants.{Nothing}
 use Rattle.flow_defs.specs.declared.cause.PeerFault.{PeerFault}
 use Rattle.flow_defs.specs.declared.cause.PeerFault.TheVariants as peer
+use Rattle.credit_reader.specs.declared.reader.Told.{Told as Announced}
+use Rattle.credit_reader.specs.Answers.{due_first, told_of}
 use Rattle.credit_reader.specs.Senders.{is_same, is_able, reader_of}
 use Rattle.reader_state.specs.declared.entry.ReaderEntry.{ReaderEntry}
 use Rattle.reader_state.specs.declared.entry.ReaderEntry.TheVariants.{Ready, Sent, Told, Asked, Granted, Resumed}
 use Rattle.reader_state.specs.Ledgers.{Ledger, channels_of, replayed, is_requested, IsOverdueCredit, IsOverdueResumption, HasNoneOverdue}
-use Rattle.reader_state.specs.Standing.{StandsFor}
+use Rattle.reader_state.specs.Standing.{StandsFor, told_last}
 
 abbrev pub ReaderCell : Type 0
 ReaderCell = TurnCell Ledger ReaderEntry (List ChannelId)
@@ -55,6 +57,18 @@ HeadsStay channels before now = (c : ChannelId) → head_told channels c now ≡
 pub record HeadsChange (channels : List ChannelId) (c : ChannelId) (head : Head) (before now : List (ℕ × ReaderEntry)) : Type 0 where
   pub told : head_told channels c now ≡ head
   pub others : (d : ChannelId) → is_same d c ≡ false → head_told channels d now ≡ head_told channels d before
+
+-- An announcement is made in the turn in which it is the first that is due, and tells the backlog that the pass told its reader last.
+pub record AnnouncedFirst (channels : List ChannelId) (before after : ReaderPass) (told : Announced) : Type 0 where
+  pub history : List (ℕ × ReaderEntry)
+  pub entered : seen after ≡ history ++ (0, Told told.channel) ∷ []
+  pub due : option_map told_of (due_first (ledger_after channels history).sender) ≡ Some told
+  pub backlog : told_last told.channel (mine before) ≡ told.backlog
+
+-- What a turn announces: nothing only where nothing is due.
+abbrev pub AnnouncesDue : List ChannelId → ReaderPass → ReaderPass → Option Announced → Type 0
+AnnouncesDue channels before after None = due_first (ledger_after channels (seen after)).sender ≡ None
+AnnouncesDue channels before after (Some told) = AnnouncedFirst channels before after told
 
 -- It is a pass of this cell with this number.
 abbrev pub IsReaderPass : ReaderCell → ℕ → ReaderPass → Type 0

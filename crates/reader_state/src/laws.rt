@@ -1,5 +1,5 @@
 //! The laws of the readers of a connection. Each function does nothing; what it ensures is the law.
-ghost use Rattle.reader_state.specs.Theorems.{ChannelsHaveParts, AfterEachHistory, CoversData, CoversBarriers, NotesEnd, CountsItems, AllPassesTell};
+ghost use Rattle.reader_state.specs.Theorems.{ChannelsHaveParts, AfterEachHistory, CoversData, CoversBarriers, NotesEnd, CountsItems, KeepsBacklog, AllPassesTell};
 
 /// After every legal history each channel has a reader and an early part.
 pub fn channels_have_parts()
@@ -20,6 +20,11 @@ pub fn resumptions_cover_barriers()
 pub fn sent_items_are_noted()
     ensures ends { AfterEachHistory NotesEnd }
     ensures numbers { AfterEachHistory CountsItems }
+{}
+
+/// The backlog of a reader is the number that it was told last.
+pub fn backlog_is_told()
+    ensures { AfterEachHistory KeepsBacklog }
 {}
 
 /// What a pass does is told by its own entries.

@@ -2,7 +2,7 @@
 ghost use Rattle.std.specs.Prelude.{◌≡◌, ◌≤◌, None, Some, [], slice_get, IsSome, IsTrue, IfOk, IfErr, IfSome, IfNone, OnOk, OnErr, false};
 ghost use Rattle.flow_defs.specs.declared.cause.PeerFault.TheVariants.{Channel};
 ghost use Rattle.std.specs.Option.{option_map};
-ghost use Rattle.credit_reader.specs.declared.reader.TheConstants.{CREDIT_MAX};
+ghost use Rattle.flow_defs.specs.Limits.{credit_max};
 ghost use Rattle.credit_reader.specs.Senders.{AreDistinct, reader_of, is_able};
 ghost use Rattle.credit_reader.specs.Answers.{due_first, told_of};
 ghost use Rattle.reader_state.specs.declared.entry.ReaderEntry.TheVariants.{Ready, Sent, Told as WasTold, Asked, Granted, Resumed};
@@ -73,7 +73,7 @@ impl ReaderState {
     /// Tells the reader of a channel what stands first there, and how many data buffers wait.
     pub fn ready(&mut self, channel: ChannelId, head: Head, backlog: u32)
         requires known { IsSome (reader_of channel self.old.sender.readers) }
-        requires fits { backlog ≤ CREDIT_MAX }
+        requires fits { backlog ≤ credit_max }
         ensures { self.new ≡ after self.old (Ready channel head backlog) }
     {
         self.readers.ready(channel, head, backlog);
@@ -108,16 +108,18 @@ impl ReaderState {
     /// The announcement of a backlog that is due first, in the order of the channels. It is then made.
     pub fn announce(&mut self) -> Option<Told>
         ensures due { result ≡ option_map told_of (due_first self.old.sender) }
-        ensures fits { IfSome result (λ told. (1 ≤ told.backlog) × (told.backlog ≤ CREDIT_MAX)) }
+        ensures fits { IfSome result (λ told. (1 ≤ told.backlog) × (told.backlog ≤ credit_max)) }
+        ensures own { IfSome result (λ told. option_map told_of (reader_of told.channel self.old.sender.readers) ≡ Some told) }
         ensures told { IfSome result (λ told. self.new ≡ after self.old (WasTold told.channel)) }
         ensures none { IfNone result (self.new ≡ self.old) }
     {
+        readers_are_in_order(&self.readers);
         self.readers.announce()
     }
 
     /// Takes a partition request, with the credit to begin with.
     pub fn request(&mut self, channel: ChannelId, credit: u32) -> Result<(), PeerFault>
-        requires { credit ≤ CREDIT_MAX }
+        requires { credit ≤ credit_max }
         ensures { Took (Asked channel credit) self.old self.new result }
     {
         match self.readers.request(channel, credit) {
@@ -128,7 +130,7 @@ impl ReaderState {
 
     /// Takes more credit, in buffers, and gives what fits.
     pub fn grant(&mut self, channel: ChannelId, credit: u32) -> Result<(), PeerFault>
-        requires { (1 ≤ credit) × (credit ≤ CREDIT_MAX) }
+        requires { (1 ≤ credit) × (credit ≤ credit_max) }
         ensures { Took (Granted channel credit) self.old self.new result }
     {
         let Some(kept) = self.find(channel) else {

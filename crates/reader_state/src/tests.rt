@@ -1,7 +1,7 @@
 // The readers of two channels, call by call and turn by turn.
 ghost use Rattle.std.specs.Prelude.{◌≡◌, ◌+◌, ◌<◌, ◌≤◌, [], ◌∷◌, ◌++◌, length, IsTrue};
 ghost use Rattle.credit_reader.specs.Senders.{is_able};
-ghost use Rattle.credit_reader.specs.declared.reader.TheConstants.{CREDIT_MAX};
+ghost use Rattle.flow_defs.specs.Limits.{credit_max};
 ghost use Rattle.turn_cell.specs.Passes.{passes_of};
 ghost use Rattle.turn_cell.specs.Closing.{AreFresh};
 ghost use Rattle.reader_state.specs.Turning.{channels_in, IsOneOf, IsReaderPass};
@@ -139,7 +139,7 @@ fn keeps(state: &ReaderState, place: usize, credit: u64, resumptions: u64) -> bo
 }
 
 fn tells(state: &mut ReaderState, channel: ChannelId, head: Head, backlog: u32) -> bool
-    requires { backlog ≤ CREDIT_MAX }
+    requires { backlog ≤ credit_max }
 {
     let is_known = state.find(channel).is_some();
     if is_known {
@@ -154,7 +154,7 @@ fn sends(
     head: Head,
     backlog: u32,
 ) -> Option<(ChannelId, u32)>
-    requires { backlog ≤ CREDIT_MAX }
+    requires { backlog ≤ credit_max }
 {
     let channel = state.next()?;
     if !has_credit(state, channel, what) {

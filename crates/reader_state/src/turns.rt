@@ -5,10 +5,10 @@ ghost use Rattle.turn_cell.specs.History.{StartsWith};
 ghost use Rattle.turn_cell.specs.Passes.{IsPassOf, IsTurnOf, HasEntered, mine, number, seen};
 ghost use Rattle.flow_defs.specs.declared.task.Head.TheVariants.{Buffer};
 ghost use Rattle.credit_reader.specs.Readers.{cost};
-ghost use Rattle.credit_reader.specs.declared.reader.TheConstants.{CREDIT_MAX};
+ghost use Rattle.flow_defs.specs.Limits.{credit_max};
 ghost use Rattle.reader_state.specs.declared.entry.ReaderEntry.TheVariants.{Ready, Sent, Told as WasTold, Asked, Granted, Resumed};
 ghost use Rattle.reader_state.specs.Standing.{sent_on};
-ghost use Rattle.reader_state.specs.Turning.{channels_in, head_told, CanSend, HeadsStay, HeadsChange, IsOneOf, IsReaderPass, StandsIn, TookMessage, LookedForOverdue};
+ghost use Rattle.reader_state.specs.Turning.{channels_in, head_told, CanSend, HeadsStay, HeadsChange, IsOneOf, IsReaderPass, StandsIn, AnnouncesDue, TookMessage, LookedForOverdue};
 ghost use Rattle.reader_state.specs.Settling.{answer_of, first_overdue};
 
 use crate::entry::ReaderEntry;
@@ -30,7 +30,7 @@ pub fn tell_ready<R: Wait>(
 )
     requires pass { IsReaderPass cell.now 0 pass.old }
     requires known { IsOneOf channel (channels_in cell.now) }
-    requires fits { backlog ≤ CREDIT_MAX }
+    requires fits { backlog ≤ credit_max }
     ensures pass { IsReaderPass cell.now 0 pass.new }
     ensures told { mine pass.new ≡ mine pass.old ++ Ready channel head backlog ∷ [] }
     ensures heads { HeadsChange (channels_in cell.now) channel head (seen pass.old) (seen pass.new) }
@@ -73,7 +73,7 @@ pub fn tell_sent<R: Wait>(
     requires can { CanSend (channels_in cell.now) channel (seen pass.old) }
     // Data were told to stand first, so that their credit is there.
     requires kind { cost what ≡ 1 → head_told (channels_in cell.now) channel (seen pass.old) ≡ Buffer }
-    requires fits { backlog ≤ CREDIT_MAX }
+    requires fits { backlog ≤ credit_max }
     ensures pass { IsReaderPass cell.now 0 pass.new }
     ensures number { result ≡ length (sent_on channel (mine pass.old)) % 2 ^ 32 }
     ensures told { mine pass.new ≡ mine pass.old ++ Sent channel what head backlog ∷ [] }
@@ -94,8 +94,9 @@ pub fn next_to_announce<R: Wait>(
     requires { IsReaderPass cell.now 0 pass.old }
     ensures pass { IsReaderPass cell.now 0 pass.new }
     ensures told { mine pass.new ≡ mine pass.old ++ option_to_list (option_map (λ told. WasTold told.channel) result) }
+    ensures due { AnnouncesDue (channels_in cell.now) pass.old pass.new result }
     ensures heads { HeadsStay (channels_in cell.now) (seen pass.old) (seen pass.new) }
-    ensures fits { IfSome result (λ told. (1 ≤ told.backlog) × (told.backlog ≤ CREDIT_MAX)) }
+    ensures fits { IfSome result (λ told. (1 ≤ told.backlog) × (told.backlog ≤ credit_max)) }
     ensures known { IfSome result (λ told. IsOneOf told.channel (channels_in cell.now)) }
 {
     let mut turn = cell.enter(rt, pass);
@@ -120,7 +121,7 @@ pub fn take_request<R: Wait>(
     credit: u32,
 ) -> Result<(), PeerFault>
     requires pass { IsReaderPass cell.now 1 pass.old }
-    requires fits { credit ≤ CREDIT_MAX }
+    requires fits { credit ≤ credit_max }
     ensures pass { IsReaderPass cell.now 1 pass.new }
     ensures took { TookMessage (channels_in cell.now) (Asked channel credit) pass.old pass.new result }
 {
@@ -147,7 +148,7 @@ pub fn take_credit<R: Wait>(
     credit: u32,
 ) -> Result<(), PeerFault>
     requires pass { IsReaderPass cell.now 1 pass.old }
-    requires fits { (1 ≤ credit) × (credit ≤ CREDIT_MAX) }
+    requires fits { (1 ≤ credit) × (credit ≤ credit_max) }
     ensures pass { IsReaderPass cell.now 1 pass.new }
     ensures took { TookMessage (channels_in cell.now) (Granted channel credit) pass.old pass.new result }
 {

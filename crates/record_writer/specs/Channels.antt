@@ -3,7 +3,7 @@
 use Rattle.std.specs.Prelude.{◌≡◌, ◌≢◌, ℕ, suc, ◌≤◌, false, List, [], ◌∷◌, ◌++◌, length, Option, Some, None, IfSome, IsSomeAnd}
 use Rattle.turn_cell.specs.Passes.{IsPassOf, IsSamePass, opened_with, number, seen}
 use Rattle.local_pool.specs.Helds.{pool_of}
-use Rattle.segment_pool.specs.declared.segment.TheConstants.{SEGMENT_MIN}
+use Rattle.flow_defs.specs.Limits.{segment_min}
 use Rattle.segment_pool.specs.Pools.{size_of}
 use Rattle.subpartition.specs.declared.entry.SendEntry.{SendEntry}
 use Rattle.subpartition.specs.declared.entry.SendEntry.TheVariants.{Put, PutInline, Finish}
@@ -20,7 +20,7 @@ pub record IsTaskPass (cell : SendCell) (pass : SendPass) : Type 0 where
 -- A segment of this size of which so many bytes are filled, or none.
 abbrev pub IsFilledTo : ℕ → Option (List ℕ) → ℕ → Type 0
 IsFilledTo size None len = len ≡ 0
-IsFilledTo size (Some segment) len = (length segment ≡ size) × (len ≤ size) × (SEGMENT_MIN ≤ size)
+IsFilledTo size (Some segment) len = (length segment ≡ size) × (len ≤ size) × (segment_min ≤ size)
 
 abbrev pub IsPart : ℕ → Part → Type 0
 IsPart size part = IsFilledTo size part.segment part.len

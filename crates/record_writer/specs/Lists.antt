@@ -7,7 +7,7 @@ use Rattle.conn_parts.specs.Shares.{mine_at}
 use Rattle.flow_defs.specs.declared.job.Job.{Job}
 use Rattle.record_writer.specs.declared.supply.Supply.{Supply}
 use Rattle.record_writer.specs.declared.channels.Channels.{Channels}
-use Rattle.record_writer.specs.Writers.{AreOwnAt, bytes_in, ways_on}
+use Rattle.record_writer.specs.Writers.{AreOwnAt, HaveSizeAt, bytes_in, ways_on}
 use Rattle.record_writer.specs.Channels.{IsPart, IsSupply}
 
 -- The own entries at channel c, what is in the buffer that is being filled there, and all that was laid down for it.
@@ -25,6 +25,7 @@ pub record AreChannels (size many : ℕ) (channels : Channels) : Type 0 where
   pub own : AreOwnAt channels.subpartitions.now channels.first channels.stride many channels.passes.items
   pub parts_are : length channels.parts.items ≡ many
   pub parts : All (IsPart size) channels.parts.items
+  pub sizes : HaveSizeAt channels.subpartitions.now channels.first channels.stride many size
 
 -- They are channels of the same cells.
 pub record AreSame (channels channels' : Channels) : Type 0 where

@@ -12,10 +12,8 @@ use Rattle.flow_defs.specs.declared.job.Exchange.{Exchange}
 use Rattle.flow_defs.specs.declared.job.Exchange.TheVariants.{Hash, Rebalance, Forward}
 use Rattle.flow_defs.specs.Jobs.{tasks, exchange}
 use Rattle.flow_defs.specs.Records.{all_encoded}
-use Rattle.local_pool.specs.declared.held.HeldPool.{HeldPool}
-use Rattle.local_pool.specs.declared.held.NoEntry.{NoEntry}
-use Rattle.segment_pool.specs.declared.pool.Pool.{Pool}
-use Rattle.segment_pool.specs.declared.segment.TheConstants.{SEGMENT_MIN}
+pub use Rattle.local_pool.specs.Lending.{PoolCell}
+use Rattle.flow_defs.specs.Limits.{segment_min}
 use Rattle.subpartition.specs.declared.entry.SendEntry.{SendEntry}
 use Rattle.subpartition.specs.declared.entry.SendEntry.TheVariants.{Put, PutInline, Finish, Take, Size}
 use Rattle.subpartition.specs.Queues.{Queue}
@@ -30,9 +28,6 @@ SendCell = TurnCell Queue SendEntry ℕ
 
 abbrev pub SendPass : Type 0
 SendPass = Pass Queue SendEntry ℕ
-
-abbrev pub PoolCell : Type 0
-PoolCell = TurnCell HeldPool NoEntry (Pool × ℕ)
 
 -- ---- the channels of a task
 
@@ -80,7 +75,7 @@ HaveSizeAt cells first stride many size = (c : ℕ) (cell : SendCell) → c < ma
 -- least. The first number is the size of segments, the second the length of a buffer right before these entries.
 abbrev pub AreCutFrom : ℕ → Option ℕ → List SendEntry → Type 0
 AreCutFrom size before [] = ⊤
-AreCutFrom size before (Put bytes ∷ es) = IfSome before (λ n. SEGMENT_MIN ≤ n) × (length bytes ≤ size) × AreCutFrom size (Some (length bytes)) es
+AreCutFrom size before (Put bytes ∷ es) = IfSome before (λ n. segment_min ≤ n) × (length bytes ≤ size) × AreCutFrom size (Some (length bytes)) es
 AreCutFrom size before (PutInline k ∷ es) = AreCutFrom size None es
 AreCutFrom size before (Finish ∷ es) = AreCutFrom size None es
 AreCutFrom size before (Take ∷ es) = AreCutFrom size before es

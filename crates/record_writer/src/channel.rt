@@ -1,7 +1,7 @@
 // One channel of a writer.
 ghost use Rattle.std.specs.Prelude.{◌≡◌, ◌+◌, ◌≤◌, ◌++◌, [], ◌∷◌, false, length, take, drop, OnOk, OnErr, IfOk, IfErr};
 ghost use Rattle.flow_defs.specs.Records.{encoded, IsShort};
-ghost use Rattle.turn_cell.specs.Passes.{mine};
+ghost use Rattle.turn_cell.specs.Passes.{mine, opened_with};
 ghost use Rattle.subpartition.specs.declared.entry.SendEntry.TheVariants.{Put, PutInline, Finish};
 ghost use Rattle.subpartition.specs.Queues.{bytes_of};
 ghost use Rattle.subpartition.specs.Sending.{is_finished};
@@ -28,6 +28,7 @@ fn put_waiting<R: Wait>(
 ) -> Result<(), Filled>
     requires supply { IsSupply supply.old }
     requires pass { IsTaskPass cell.now pass.old }
+    requires size { length filled.segment ≡ (opened_with cell.now).size }
     requires open_end { is_finished (mine pass.old) ≡ false }
     ensures supply { IsSupply supply.new × IsSameSupply supply.old supply.new }
     ensures pass { IsTaskPass cell.now pass.new }
@@ -59,6 +60,7 @@ pub(crate) fn put_part<R: Wait>(
     part: &mut Part,
 ) -> Result<(), WriterStopped>
     requires supply { IsSupply supply.old }
+    requires size { (opened_with cell.now).size ≡ supply.old.size }
     requires pass { IsTaskPass cell.now pass.old }
     requires part { IsPart supply.old.size part.old }
     requires open_end { is_finished (mine pass.old) ≡ false }
@@ -124,6 +126,7 @@ fn put_if_full<R: Wait>(
     part: &mut Part,
 ) -> Result<(), WriterStopped>
     requires supply { IsSupply supply.old }
+    requires size { (opened_with cell.now).size ≡ supply.old.size }
     requires pass { IsTaskPass cell.now pass.old }
     requires part { IsPart supply.old.size part.old }
     requires is_open { IsOpenAt supply.old.size (mine pass.old) }
@@ -151,6 +154,7 @@ pub(crate) fn lay_down<R: Wait>(
     line: &[u8],
 ) -> Result<(), WriterStopped>
     requires supply { IsSupply supply.old }
+    requires size { (opened_with cell.now).size ≡ supply.old.size }
     requires pass { IsTaskPass cell.now pass.old }
     requires part { IsPart supply.old.size part.old }
     requires is_open { IsOpenAt supply.old.size (mine pass.old) }
@@ -213,6 +217,7 @@ pub(crate) fn close<R: Wait>(
     part: &mut Part,
 ) -> Result<(), WriterStopped>
     requires supply { IsSupply supply.old }
+    requires size { (opened_with cell.now).size ≡ supply.old.size }
     requires pass { IsTaskPass cell.now pass.old }
     requires part { IsPart supply.old.size part.old }
     requires is_open { IsOpenAt supply.old.size (mine pass.old) }
@@ -267,6 +272,7 @@ pub(crate) fn mark<R: Wait>(
     k: u64,
 ) -> Result<(), WriterStopped>
     requires supply { IsSupply supply.old }
+    requires size { (opened_with cell.now).size ≡ supply.old.size }
     requires pass { IsTaskPass cell.now pass.old }
     requires part { IsPart supply.old.size part.old }
     requires is_open { IsOpenAt supply.old.size (mine pass.old) }

@@ -1,14 +1,13 @@
 // Where a writer's segments come from, and what stops it while it waits.
 ghost use Rattle.std.specs.Prelude.{◌≡◌, ◌≤◌, length, All, IfSome, IfOk, OnErr};
-ghost use Rattle.segment_pool.specs.declared.segment.TheConstants.{SEGMENT_MIN};
+ghost use Rattle.flow_defs.specs.Limits.{segment_min};
 ghost use Rattle.record_writer.specs.Channels.{IsPart, IsSupply, IsSameSupply, HasSeenFault};
 
 use crate::part::Part;
-use crate::turns::{give_in_turn, request_in_turn};
 use crate::writer::WriterStopped;
 use conn_parts::Watch;
 use flow_defs::ListOf;
-use local_pool::HeldPool;
+use local_pool::{HeldPool, give_in_turn, request_in_turn};
 use outside::{Pause, StopState};
 use segment_pool::Segment;
 use std::sync::Wait;
@@ -32,7 +31,7 @@ impl<'a, 'p> Supply<'a, 'p> {
         requires { IsSupply self.old }
         ensures supply { IsSupply self.new × IsSameSupply self.old self.new }
         ensures stop_pass { self.new.stop_pass ≡ self.old.stop_pass }
-        ensures size { IfSome result (λ segment. (length segment ≡ self.new.size) × (SEGMENT_MIN ≤ self.new.size)) }
+        ensures size { IfSome result (λ segment. (length segment ≡ self.new.size) × (segment_min ≤ self.new.size)) }
     {
         let Some(pass) = self.pool_pass.take() else {
             unreachable!()
@@ -50,7 +49,7 @@ impl<'a, 'p> Supply<'a, 'p> {
     pub(crate) fn segment<R: Wait>(&mut self, rt: &R) -> Result<Segment, WriterStopped>
         requires { IsSupply self.old }
         ensures supply { IsSupply self.new × IsSameSupply self.old self.new }
-        ensures size { IfOk result (λ segment. (length segment ≡ self.new.size) × (SEGMENT_MIN ≤ self.new.size)) }
+        ensures size { IfOk result (λ segment. (length segment ≡ self.new.size) × (segment_min ≤ self.new.size)) }
         ensures stopped { OnErr result (HasSeenFault self.new) }
     {
         let mut watch = Watch::new();

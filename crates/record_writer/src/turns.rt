@@ -1,16 +1,12 @@
 // Turns of a task at the cells of its partition.
-ghost use Rattle.std.specs.Prelude.{◌≡◌, [], ◌∷◌, ◌++◌, false, length, OnOk, IfErr, IfSome, IsTrue, IsFalse};
+ghost use Rattle.std.specs.Prelude.{◌≡◌, [], ◌∷◌, ◌++◌, false, length, OnOk, IfErr, IsTrue, IsFalse};
 ghost use Rattle.turn_cell.specs.Passes.{IsPassOf, IsTurnOf, HasEntered, opened_with, mine, number, seen};
-ghost use Rattle.local_pool.specs.Helds.{pool_of};
-ghost use Rattle.segment_pool.specs.Pools.{size_of};
 ghost use Rattle.subpartition.specs.declared.entry.SendEntry.TheVariants.{Put, PutInline, Finish};
 ghost use Rattle.subpartition.specs.Queues.{bytes_of, last_bytes};
 ghost use Rattle.subpartition.specs.Sending.{is_finished};
 ghost use Rattle.subpartition.specs.Standing.{StandsFor};
 ghost use Rattle.record_writer.specs.Channels.{IsTaskPass, IsNextAt};
 
-use local_pool::HeldPool;
-use segment_pool::Segment;
 use std::marker::Brand;
 use std::sync::Wait;
 use subpartition::laws::{calls_add_entries, calls_tell};
@@ -38,6 +34,7 @@ pub(crate) fn put_in_turn<R: Wait>(
 ) -> Result<(), Filled>
     requires pass { IsTaskPass cell.now pass.old }
     requires open_end { is_finished (mine pass.old) ≡ false }
+    requires size { length filled.segment ≡ (opened_with cell.now).size }
     ensures pass { IsTaskPass cell.now pass.new }
     ensures entered { OnOk result (mine pass.new ≡ mine pass.old ++ Put (bytes_of filled) ∷ []) }
     ensures refused { IfErr result (λ back. (back ≡ filled) × (mine pass.new ≡ mine pass.old)) }
@@ -114,38 +111,4 @@ pub(crate) fn finish_in_turn<R: Wait>(
     turn.state().finish();
     turn.leave::<Brand>();
     true
-}
-
-/// Asks a pool for a segment in a turn, and hands the pass back.
-pub(crate) fn request_in_turn<'p, R: Wait>(
-    rt: &R,
-    cell: &TurnCell<HeldPool<'p>>,
-    pass: Pass<HeldPool<'p>>,
-) -> (Pass<HeldPool<'p>>, Option<Segment>)
-    requires { IsPassOf cell.now pass }
-    ensures pass { IsPassOf cell.now result.0 }
-    ensures size { IfSome result.1 (λ segment. length segment ≡ size_of (pool_of (opened_with cell.now))) }
-{
-    let (mut lender, turn) = cell.enter_owned(rt, pass);
-    let segment = lender.request(rt);
-    (turn.leave_as_is(lender), segment)
-}
-
-/// Gives a segment back to a pool in a turn, and hands the pass back. Where the pool has lent none, the
-/// segment is dropped.
-pub(crate) fn give_in_turn<'p, R: Wait>(
-    rt: &R,
-    cell: &TurnCell<HeldPool<'p>>,
-    pass: Pass<HeldPool<'p>>,
-    segment: Segment,
-) -> Pass<HeldPool<'p>>
-    requires pass { IsPassOf cell.now pass }
-    requires size { length segment ≡ size_of (pool_of (opened_with cell.now)) }
-    ensures { IsPassOf cell.now result }
-{
-    let (mut lender, turn) = cell.enter_owned(rt, pass);
-    if lender.lent() > 0 {
-        lender.give(rt, segment);
-    }
-    turn.leave_as_is(lender)
 }

@@ -6,17 +6,16 @@ use Rattle.turn_cell.specs.History.{by}
 use Rattle.segment_pool.specs.declared.stock.Stock.{Stock}
 use Rattle.segment_pool.specs.declared.stock.Terms.{Terms}
 use Rattle.segment_pool.specs.declared.stock.Dealing.{Dealing}
-use Rattle.segment_pool.specs.declared.stock.TheConstants.{SEGMENTS_MAX}
-use Rattle.segment_pool.specs.declared.segment.TheConstants.{SEGMENT_MIN, SEGMENT_MAX}
+use Rattle.flow_defs.specs.Limits.{segments_max, segment_min, segment_max}
 use Rattle.segment_pool.specs.Counting.{is_claim, is_give, balance, lent_in}
 
 -- A pool may have so many segments.
 abbrev pub IsTotal : ℕ → Type 0
-IsTotal total = (1 ≤ total) × (total ≤ SEGMENTS_MAX)
+IsTotal total = (1 ≤ total) × (total ≤ segments_max)
 
 -- A segment may have so many bytes.
 abbrev pub IsSize : ℕ → Type 0
-IsSize size = (SEGMENT_MIN ≤ size) × (size ≤ SEGMENT_MAX)
+IsSize size = (segment_min ≤ size) × (size ≤ segment_max)
 
 -- A pool may be opened on these terms.
 abbrev pub AreLegal : Terms → Type 0

@@ -19,7 +19,7 @@ pub struct Segment {
 impl Model for Segment {
     ghost use Rattle.std.specs.Prelude.{ℕ, ◌≤◌, List, length};
     ghost use Rattle.std.specs.Coded.{coded_ℕ, coded_list};
-    ghost use Rattle.segment_pool.specs.declared.segment.TheConstants.{SEGMENT_MIN, SEGMENT_MAX};
+    ghost use Rattle.flow_defs.specs.Limits.{segment_min, segment_max};
 
     ghost Value = { List ℕ };
 
@@ -27,18 +27,18 @@ impl Model for Segment {
 
     ghost view = { λ s. s.bytes.items };
 
-    ghost invariant = { λ s. (SEGMENT_MIN ≤ length s.bytes.items) × (length s.bytes.items ≤ SEGMENT_MAX) };
+    ghost invariant = { λ s. (segment_min ≤ length s.bytes.items) × (length s.bytes.items ≤ segment_max) };
 }
 
 impl Segment {
     ghost use Rattle.std.specs.Prelude.{◌≡◌, ◌≤◌, length, IfOk};
     ghost use Rattle.std.specs.Borrow.{sem};
     ghost use Rattle.segment_pool.specs.Lends.{lends_segment};
-    ghost use Rattle.segment_pool.specs.declared.segment.TheConstants.{SEGMENT_MIN, SEGMENT_MAX};
+    ghost use Rattle.flow_defs.specs.Limits.{segment_min, segment_max};
 
     // A segment of so many zeros.
     pub(crate) fn of(alloc: Global, size: u32) -> Result<Self, AllocError>
-        requires { (SEGMENT_MIN ≤ size) × (size ≤ SEGMENT_MAX) }
+        requires { (segment_min ≤ size) × (size ≤ segment_max) }
         ensures { IfOk result (λ segment. length segment ≡ size) }
     {
         Ok(Segment {
@@ -49,7 +49,7 @@ impl Segment {
     /// Its bytes, which are `size` of its pool.
     pub fn bytes(&self) -> &[u8]
         ensures bytes { result.now ≡ self.now }
-        ensures size { (SEGMENT_MIN ≤ length result.now) × (length result.now ≤ SEGMENT_MAX) }
+        ensures size { (segment_min ≤ length result.now) × (length result.now ≤ segment_max) }
     {
         &self.bytes
     }
@@ -58,7 +58,7 @@ impl Segment {
     pub fn bytes_mut(&mut self) -> &mut [u8]
         ensures* writes_back { sem 𝓛 (lends_segment self.entry result) }
         ensures value { result.now ≡ self.old }
-        ensures size { (SEGMENT_MIN ≤ length result.now) × (length result.now ≤ SEGMENT_MAX) }
+        ensures size { (segment_min ≤ length result.now) × (length result.now ≤ segment_max) }
     {
         self.bytes.as_mut_slice()
     }

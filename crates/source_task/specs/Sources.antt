@@ -13,8 +13,7 @@ use Rattle.flow_defs.specs.Records.{IsShort}
 use Rattle.plain_machine.specs.Emitting.{receiver_on}
 use Rattle.checkpoint_laws.specs.Chapters.{task_at}
 use Rattle.outside.specs.Faults.{HasRisen}
-use Rattle.job_plan.specs.Limits.{HasLongLine}
-use Rattle.job_plan.specs.declared.limits.TheConstants.{SOURCE_MAX}
+use Rattle.job_plan.specs.Limits.{HasLongLine, source_max}
 use Rattle.conn_parts.specs.Shares.{mine_at}
 use Rattle.conn_parts.specs.Stopping.{StopCell}
 use Rattle.record_writer.specs.Partitions.{IsPartitionOf}
@@ -38,7 +37,7 @@ IsSourceCause a left fell rose (causes.Input source) = (source ≡ a) × HasRise
 IsSourceCause a left fell rose causes.Keeper = ⊥
 IsSourceCause a left fell rose causes.Link = ⊥
 IsSourceCause a left fell rose (causes.LongLine source) = (source ≡ a) × IfSome left (λ bytes. HasLongLine (lines bytes))
-IsSourceCause a left fell rose (causes.BigSource source) = (source ≡ a) × IfSome left (λ bytes. SOURCE_MAX < length bytes)
+IsSourceCause a left fell rose (causes.BigSource source) = (source ≡ a) × IfSome left (λ bytes. source_max < length bytes)
 IsSourceCause a left fell rose causes.BigImage = ⊥
 IsSourceCause a left fell rose (causes.OverCredit channel received announced) = ⊥
 IsSourceCause a left fell rose (causes.Peer fault) = ⊥
@@ -57,7 +56,7 @@ pub record SourceAccount (job : Job) (a size : ℕ) (every : Option ℕ) (passes
   pub front : IfSome left (λ bytes. StartsWith (lines bytes) (all_of groups ++ (rest ++ begun)))
   pub at_end : has_ended sent ≡ true → IfSome left (λ bytes. lines bytes ≡ all_of groups) × (rest ++ begun ≡ [])
   pub done : cause ≡ causes.Done → (has_ended sent ≡ true) × ((c : ℕ) → c < ways_on job 0 → FinishedOn (receiver_on job 0 a) groups (end_of job 0 a c) size [] (mine_at c passes))
-  pub within : cause ≡ causes.Done → IfSome left (λ bytes. length bytes ≤ SOURCE_MAX)
+  pub within : cause ≡ causes.Done → IfSome left (λ bytes. length bytes ≤ source_max)
   pub never_falls : fell ≤ rose
   pub cause_is : IsSourceCause a left fell rose cause
 

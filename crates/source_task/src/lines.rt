@@ -4,6 +4,7 @@ ghost use Rattle.flow_defs.specs.declared.job.Job.{Job};
 ghost use Rattle.flow_defs.specs.Records.{IsShort};
 ghost use Rattle.source_task.specs.Emitting.{IsReading, HasOwnPasses, IsSameSource, HasEmitted, LineEmitted, BreaksFor};
 ghost use Rattle.source_task.specs.Cutting.{IsUnderWay, GoesOn, BrokeOff, HasEndedLines, IsLineFault};
+ghost use Rattle.flow_defs.specs.Limits.{record_max};
 
 use crate::{LineFault, SourceOutput};
 use flow_defs::{RECORD_MAX, cut_line};
@@ -103,7 +104,7 @@ impl Lines {
     // Adds these bytes to the line.
     fn begin_line(&mut self, bytes: &[u8]) -> Result<(), LineFault>
         ensures line { OnOk result (self.new.line.items ≡ self.old.line.items ++ bytes.now) }
-        ensures too_long { result ≡ Err LineFault.TooLong → RECORD_MAX < length (self.old.line.items ++ bytes.now) }
+        ensures too_long { result ≡ Err LineFault.TooLong → record_max < length (self.old.line.items ++ bytes.now) }
         ensures not_stopped { result ≡ Err LineFault.Stopped → ⊥ }
     {
         if bytes.len() > RECORD_MAX - self.line.len() {
@@ -129,7 +130,7 @@ impl Lines {
         ensures own { HasOwnPasses output.new }
         ensures reading { OnOk result (IsReading output.new) }
         ensures short { OnOk result (IsShort (self.old.line.items ++ bytes.now)) }
-        ensures too_long { result ≡ Err LineFault.TooLong → RECORD_MAX < length (self.old.line.items ++ bytes.now) }
+        ensures too_long { result ≡ Err LineFault.TooLong → record_max < length (self.old.line.items ++ bytes.now) }
         ensures stopped { result ≡ Err LineFault.Stopped → IsLineFault output.new [] LineFault.Stopped }
         ensures emitted { (job : Job) (size : ℕ) (ended : List (List ℕ)) → HasEmitted job size output.old ended →
             LineEmitted job size output.new ended (self.old.line.items ++ bytes.now) result }

@@ -1,7 +1,9 @@
 -- What a queue stands for after each call, and what its calls tell.
 use Rattle.std.proofs.Common.{◌≡◌, ℕ, suc, Bool, true, false, cond, eq-eqb, List, [], ◌∷◌, ◌++◌, length, map, drop, refl, sym, ap, subst, ◌∙◌, append-nil, length-append, arith}
 use Rattle.std.specs.Prelude.{slice_get, option_to_list}
+use Rattle.std.specs.Prelude.{All}
 use Rattle.std.proofs.lemmas.List.{map-append}
+use Rattle.std.proofs.lemmas.List.Elements.{All-drop, All-nil, All-push}
 use Rattle.flow_defs.specs.declared.task.BarrierKind.TheVariants.{Inline}
 use Rattle.flow_defs.specs.declared.parcel.Parcel.{Parcel}
 use Rattle.turn_cell.specs.History.{by}
@@ -11,7 +13,7 @@ use Rattle.subpartition.specs.declared.item.Item.{Item}
 use Rattle.subpartition.specs.declared.item.Item.TheVariants.{Buffer, Barrier, End}
 use Rattle.turn_cell.specs.History.{IsHistory, entries_of}
 use Rattle.subpartition.specs.Sending.{Outbox, take_first, sent_one, outbox, barriers_put, is_finished, filled_to, MaySend, may_send, MaySendAs}
-use Rattle.subpartition.specs.Queues.{Queue, bytes_of, parcel_of, with_buffer, with_barrier, with_end, without_first, filling_to}
+use Rattle.subpartition.specs.Queues.{Queue, HasLength, bytes_of, parcel_of, with_buffer, with_barrier, with_end, without_first, filling_to}
 use Rattle.subpartition.specs.Standing.{StandsFor}
 use Rattle.subpartition.specs.Theorems.{NewStandsForNone, PutAdds, PutInlineAdds, FinishAdds, TakeAdds, SizeAdds, LastIsPut, TakeTells, TaskTellsQueue}
 use Rattle.subpartition.proofs.Items.{last_bytes-buffer}
@@ -27,6 +29,7 @@ new_stands_for_none size room = record {
   barriers = refl;
   finished = refl;
   fill_size = refl;
+  segments = All-nil (HasLength size);
 }
 
 -- the outbox after one more entry
@@ -60,15 +63,16 @@ or_true : (b : Bool) → cond b true true ≡ true
 or_true true = refl
 or_true false = refl
 
--- Of an entry these four are to be shown: that it was allowed, and what it makes of the items, the barriers and the end.
+-- Of an entry these are to be shown: that it was allowed, what it makes of the items, the barriers and the end, and that the segments keep their size.
 stands_more : (old new : Queue) (history : List (ℕ × SendEntry)) (n : ℕ) (e : SendEntry) → StandsFor old history →
     new.size ≡ old.size → may_send n e ≡ true → MaySend old.size (entries_of history) e →
     map parcel_of new.items ≡ (sent_one (outbox (entries_of history)) e).items →
     new.barriers ≡ length (barriers_put (entries_of history) ++ barriers_put (e ∷ [])) →
     new.finished ≡ cond (is_finished (entries_of history)) true (is_finished (e ∷ [])) →
     new.fill_size ≡ filled_to old.fill_size (e ∷ []) →
+    All (HasLength new.size) new.items →
     StandsFor new (history ++ (n, e) ∷ [])
-stands_more old new history n e stands size by may items barriers finished fill = record {
+stands_more old new history n e stands size by may items barriers finished fill segments = record {
   legal = subst (λ s. IsHistory (MaySendAs s) (history ++ (n, e) ∷ [])) (sym size) (history_more (MaySendAs old.size) history (n, e) stands.legal (by, may));
   items = items ∙ ap (λ (o : Outbox). o.items) (sym (outbox-more history n e));
   barriers = barriers ∙ ap length (sym (barriers-more history n e));
@@ -76,6 +80,7 @@ stands_more old new history n e stands size by may items barriers finished fill 
   fill_size =
       fill ∙ ap (λ m. filled_to m (e ∷ [])) (stands.fill_size ∙ ap (λ s. filled_to s (entries_of history)) (sym size))
       ∙ sym (ap (filled_to new.size) (entries_of-append history ((n, e) ∷ [])) ∙ filled_to-append new.size (entries_of history) (e ∷ []));
+  segments = segments;
 }
 
 items_more : (queue : Queue) (history : List (ℕ × SendEntry)) (item : Item) → StandsFor queue history →
@@ -89,9 +94,10 @@ same_finished : (queue : Queue) (history : List (ℕ × SendEntry)) → StandsFo
 same_finished queue history stands = stands.finished ∙ sym (or_false (is_finished (entries_of history)))
 
 pub put_adds : PutAdds
-put_adds queue history number filled stands task open_end =
+put_adds queue history number filled stands task open_end size =
     stands_more queue (with_buffer queue filled) history number (Put (bytes_of filled)) stands refl (eq-eqb number 0 task) (sym stands.finished ∙ open_end)
     (items_more queue history (Buffer filled) stands) (same_barriers queue history stands) (same_finished queue history stands) refl
+    (All-push (HasLength queue.size) queue.items (Buffer filled) stands.segments size)
 
 pub put_inline_adds : PutInlineAdds
 put_inline_adds queue history number k stands task open_end next =
@@ -100,12 +106,13 @@ put_inline_adds queue history number k stands task open_end next =
     (record { unfinished = sym stands.finished ∙ open_end; next = next ∙ ap suc stands.barriers })
     (items_more queue history (Barrier k Inline) stands)
     (next ∙ ap suc stands.barriers ∙ (let one : suc (length bs) ≡ length (bs ++ (k, Inline) ∷ []) = omega (arith, length-append bs ((k, Inline) ∷ [])) in one))
-    (same_finished queue history stands) refl
+    (same_finished queue history stands) refl (All-push (HasLength queue.size) queue.items (Barrier k Inline) stands.segments tt)
 
 pub finish_adds : FinishAdds
 finish_adds queue history number stands task open_end =
     stands_more queue (with_end queue) history number Finish stands refl (eq-eqb number 0 task) (sym stands.finished ∙ open_end)
     (items_more queue history End stands) (same_barriers queue history stands) (sym (or_true (is_finished (entries_of history)))) refl
+    (All-push (HasLength queue.size) queue.items End stands.segments tt)
 
 map-drop_one : (items : List Item) (before : List Parcel) (ps : List Parcel) → map parcel_of items ≡ ps → map parcel_of (drop 1 items) ≡ (take_first before ps).items
 map-drop_one [] before ps e = subst (λ z. [] ≡ (take_first before z).items) e refl
@@ -116,11 +123,12 @@ take_adds queue history number stands sender =
     let o = outbox (entries_of history) in
     stands_more queue (without_first queue) history number Take stands refl (eq-eqb number 1 sender) tt
     (map-drop_one queue.items o.taken o.items stands.items) (same_barriers queue history stands) (same_finished queue history stands) refl
+    (All-drop (HasLength queue.size) 1 queue.items stands.segments)
 
 pub size_adds : SizeAdds
 size_adds queue history number n stands teller low high =
     stands_more queue (filling_to queue n) history number (Size n) stands refl (eq-eqb number 2 teller) (low, high)
-    stands.items (same_barriers queue history stands) (same_finished queue history stands) refl
+    stands.items (same_barriers queue history stands) (same_finished queue history stands) refl stands.segments
 
 taken_first : (items : List Item) (before ps : List Parcel) → map parcel_of items ≡ ps → (take_first before ps).taken ≡ before ++ map parcel_of (option_to_list (slice_get items 0))
 taken_first [] before ps e = subst (λ z. (take_first before z).taken ≡ before ++ []) e (sym (append-nil before))

@@ -1,6 +1,6 @@
 -- A subpartition as contracts see it. The items are those of Flink's subpartitions, data buffers with events
 -- in line; the backlog is Flink's too. How many items fit is this project's own choice.
-use Rattle.std.specs.Prelude.{ℕ, suc, Bool, true, false, List, [], ◌∷◌, ◌++◌, take, drop}
+use Rattle.std.specs.Prelude.{◌≡◌, ℕ, suc, Bool, true, false, List, [], ◌∷◌, ◌++◌, length, take, drop}
 use Rattle.flow_defs.specs.declared.task.BarrierKind.TheVariants.{Inline}
 use Rattle.flow_defs.specs.declared.task.Head.{Head}
 use Rattle.flow_defs.specs.declared.task.Head.TheVariants.{Nothing, Buffer as BufferHead, Event}
@@ -29,6 +29,12 @@ abbrev pub parcel_of : Item → Parcel
 parcel_of (Buffer filled) = Data (bytes_of filled)
 parcel_of (BarrierItem k kind) = Barrier k kind
 parcel_of EndItem = End
+
+-- The segment of a buffer has this length.
+abbrev pub HasLength : ℕ → Item → Type 0
+HasLength size (Buffer filled) = length filled.segment ≡ size
+HasLength size (BarrierItem k kind) = Unit {0}
+HasLength size EndItem = Unit {0}
 
 -- The data of the last item; none where it is no buffer.
 abbrev pub last_bytes : List Item → List ℕ

@@ -6,7 +6,7 @@ use Rattle.flow_defs.specs.declared.task.BarrierKind.{BarrierKind}
 use Rattle.flow_defs.specs.declared.task.BarrierKind.TheVariants.{Inline}
 use Rattle.flow_defs.specs.declared.parcel.Parcel.{Parcel}
 use Rattle.flow_defs.specs.declared.parcel.Parcel.TheVariants.{Data, Barrier, End}
-use Rattle.segment_pool.specs.declared.segment.TheConstants.{SEGMENT_MIN}
+use Rattle.flow_defs.specs.Limits.{segment_min}
 use Rattle.subpartition.specs.declared.entry.SendEntry.{SendEntry}
 use Rattle.subpartition.specs.declared.entry.SendEntry.TheVariants.{Put, PutInline, Finish, Take, Size}
 use Rattle.turn_cell.specs.History.{entries_of}
@@ -93,7 +93,7 @@ MaySend size es (Put bytes) = is_finished es ≡ false
 MaySend size es (PutInline k) = MayPutBarrier es k
 MaySend size es Finish = is_finished es ≡ false
 MaySend size es Take = ⊤
-MaySend size es (Size n) = (SEGMENT_MIN ≤ n) × (n ≤ size)
+MaySend size es (Size n) = (segment_min ≤ n) × (n ≤ size)
 
 -- Which pass makes which entry: pass 0, the task, puts; pass 1, the sender, takes; pass 2 tells sizes.
 abbrev pub may_send : ℕ → SendEntry → Bool

@@ -4,7 +4,7 @@ use Rattle.flow_defs.specs.declared.parcel.Parcel.{Parcel}
 use Rattle.flow_defs.specs.declared.parcel.Parcel.TheVariants.{End}
 use Rattle.flow_defs.specs.Parcels.{data_of, barriers_of, has_end}
 use Rattle.turn_cell.specs.History.{by, StartsWith}
-use Rattle.segment_pool.specs.declared.segment.TheConstants.{SEGMENT_MIN}
+use Rattle.flow_defs.specs.Limits.{segment_min}
 use Rattle.subpartition.specs.declared.entry.SendEntry.{SendEntry}
 use Rattle.subpartition.specs.declared.entry.SendEntry.TheVariants.{Put, PutInline, Finish, Take, Size}
 use Rattle.subpartition.specs.declared.item.Filled.{Filled}
@@ -74,7 +74,7 @@ NewStandsForNone = (size room : ℕ) → StandsFor (empty_queue size room) []
 
 -- Each call adds its entry, where its pass may make it.
 abbrev pub PutAdds : Type 0
-PutAdds = (queue : Queue) (history : List (ℕ × SendEntry)) (number : ℕ) (filled : Filled) → StandsFor queue history → number ≡ 0 → queue.finished ≡ false → StandsFor (with_buffer queue filled) (history ++ (number, Put (bytes_of filled)) ∷ [])
+PutAdds = (queue : Queue) (history : List (ℕ × SendEntry)) (number : ℕ) (filled : Filled) → StandsFor queue history → number ≡ 0 → queue.finished ≡ false → length filled.segment ≡ queue.size → StandsFor (with_buffer queue filled) (history ++ (number, Put (bytes_of filled)) ∷ [])
 
 abbrev pub PutInlineAdds : Type 0
 PutInlineAdds = (queue : Queue) (history : List (ℕ × SendEntry)) (number k : ℕ) → StandsFor queue history → number ≡ 0 → queue.finished ≡ false → k ≡ suc queue.barriers → StandsFor (with_barrier queue k) (history ++ (number, PutInline k) ∷ [])
@@ -86,7 +86,7 @@ abbrev pub TakeAdds : Type 0
 TakeAdds = (queue : Queue) (history : List (ℕ × SendEntry)) (number : ℕ) → StandsFor queue history → number ≡ 1 → StandsFor (without_first queue) (history ++ (number, Take) ∷ [])
 
 abbrev pub SizeAdds : Type 0
-SizeAdds = (queue : Queue) (history : List (ℕ × SendEntry)) (number n : ℕ) → StandsFor queue history → number ≡ 2 → SEGMENT_MIN ≤ n → n ≤ queue.size → StandsFor (filling_to queue n) (history ++ (number, Size n) ∷ [])
+SizeAdds = (queue : Queue) (history : List (ℕ × SendEntry)) (number n : ℕ) → StandsFor queue history → number ≡ 2 → segment_min ≤ n → n ≤ queue.size → StandsFor (filling_to queue n) (history ++ (number, Size n) ∷ [])
 
 -- What a take gives is what was taken next.
 abbrev pub TakeTells : Type 0

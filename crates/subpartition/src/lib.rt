@@ -14,4 +14,4 @@ mod turned;
 
 pub use entry::SendEntry;
 pub use item::{Filled, Item};
-pub use subpartition::{ROOM_MAX, Subpartition};
+pub use subpartition::Subpartition;

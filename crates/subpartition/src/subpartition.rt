@@ -8,9 +8,6 @@ use flow_defs::{BarrierKind, Head};
 use std::alloc::{AllocError, Global};
 use std::marker::Model;
 
-/// The most items for which a subpartition can have room.
-pub const ROOM_MAX: u32 = 2_147_483_647;
-
 /// What stands to be sent on a channel: data buffers, barriers and the end, in the order in which they
 /// travel, as in Flink's pipelined subpartitions. It has room for so many items, which `new` reserves;
 /// every other call takes constant time.
@@ -27,28 +24,26 @@ pub struct Subpartition {
 
 impl Model for Subpartition {
     ghost use Rattle.std.specs.Prelude.{◌≡◌, ◌≤◌};
-    ghost use Rattle.segment_pool.specs.declared.segment.TheConstants.{SEGMENT_MIN, SEGMENT_MAX};
-    ghost use Rattle.subpartition.specs.declared.subpartition.TheConstants.{ROOM_MAX};
+    ghost use Rattle.flow_defs.specs.Limits.{segment_min, segment_max, credit_max};
     ghost use Rattle.subpartition.specs.Queues.{Queue, backlog_of};
 
     ghost Value = { Queue };
 
     ghost view = { λ s. record { items = s.queue.items; barriers = s.last_barrier; finished = s.ended; size = s.segment_size; room = s.queue.capacity; fill_size = s.fill } };
 
-    ghost invariant = { λ s. (s.buffers ≡ backlog_of s.queue.items) × (s.queue.capacity ≤ ROOM_MAX) × (s.segment_size ≤ SEGMENT_MAX) × (SEGMENT_MIN ≤ s.fill) × (s.fill ≤ s.segment_size) };
+    ghost invariant = { λ s. (s.buffers ≡ backlog_of s.queue.items) × (s.queue.capacity ≤ credit_max) × (s.segment_size ≤ segment_max) × (segment_min ≤ s.fill) × (s.fill ≤ s.segment_size) };
 }
 
 impl Subpartition {
     ghost use Rattle.std.specs.Prelude.{◌≡◌, ◌+◌, ◌<◌, ◌≤◌, false, length, slice_get, IfOk};
-    ghost use Rattle.segment_pool.specs.declared.segment.TheConstants.{SEGMENT_MIN, SEGMENT_MAX};
-    ghost use Rattle.subpartition.specs.declared.subpartition.TheConstants.{ROOM_MAX};
+    ghost use Rattle.flow_defs.specs.Limits.{segment_min, segment_max, credit_max};
     ghost use Rattle.subpartition.specs.Queues.{backlog_of, head_of, empty_queue, with_buffer, with_barrier, with_end, without_first, filling_to};
 
-    /// An empty subpartition for segments of `size` bytes, with room for `room` items. At first buffers
-    /// are filled whole.
+    /// An empty subpartition for segments of `size` bytes, with room for `room` items, from 1 to
+    /// 2,147,483,647. At first buffers are filled whole.
     pub fn new(alloc: Global, size: u32, room: u32) -> Result<Self, AllocError>
-        requires size { (SEGMENT_MIN ≤ size) × (size ≤ SEGMENT_MAX) }
-        requires room { (1 ≤ room) × (room ≤ ROOM_MAX) }
+        requires size { (segment_min ≤ size) × (size ≤ segment_max) }
+        requires room { (1 ≤ room) × (room ≤ credit_max) }
         ensures { IfOk result (λ subpartition. subpartition ≡ empty_queue size room) }
     {
         Ok(Subpartition {
@@ -111,7 +106,7 @@ impl Subpartition {
     /// The size of segments, in bytes.
     pub fn size(&self) -> u32
         ensures size { result ≡ self.now.size }
-        ensures range { (SEGMENT_MIN ≤ result) × (result ≤ SEGMENT_MAX) }
+        ensures range { (segment_min ≤ result) × (result ≤ segment_max) }
     {
         self.segment_size
     }
@@ -120,7 +115,7 @@ impl Subpartition {
     #[tactic(auto, using(crate::proofs::Items::backlog_within))]
     pub fn backlog(&self) -> u32
         ensures backlog { result ≡ backlog_of self.now.items }
-        ensures most { result ≤ ROOM_MAX }
+        ensures most { result ≤ credit_max }
     {
         // Read so that it is known to be no more than the room.
         let _len = self.queue.len();
@@ -141,14 +136,14 @@ impl Subpartition {
     /// Up to how many bytes a buffer is filled: the desired buffer size of FLIP-183.
     pub fn fill_size(&self) -> u32
         ensures fill_size { result ≡ self.now.fill_size }
-        ensures range { (SEGMENT_MIN ≤ result) × (result ≤ self.now.size) }
+        ensures range { (segment_min ≤ result) × (result ≤ self.now.size) }
     {
         self.fill
     }
 
     /// From now on buffers are filled up to n bytes. Those that stand here stay as they are.
     pub fn set_fill_size(&mut self, n: u32)
-        requires { (SEGMENT_MIN ≤ n) × (n ≤ self.old.size) }
+        requires { (segment_min ≤ n) × (n ≤ self.old.size) }
         ensures { self.new ≡ filling_to self.old n }
     {
         self.fill = n;

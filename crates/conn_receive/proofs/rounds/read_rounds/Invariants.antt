@@ -1,6 +1,7 @@
 use Rattle.std.proofs.Common.{◌≡◌, ◌≤◌, true, None, []}
 use Rattle.turn_cell.specs.Passes.{number, mine, seen}
 use Rattle.outside.specs.Stops.{first_met}
+use Rattle.conn_receive.specs.Asking.{AskedForAll}
 use Rattle.conn_receive.specs.Taking.{AreLent, KeepsOthers, WentOn}
 use Rattle.conn_receive.proofs.rounds.read_rounds.Given as goal
 
@@ -8,6 +9,7 @@ abbrev pub invariant-loop-round : goal.invariant-loop-round
 invariant-loop-round g l = record {
   lent : AreLent l.cells l.passes;
   others : KeepsOthers l.initial.passes l.passes;
+  asked : AskedForAll l.cells.channels.now l.initial.passes l.passes;
   line : g.I.LinkIn.line l.input ≡ g.I.LinkIn.line l.initial.input;
   faults : g.I.LinkIn.faults l.initial.input ≤ g.I.LinkIn.faults l.input;
   ended : g.I.LinkIn.ended l.input ≡ g.I.LinkIn.ended l.initial.input;

@@ -1,6 +1,6 @@
 use Rattle.std.proofs.Common.{sym, ap, ◌∙◌}
-use Rattle.conn_send.specs.Fronts.{taken_in, front_after}
-use Rattle.conn_send.proofs.Lent.{sender_at, seen_was, own_now, seen_now, others_now}
+use Rattle.conn_send.specs.Fronts.{front_after, backlog_after}
+use Rattle.conn_send.proofs.Lent.{none_taken_at, sender_at, seen_was, own_now, seen_now, others_now}
 use Rattle.conn_send.proofs.places.look_at.Goals as goal
 
 pub look-requires : goal.look-requires
@@ -13,7 +13,7 @@ pub returns-clause-taken : goal.returns-clause-taken
 returns-clause-taken g c =
     let now = seen_now c.args.cells.now c.args.passes.now.items _ c.args.place _ _ c.as_mut_slice.ensures.value c.requires.passes c.requires.within c.index-cells-place.is c.index-as_mut_slice-place.is c.look.new.pass in
     let was = seen_was c.args.cells.now c.args.passes.now.items _ c.args.place _ _ c.as_mut_slice.ensures.value c.requires.passes c.requires.within c.index-cells-place.is c.index-as_mut_slice-place.is in
-    ap taken_in now ∙ c.look.ensures.taken ∙ ap taken_in (sym was)
+    none_taken_at _ _ _ _ was now c.look.ensures.taken
 
 pub returns-clause-stays : goal.returns-clause-stays
 returns-clause-stays g c = λ some.
@@ -25,6 +25,11 @@ pub returns-clause-front : goal.returns-clause-front
 returns-clause-front g c =
     let now = seen_now c.args.cells.now c.args.passes.now.items _ c.args.place _ _ c.as_mut_slice.ensures.value c.requires.passes c.requires.within c.index-cells-place.is c.index-as_mut_slice-place.is c.look.new.pass in
     ap front_after now ∙ c.look.ensures.front
+
+pub returns-clause-backlog : goal.returns-clause-backlog
+returns-clause-backlog g c =
+    let now = seen_now c.args.cells.now c.args.passes.now.items _ c.args.place _ _ c.as_mut_slice.ensures.value c.requires.passes c.requires.within c.index-cells-place.is c.index-as_mut_slice-place.is c.look.new.pass in
+    ap backlog_after now ∙ c.look.ensures.backlog
 
 pub returns-clause-others : goal.returns-clause-others
 returns-clause-others g c = others_now c.args.cells.now c.args.passes.now.items _ c.args.place _ _ c.as_mut_slice.ensures.value c.requires.passes c.requires.within c.index-cells-place.is c.index-as_mut_slice-place.is c.look.new.pass

@@ -1,4 +1,4 @@
-use Rattle.conn_send.proofs.Ends.{closes}
+use Rattle.conn_send.proofs.Ends.{closes, memory_stays}
 use Rattle.conn_send.proofs.send.send_items.Goals as goal
 
 pub returns-clause-account : goal.returns-clause-account
@@ -14,7 +14,17 @@ returns-clause-account g c =
         took = sends.sends.took;
         numbers = sends.sends.numbers;
         told = sends.sends.told;
+        backlogs = record {
+          behind = sends.sends.behind;
+          announced = sends.sends.announced;
+          stood = sends.sends.stood;
+          last = λ ne. sends.last (λ is. ne (memory_stays (out.sent c.send_all-cause.new.out) (out.sent c.end_half-cause.new.out) (out.faults c.send_all-cause.new.out) (out.faults c.end_half-cause.new.out)
+              c.send_all-cause.result c.end_half-cause.result c.end_half-cause.ensures.closed is));
+        };
         ends = λ is. sends.ends (closed.was_done is);
       };
       cause_is = closed.cause_is;
     }
+
+pub returns-clause-given : goal.returns-clause-given
+returns-clause-given g c = c.send_all-cause.ensures.gives

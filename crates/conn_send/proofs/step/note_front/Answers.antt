@@ -1,6 +1,5 @@
-use Rattle.std.proofs.Common.{length, length-set, ap, ◌∙◌}
 use Rattle.conn_parts.proofs.Lists.{refilled_set}
 use Rattle.conn_send.proofs.step.note_front.Goals as goal
 
 pub returns : goal.returns
-returns c = ap length (refilled_set c.args.told.now.items _ c.args.place _ c.as_mut_slice.ensures.value) ∙ length-set c.args.told.now.items c.args.place _
+returns c = refilled_set c.args.told.now.items _ c.args.place _ c.as_mut_slice.ensures.value

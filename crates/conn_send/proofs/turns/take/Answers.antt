@@ -1,11 +1,11 @@
 use Rattle.std.proofs.Common.{rules, ◌≡◌, [], ◌∷◌, ◌++◌, sym, ap, subst, ◌∙◌}
-use Rattle.std.specs.Prelude.{Some}
-use Rattle.turn_cell.specs.Passes.{number, seen}
+use Rattle.std.specs.Prelude.{Some, All}
+use Rattle.turn_cell.specs.Passes.{opened_with, number, seen}
 use Rattle.subpartition.specs.declared.entry.SendEntry.TheVariants.{Take}
-use Rattle.subpartition.specs.Queues.{Queue, parcel_of}
+use Rattle.subpartition.specs.Queues.{Queue, HasLength, parcel_of}
 use Rattle.subpartition.specs.Standing.{StandsFor}
-use Rattle.conn_send.specs.Fronts.{taken_in, front_after}
-use Rattle.conn_send.proofs.Fronts.{own_same, front_stays, front_is, no_first, head_taken, numbered}
+use Rattle.conn_send.specs.Fronts.{SendCell, taken_in, OneTaken, front_after, backlog_after}
+use Rattle.conn_send.proofs.Fronts.{own_same, front_stays, front_is, backlog_is, one_taken, no_first, head_taken, numbered, first_long}
 use Rattle.conn_send.proofs.turns.take.Goals as goal
 
 pub unreachable-requires : goal.unreachable-requires
@@ -33,9 +33,27 @@ returns-clause-taken g c =
     let stands = subst (λ q. StandsFor q (seen pass)) (sym c.state.ensures.value) entered.state.0 in
     let same = c.passes_tell.ensures.sender _ (seen before) (seen pass) stands.legal entered.seen own in
     let next = c.calls_tell.ensures.take queue (seen pass) (number pass) (Some c.in-Some.item) stands (sym c.in-Some.is ∙ c.take.ensures.first) in
-    let told : taken_in (seen c.leave.new.self.1.0) ≡ taken_in (seen before) ++ parcel_of c.in-Some.item ∷ [] =
+    let taken : taken_in (seen c.leave.new.self.1.0) ≡ taken_in (seen before) ++ parcel_of c.in-Some.item ∷ [] =
     ap taken_in c.leave.ensures.entered.1 ∙ next ∙ ap (λ ps. ps ++ parcel_of c.in-Some.item ∷ []) same in
+    let then : c.state-queue.result.now ≡ c.take.new.self = search rules in
+    let after = c.calls_add_entries.ensures.take queue (seen pass) (number pass) stands (entered.pass.0.0 ∙ c.requires.pass.1) in
+    let stood = subst (λ q. StandsFor q (seen pass ++ (number pass, Take) ∷ [])) (sym (then ∙ c.take.ensures.rest)) after in
+    let left : backlog_after (seen c.leave.new.self.1.0) ≡ c.backlog.result =
+    ap backlog_after c.leave.ensures.entered.1 ∙ backlog_is c.state-queue.result.now _ stood ∙ sym c.backlog.ensures.backlog in
+    let told : OneTaken (seen before) (seen c.leave.new.self.1.0) (parcel_of c.in-Some.item) c.backlog.result =
+    one_taken _ (seen before) (seen pass) (seen c.leave.new.self.1.0) (number pass) (parcel_of c.in-Some.item) c.backlog.result stands.legal entered.seen own c.requires.standing c.leave.ensures.entered.1 taken left in
     search (rules, told)
+
+pub returns-clause-backlog : goal.returns-clause-backlog
+returns-clause-backlog g c =
+    let pass = c.enter-turn.result.pass.now in let entered = c.enter-turn.ensures in let queue = c.state.result.now in
+    let stands = subst (λ q. StandsFor q (seen pass)) (sym c.state.ensures.value) entered.state.0 in
+    let then : c.state-queue.result.now ≡ c.take.new.self = search rules in
+    let after = c.calls_add_entries.ensures.take queue (seen pass) (number pass) stands (entered.pass.0.0 ∙ c.requires.pass.1) in
+    let stood = subst (λ q. StandsFor q (seen pass ++ (number pass, Take) ∷ [])) (sym (then ∙ c.take.ensures.rest)) after in
+    let left : backlog_after (seen c.leave.new.self.1.0) ≡ c.backlog.result =
+    ap backlog_after c.leave.ensures.entered.1 ∙ backlog_is c.state-queue.result.now _ stood ∙ sym c.backlog.ensures.backlog in
+    search (rules, left)
 
 pub returns-clause-was : goal.returns-clause-was
 returns-clause-was g c =
@@ -61,3 +79,10 @@ returns-clause-front g c =
     let told : front_after (seen c.leave.new.self.1.0) ≡ c.head.result =
     ap front_after c.leave.ensures.entered.1 ∙ front_is c.state-queue.result.now _ stood ∙ sym c.head.ensures in
     search (rules, told)
+
+pub returns-clause-size : goal.returns-clause-size
+returns-clause-size g c =
+    let pass = c.enter-turn.result.pass.now in let entered = c.enter-turn.ensures in let queue = c.state.result.now in
+    let stands = subst (λ q. StandsFor q (seen pass)) (sym c.state.ensures.value) entered.state.0 in
+    let size = ap (λ (q : Queue). q.size) c.state.ensures.value ∙ entered.state.1 ∙ ap (λ (k : SendCell). (opened_with k).size) entered.turn.1 in
+    first_long _ queue.items c.in-Some.item (subst (λ n. All (HasLength n) queue.items) size stands.segments) (sym c.take.ensures.first ∙ c.in-Some.is)

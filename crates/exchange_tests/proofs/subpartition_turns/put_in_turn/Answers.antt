@@ -1,6 +1,8 @@
-use Rattle.std.proofs.Common.{rules, ◌≡◌, [], ◌∷◌, ◌++◌, sym, ap, subst, ◌∙◌}
+use Rattle.std.proofs.Common.{rules, ◌≡◌, ℕ, [], ◌∷◌, ◌++◌, length, sym, ap, subst, ◌∙◌}
 use Rattle.turn_cell.specs.History.{by}
-use Rattle.turn_cell.specs.Passes.{number, seen, mine}
+use Rattle.turn_cell.specs.declared.cell.TurnCell.{TurnCell}
+use Rattle.turn_cell.specs.Passes.{number, seen, mine, opened_with}
+use Rattle.subpartition.specs.declared.entry.SendEntry.{SendEntry}
 use Rattle.subpartition.specs.declared.entry.SendEntry.TheVariants.{Put}
 use Rattle.subpartition.specs.Sending.{is_finished}
 use Rattle.subpartition.specs.Queues.{Queue, bytes_of, last_bytes}
@@ -23,7 +25,8 @@ leave_put-requires-clause-state g c =
     let own : by 0 (seen pass) ≡ mine c.args.pass.now = ap (λ n. by n (seen pass)) (sym (c.enter-turn.ensures.pass.0.0 ∙ c.requires.task)) ∙ c.enter-turn.ensures.turn.0.0.5 ∙ c.enter-turn.ensures.pass.0.1 in
     let told = c.calls_tell.ensures.task old (seen pass) before in
     let open_end = told.finished ∙ ap is_finished own ∙ c.requires.open_end in
-    let stands = c.calls_add_entries.ensures.put old (seen pass) (number pass) c.args.filled before (c.enter-turn.ensures.pass.0.0 ∙ c.requires.task) open_end in
+    let size : length c.args.filled.segment ≡ old.size = c.requires.size ∙ sym (ap (λ (queue : Queue). queue.size) entered ∙ c.enter-turn.ensures.state.1 ∙ ap (λ (cell : TurnCell Queue SendEntry ℕ). (opened_with cell).size) c.enter-turn.ensures.turn.1) in
+    let stands = c.calls_add_entries.ensures.put old (seen pass) (number pass) c.args.filled before (c.enter-turn.ensures.pass.0.0 ∙ c.requires.task) open_end size in
     let last : last_bytes c.put.new.self.items ≡ bytes_of c.args.filled = ap (λ (queue : Queue). last_bytes queue.items) c.put.ensures ∙ c.calls_tell.ensures.put old c.args.filled in
     subst (λ bytes. StandsFor c.put.new.self (seen pass ++ (number pass, Put bytes) ∷ [])) (sym last)
     (subst (λ queue. StandsFor queue (seen pass ++ (number pass, Put (bytes_of c.args.filled)) ∷ [])) (sym c.put.ensures) stands)

@@ -14,7 +14,7 @@ use Rattle.exchange_tests.proofs.subpartition_turns.send_in_threads.Goals as goa
 pub join-task-requires-after_bounds : goal.join-task-requires-after_bounds
 join-task-requires-after_bounds g c κs within =
     let made = two_made c.args.cell c.args.passes.items c.deal-sender.new.passes.items c.deal-task.new.passes.items c.deal-task.result c.deal-sender.result c.requires.passes.0 c.deal-sender.ensures.0 c.deal-task.ensures.0 c.requires.passes.1 in
-    ((made.0.0, made.0.1.0, made.0.1.2), (made.1.0, made.1.1.0, made.1.1.1))
+    ((made.0.0, made.0.1.0, made.0.1.2, c.requires.size), (made.1.0, made.1.1.0, made.1.1.1))
 
 pub close-left-requires : goal.close-left-requires
 close-left-requires g c =

@@ -1,9 +1,10 @@
-use Rattle.std.proofs.Common.{rules, ◌≡◌, [], ◌∷◌, ◌++◌, sym, ap, subst, ◌∙◌}
-use Rattle.turn_cell.specs.Passes.{number, seen, mine}
+use Rattle.std.proofs.Common.{rules, ◌≡◌, [], ◌∷◌, ◌++◌, length, sym, ap, subst, ◌∙◌}
+use Rattle.turn_cell.specs.Passes.{number, seen, mine, opened_with}
 use Rattle.subpartition.specs.declared.entry.SendEntry.TheVariants.{Put}
 use Rattle.subpartition.specs.Sending.{is_finished}
 use Rattle.subpartition.specs.Queues.{Queue, last_bytes}
 use Rattle.subpartition.specs.Standing.{StandsFor}
+use Rattle.conn_send.specs.Fronts.{SendCell}
 use Rattle.loops_tests.proofs.Dealt.{own_entries, open_put, buffer_put}
 use Rattle.loops_tests.proofs.conn_send_tests.put.Goals as goal
 
@@ -22,7 +23,9 @@ leave_put-requires-clause-state g c =
     let before = subst (λ queue. StandsFor queue (seen pass)) (sym entered) c.enter-turn.ensures.state.0 in
     let own = own_entries c.args.cell.now c.enter-turn.result.cell.now c.args.pass.now pass c.requires.task c.enter-turn.ensures.turn.0 c.enter-turn.ensures.pass.0 in
     let open_end = (c.calls_tell.ensures.task old (seen pass) before).finished ∙ ap is_finished own ∙ c.requires.open_end in
-    buffer_put c.calls_add_entries.ensures.put c.calls_tell.ensures.put old c.put.new.self _ (seen pass) (number pass) before (c.enter-turn.ensures.pass.0.0 ∙ c.requires.task) open_end c.put.ensures
+    let long : length c.args.segment ≡ old.size =
+    c.requires.size ∙ sym (ap (λ (k : SendCell). (opened_with k).size) c.enter-turn.ensures.turn.1) ∙ sym c.enter-turn.ensures.state.1 ∙ sym (ap (λ (queue : Queue). queue.size) entered) in
+    buffer_put c.calls_add_entries.ensures.put c.calls_tell.ensures.put old c.put.new.self _ (seen pass) (number pass) before (c.enter-turn.ensures.pass.0.0 ∙ c.requires.task) open_end (search (rules, long)) c.put.ensures
 
 pub returns-clause-open_end : goal.returns-clause-open_end
 returns-clause-open_end g c =

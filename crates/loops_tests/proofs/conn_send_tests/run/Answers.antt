@@ -1,8 +1,9 @@
-use Rattle.std.proofs.Common.{◌≡◌, ◌<◌, [], ◌∷◌, length, refl, sym, subst, ◌∙◌, arith}
+use Rattle.std.proofs.Common.{◌≡◌, ◌<◌, [], ◌∷◌, refl, sym, subst, ◌∙◌, arith}
 use Rattle.turn_cell.specs.Passes.{opened_with}
 use Rattle.segment_pool.specs.Pools.{size_of}
 use Rattle.local_pool.specs.Helds.{pool_of}
 use Rattle.conn_parts.specs.Shares.{AreOf, AreOwn}
+use Rattle.conn_send.specs.Fronts.{SendCell}
 use Rattle.loops_tests.proofs.Dealt.{all_one, of_one, own_one}
 use Rattle.loops_tests.proofs.conn_send_tests.run.Goals as goal
 
@@ -19,6 +20,7 @@ send_items-ended-requires-clause-share g c = let readers = c.shared_readers-read
   reader_is = readers.ensures.writer.0;
   new = readers.ensures.writer.1;
   subpartitions = subst (AreOwn 1 (sub.result.0 ∷ [])) (sym c.in_ok-takers.ensures) (own_one 1 sub.result.0 sub.result.2 sub.ensures.sender.0 sub.ensures.sender.1);
+  queue_sizes = all_one (λ (cell : SendCell). (opened_with cell).size ≡ 64) sub.result.0 sub.ensures.size;
   pools = c.fill.ensures.givers;
   sizes = all_one (λ cell. size_of (pool_of (opened_with cell)) ≡ 64) pool.result.0 (pool.ensures.size ∙ c.requires.pool.1);
   senders = all_one (λ d. d.from < 1) _ (omega arith);

@@ -18,6 +18,7 @@ returns-clause-channels g c =
             (cell_there old.subpartitions.now old.first old.stride (length old.passes.items) old.passes.items c.args.number c.index-self-self.result v.own c.requires.within) c.close.ensures.pass;
         parts_are = parts_many old.passes.items c.as_mut_slice.result.now old.parts.items c.as_mut_slice-2.result.now c.args.number c.index-as_mut_slice-number.result c.index-as_mut_slice-number-2.result c.as_mut_slice.ensures.value c.as_mut_slice-2.ensures.value c.requires.within many c.index-as_mut_slice-number.is c.index-as_mut_slice-number-2.is c.close.new.pass c.close.new.part ∙ v.parts_are;
         parts = parts_fit old.passes.items c.as_mut_slice.result.now old.parts.items c.as_mut_slice-2.result.now c.args.number c.index-as_mut_slice-number.result c.index-as_mut_slice-number-2.result c.as_mut_slice.ensures.value c.as_mut_slice-2.ensures.value c.requires.within many c.index-as_mut_slice-number.is c.index-as_mut_slice-number-2.is c.close.new.pass c.close.new.part c.args.supply.now.size v.parts c.close.ensures.part;
+        sizes = v.sizes;
       },
       record { cells = refl; first = refl; stride = refl },
     )

@@ -22,7 +22,7 @@ in_flight-same job c d same e =
     concat_below-ext (tasks job e) _ _ (λ a _. concat_below-ext (tasks job (suc e)) _ _ (λ b _.
     on_channel-same job e a b (c.flight e a b) (d.flight e a b) (same.flight e a b)))
 
-to_come-same : (job : Job) (lines : ℕ → List (List ℕ)) (c d : Cut) → SameCut job c d → (e : ℕ) → to_come job lines c e ≡ to_come job lines d e
+pub to_come-same : (job : Job) (lines : ℕ → List (List ℕ)) (c d : Cut) → SameCut job c d → (e : ℕ) → to_come job lines c e ≡ to_come job lines d e
 to_come-same job lines c d same e =
     ap (λ xs. xs ++ flat_map (reach job 0 e) (unread job lines c))
     (concat_below-ext (suc e) _ _ (λ i _. ap (flat_map (reach job i e)) (in_flight-same job c d same i)))

@@ -1,5 +1,5 @@
 -- The definitions at small inputs, computed.
-use Rattle.std.proofs.Common.{◌≡◌, ℕ, zero, suc, false, List, [], ◌∷◌, refl, arith}
+use Rattle.std.proofs.Common.{◌≡◌, ℕ, zero, suc, ◌<◌, ◌≤◌, false, List, [], ◌∷◌, refl, arith}
 use Rattle.std.specs.Prelude.{codes}
 use Rattle.flow_defs.specs.declared.job.Job.{Job}
 use Rattle.flow_defs.specs.declared.job.StageKind.TheVariants.{Words, Upper, Keep, Field}
@@ -20,6 +20,7 @@ use Rattle.std.specs.FinMap.{empty}
 use Rattle.plain_machine.specs.Weaving.{woven, rests, CanWeave}
 use Rattle.plain_machine.specs.Steps.{sent, taken, left, next}
 use Rattle.plain_machine.specs.Worth.{to_come, load}
+use Rattle.plain_machine.specs.Loads.{HasHeavyEdge}
 use Rattle.plain_machine.proofs.Samples.{full}
 
 -- ---- lines and records
@@ -170,6 +171,24 @@ load_of_both = refl
 load_of_the_last : load two_stages two_lines step 1 ≡ 10
 unfolding step apply fnv length_bytes
 load_of_the_last = refl
+
+-- From the start on the edge of the lines has all their encodings to carry, 7 bytes and 5, and that of the words 5 for each of three. So no
+-- image of a run over these lines is too large.
+lines_load : load two_stages two_lines start 0 ≡ 12
+unfolding apply length_bytes
+lines_load = refl
+
+words_load : load two_stages two_lines start 1 ≡ 15
+unfolding apply length_bytes
+words_load = refl
+
+no_heavy_edge : HasHeavyEdge two_stages two_lines → ⊥
+no_heavy_edge heavy =
+    elim heavy.edge as (λ e. e ≤ 1 → 4294967295 < load two_stages two_lines start e → ⊥) [
+      | zero ↦ λ low over. omega (arith, over, lines_load)
+      | suc zero ↦ λ low over. omega (arith, over, words_load)
+      | suc (suc e) ↦ λ low over. omega (arith, low)
+    ] heavy.is_edge heavy.over
 
 -- after 2^64 records the count begins again
 count_begins_again : count_after 18446744073709551614 (codes "a" ∷ codes "b" ∷ codes "c" ∷ []) ≡ 1

@@ -11,6 +11,7 @@ use Rattle.flow_defs.specs.Routes.{fnv}
 use Rattle.flow_defs.specs.Jobs.{tasks}
 use Rattle.flow_defs.specs.Tables.{table_of}
 use Rattle.plain_machine.specs.Images.{HasShortKeys, AllEnded}
+use Rattle.plain_machine.specs.Counts.{images_to_end}
 use Rattle.plain_machine.specs.Chains.{GoesBy, Chain}
 use Rattle.plain_machine.proofs.KeySums.{entries-empty}
 use Rattle.plain_machine.proofs.StartLemmas.{start_image}
@@ -111,3 +112,7 @@ follows_third = record {
 
 pub every_two_lines : Chain its_job its_lines (Some 2) (start_image its_job) (image_at first ∷ image_at second ∷ image_at third ∷ [])
 every_two_lines = (follows_at before first (Some 2) follows_first, (follows_at first second (Some 2) follows_second, (follows_at second third (Some 2) follows_third, tt)))
+
+-- the law counts as many
+three_images : images_to_end its_job its_lines (Some 2) ≡ 3
+three_images = refl

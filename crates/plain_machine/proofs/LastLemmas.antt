@@ -66,7 +66,7 @@ drop_all [] n e = drop_nil n
 drop_all (x ∷ xs) zero e = absurd (omega arith)
 drop_all (x ∷ xs) (suc n) e = drop_all xs n (omega arith)
 
-at_place : {X : Type 0} (xs : List X) (i : ℕ) (d x : X) → i < length xs → get_or xs i d ≡ x → slice_get xs i ≡ Some x
+pub at_place : {X : Type 0} (xs : List X) (i : ℕ) (d x : X) → i < length xs → get_or xs i d ≡ x → slice_get xs i ≡ Some x
 at_place [] i d x low e = absurd (omega arith)
 at_place (y ∷ ys) zero d x low e = ap Some e
 at_place (y ∷ ys) (suc i) d x low e = at_place ys i d x (omega arith) e
@@ -78,7 +78,7 @@ nothing_unread job lines image fit same last a here =
 
 -- ---- an image that follows has read as far as its sources go
 
-some_same : {X : Type 0} (x y : X) → Some x ≡ Some y → x ≡ y
+pub some_same : {X : Type 0} (x y : X) → Some x ≡ Some y → x ≡ y
 some_same x y e = cc
 
 goes-unchanged : (job : Job) (lines : ℕ → List (List ℕ)) (every : Option ℕ) (old new : Image) → Goes job lines every old new → IsUnchanged job lines new

@@ -17,6 +17,10 @@ pub mod LastLemmas
 pub mod HistoryLemmas
 pub mod RecordedLemmas
 pub mod WholeRun
+pub mod LoadLemmas
+pub mod LargeImages
+pub mod CountLemmas
+pub mod CountedRecords
 pub mod TallyLemmas
 pub mod EmitLemmas
 pub mod Examples

@@ -31,7 +31,7 @@ length-concat_below zero f g many = refl
 length-concat_below (suc n) f g many =
     length-append (concat_below n f) (f n) ∙ ap (λ k. k + length (f n)) (length-concat_below n f g (λ i low. many i (omega arith))) ∙ ap (λ k. sum_below n g + k) (many n (omega arith))
 
-sum_below-within : (n : ℕ) (g : ℕ → ℕ) (i : ℕ) → i < n → sum_below i g + g i ≤ sum_below n g
+pub sum_below-within : (n : ℕ) (g : ℕ → ℕ) (i : ℕ) → i < n → sum_below i g + g i ≤ sum_below n g
 sum_below-within zero g i low = absurd (omega arith)
 sum_below-within (suc n) g i low = elim (cases_lt i n) [
   | inl below ↦ let deep = sum_below-within n g i below in omega (arith, deep)
@@ -53,13 +53,13 @@ get-concat_below (suc n) f g i j many low inside =
           (ap (λ k. slice_get (concat_below n f ++ f n) (k + j)) (sym all) ∙ get-behind (concat_below n f) (f n) j)
     ]
 
-sum_same : (n k : ℕ) → sum_below n (λ i. k) ≡ n * k
+pub sum_same : (n k : ℕ) → sum_below n (λ i. k) ≡ n * k
 sum_same zero k = omega arith
 sum_same (suc n) k = let deep = sum_same n k in omega (arith, deep)
 
 -- ---- tasks
 
-length-each : {X : Type 0} (n : ℕ) (f : ℕ → X) → length (concat_below n (λ a. f a ∷ [])) ≡ n
+pub length-each : {X : Type 0} (n : ℕ) (f : ℕ → X) → length (concat_below n (λ a. f a ∷ [])) ≡ n
 length-each n f = length-concat_below n (λ a. f a ∷ []) (λ i. 1) (λ _ _. refl) ∙ sum_same n 1 ∙ (let z : n * 1 ≡ n = omega arith in z)
 
 get-each : {X : Type 0} (n : ℕ) (f : ℕ → X) (a : ℕ) → a < n → slice_get (concat_below n (λ a. f a ∷ [])) a ≡ Some (f a)
@@ -147,7 +147,7 @@ length-from : (job : Job) (e a : ℕ) → IsJob job → e ≤ last_edge job → 
 length-from job e a is low here =
     ap length (row_of job e a low here) ∙ length-row (exchange job e) (tasks job e) (tasks job (suc e)) a (λ b. (e, a, b)) (is.widths e low) here
 
-length-edge : (job : Job) (e : ℕ) → IsJob job → e ≤ last_edge job → length (concat_below (tasks job e) (channels_from job e)) ≡ edge_width job e
+pub length-edge : (job : Job) (e : ℕ) → IsJob job → e ≤ last_edge job → length (concat_below (tasks job e) (channels_from job e)) ≡ edge_width job e
 length-edge job e is low =
     length-concat_below (tasks job e) (channels_from job e) (λ a. row_width (exchange job e) (tasks job (suc e))) (λ a here. length-from job e a is low here)
     ∙ rows_fill (exchange job e) (tasks job e) (tasks job (suc e))

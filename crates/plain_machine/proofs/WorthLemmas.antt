@@ -18,7 +18,7 @@ use Rattle.plain_machine.proofs.KeySums.{plus, plus_monoid, normal, at_key, at_k
 use Rattle.plain_machine.proofs.Reach.{reach-all, reach-same}
 use Rattle.plain_machine.proofs.Edges.{over_edge}
 
-drop-drop : (xs : List (List ℕ)) (a b : ℕ) → a ≤ b → drop a xs ≡ slice_range xs a b ++ drop b xs
+pub drop-drop : (xs : List (List ℕ)) (a b : ℕ) → a ≤ b → drop a xs ≡ slice_range xs a b ++ drop b xs
 drop-drop xs zero b h = sym (take-append-drop b xs) ∙ ap (λ k. take k xs ++ drop b xs) (let z : b ≡ b - 0 = omega arith in z)
 drop-drop xs (suc a) zero h = absurd (omega arith)
 drop-drop [] (suc a) (suc b) h = sym (nothing (suc b - suc a))

@@ -7,6 +7,9 @@ pub mod Places
 pub mod Images
 pub mod Chains
 pub mod Spelling
+pub mod Loads
+pub mod Counts
 pub mod Histories
 pub mod Recorded
 pub mod Theorems
+pub mod SizeTheorems

@@ -1,2 +1,0 @@
-pub mod LineFaults
-pub mod LinesUnderWay

@@ -2,6 +2,7 @@
 use Rattle.std.specs.Prelude.{ℕ, ◌<◌, ◌≤◌, ◌^◌, nat_lt, ◌&&◌, Bool, length, All}
 use Rattle.std.specs.List.{list_all}
 use Rattle.std.specs.FinMap.{entries}
+use Rattle.flow_defs.specs.Limits.{job_text_max}
 use Rattle.flow_defs.specs.declared.job.Job.{Job}
 use Rattle.flow_defs.specs.declared.image.TakeRun.{TakeRun}
 use Rattle.flow_defs.specs.declared.image.Image.{Image}
@@ -21,9 +22,9 @@ has_counts image =
     list_all (λ (table : Values). is_count (length (entries table))) image.tables.items && list_all (λ (runs : Items TakeRun). is_count (length runs.items)) image.takes.items
     && list_all (λ (piece : Items ℕ). is_count (length piece.items)) image.saved_in.items && list_all (λ (piece : Items ℕ). is_count (length piece.items)) image.saved_out.items
 
--- The most bytes of a job's text in an image.
+-- The most bytes of a job's text in an image: as many as the text of any job may have.
 abbrev pub TEXT_MOST : ℕ
-TEXT_MOST = 65536
+TEXT_MOST = job_text_max
 
 -- The image fits the job of its text, whose kinds need no functions.
 pub record FitsItsText (image : Image) : Type 0 where

@@ -4,7 +4,7 @@ use Rattle.std.specs.Prelude.{ℕ, zero, suc, ◌-◌, ◌==◌, ◌&&◌, ◌||
 use Rattle.std.specs.Option.{option_map_or}
 use Rattle.std.specs.Ordering.{is_lt}
 use Rattle.std.specs.Int.{w32, w64}
-use Rattle.flow_defs.specs.declared.TheConstants.{RECORD_MAX}
+use Rattle.flow_defs.specs.Limits.{record_max}
 use Rattle.flow_defs.specs.declared.job.Job.{Job}
 use Rattle.flow_defs.specs.Jobs.{last_edge, tasks, is_channel}
 use Rattle.flow_defs.specs.Records.{spans, all_encoded}
@@ -35,7 +35,7 @@ emitted bytes = do
 
 -- Whether this may be the key behind another one: it is no longer than a record, and greater than that one.
 abbrev pub is_key : Option (List ℕ) → List ℕ → Bool
-is_key before key = nat_le (length key) RECORD_MAX && option_map_or (λ other. is_lt (key_cmp other key)) before true
+is_key before key = nat_le (length key) record_max && option_map_or (λ other. is_lt (key_cmp other key)) before true
 
 -- So many rows of a table behind one with this key.
 unfoldable pub rows : ℕ → Option (List ℕ) → List ℕ → Passing

@@ -23,6 +23,7 @@ pub fn write_image(alloc: Global, image: &Image) -> Result<Bytes, WriteFault>
     requires number { 1 ≤ image.now.number }
     requires fits { FitsItsText image.now }
     ensures ok { IfOk result (λ bytes. bytes.items ≡ spelling image.now) }
+    ensures can { OnOk result (CanSpell image.now) }
     ensures too_big { (result ≡ Err WriteFault.TooBig) ↔ (CanSpell image.now → ⊥) }
 {
     let can = can_spell(image);

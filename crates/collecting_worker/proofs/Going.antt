@@ -11,7 +11,7 @@ use Rattle.flow_defs.specs.declared.image.Snapshot.{Snapshot}
 use Rattle.flow_defs.specs.Jobs.{IsJob}
 use Rattle.plain_machine.specs.Images.{AllEnded, Fits, IsStart}
 use Rattle.plain_machine.specs.Chains.{last_of}
-use Rattle.plain_machine.specs.Spelling.{spelling}
+use Rattle.plain_machine.specs.Spelling.{spelling, CanSpell}
 use Rattle.checkpoint_laws.specs.Chapters.{Linked}
 use Rattle.checkpoint_laws.specs.Collecting.{Collected, IsLast}
 use Rattle.collector.specs.declared.collector.Checkpoint.{Checkpoint}
@@ -75,6 +75,7 @@ still_stored job every received more before after told images starts h = record 
   told_are = h.told_are;
   collected = h.collected;
   fit = h.fit;
+  spelled = h.spelled;
   made = all_weaker (IsMadeFrom job received) (IsMadeFrom job more) images (still_made job received more starts) h.made;
 }
 
@@ -84,6 +85,7 @@ none_stored job every received before told none = record {
   told_are = none;
   collected = λ base start. tt;
   fit = tt;
+  spelled = tt;
   made = tt;
 }
 
@@ -154,7 +156,7 @@ module _ (law : SnapshotsMakeFitting) (job : Job) (every : Option ℕ) (received
   abbrev all_images : List Image
   all_images = going.images ++ image ∷ []
 
-  module _ (sound : IsFaultOf job image None) (kept : after ≡ with_image mid image.number (spelling image)) (tells : told' ≡ told ++ stored_of image ∷ []) (last_is : last' ≡ Some image) where
+  module _ (sound : IsFaultOf job image None) (can : CanSpell image) (kept : after ≡ with_image mid image.number (spelling image)) (tells : told' ≡ told ++ stored_of image ∷ []) (last_is : last' ≡ Some image) where
     pub one_more : AreStored job every more before after told' all_images
     one_more =
         let was = still_stored job every received more before mid told going.images starts going.stored in
@@ -163,6 +165,7 @@ module _ (law : SnapshotsMakeFitting) (job : Job) (every : Option ℕ) (received
           told_are = tells ∙ ap (λ l. l ++ stored_of image ∷ []) was.told_are ∙ sym (map_more stored_of going.images image);
           collected = λ base start. linked_more (Collected job every) base image going.images (was.collected base start) (collected_next sound.1 base start);
           fit = all_more (Fits job) going.images image was.fit (complete_fits law job more cp image complete sound);
+          spelled = all_more CanSpell going.images image was.spelled can;
           made = all_more (IsMadeFrom job more) going.images image was.made (made_from job more cp image complete);
         }
 

@@ -6,10 +6,12 @@
 
 mod ahead;
 mod gathering;
+mod image_store;
 pub mod laws;
 mod spelling;
 mod storing;
 mod worker;
 mod world;
 
+pub use image_store::ImageStore;
 pub use world::{CollectEnd, CollectWorld, collect_images};

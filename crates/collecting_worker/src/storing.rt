@@ -10,8 +10,9 @@ ghost use Rattle.outside.specs.Stops.{StopsFor, told_of};
 ghost use Rattle.outside.specs.declared.stop.StopEntry.TheVariants.{Met};
 ghost use Rattle.collecting_worker.specs.Steps.{BreaksFor};
 
+use crate::image_store::ImageStore;
 use flow_defs::Cause;
-use outside::{KeepFault, Keeper, StopEntry, StopState};
+use outside::{KeepFault, StopEntry, StopState};
 use std::alloc::Global;
 use std::marker::Brand;
 use std::sync::Wait;
@@ -29,9 +30,9 @@ fn leave_met<E: Named<StopEntry>>(turn: Turn<StopState>, cause: Cause)
     turn.leave::<E>();
 }
 
-/// Puts the bytes of an image into the keeper in a turn of the stop cell, unless a fault was met before. So no
-/// image is stored once one was. Where the keeper fails, that is the fault that was met first.
-pub fn store<K: Keeper, R: Wait>(
+/// Stores the bytes of an image in a turn of the stop cell, unless a fault was met before. Where the store fails,
+/// that is the fault that was met first.
+pub fn store<K: ImageStore, R: Wait>(
     rt: &R,
     alloc: Global,
     keeper: &mut K,
@@ -41,11 +42,13 @@ pub fn store<K: Keeper, R: Wait>(
     bytes: &[u8],
 ) -> Result<(), Cause>
     requires pass { IsPassOf cell.now pass.old }
+    requires cell { K.is_stopped_by keeper.old cell.now }
     requires above { IsAboveLast (K.images keeper.old) number }
+    ensures cell { K.is_stopped_by keeper.new cell.now }
     ensures pass { IsPassOf cell.now pass.new × (turns.number pass.new ≡ turns.number pass.old) }
     ensures kept { OnOk result (K.images keeper.new ≡ with_image (K.images keeper.old) number bytes.now) }
     ensures above { OnOk result ((more : ℕ) → number < more → IsAboveLast (K.images keeper.new) more) }
-    ensures untold { OnOk result ((mine pass.new ≡ mine pass.old) × (seen pass.new ≡ [])) }
+    ensures untold { OnOk result (mine pass.new ≡ mine pass.old) }
     ensures same { OnErr result (K.images keeper.new ≡ K.images keeper.old) }
     ensures told { IfErr result (λ cause. mine pass.new ≡ mine pass.old ++ told_of cause) }
     ensures fault { IfErr result (λ cause. (job : Job) (received : List Snapshot) (checkpoint : Checkpoint) → BreaksFor job received checkpoint (K.faults keeper.old) (K.faults keeper.new) (seen pass.new) cause) }
@@ -56,7 +59,7 @@ pub fn store<K: Keeper, R: Wait>(
         turn.leave_as_is();
         return Err(Cause::Stopped);
     }
-    match keeper.put(alloc, number, bytes) {
+    match keeper.store(alloc, number, bytes, &turn) {
         Ok(()) => {
             turn.leave_as_is();
             Ok(())

@@ -11,12 +11,13 @@ ghost use Rattle.collecting_worker.specs.Gathering.{MayBeLast, every_of};
 ghost use Rattle.collecting_worker.specs.Steps.{BreaksFor, HasBroken, HasKept, HasOwnPasses, IsReady, IsSameWorker, IsWorker};
 
 use crate::gathering::Gathering;
+use crate::image_store::ImageStore;
 use crate::spelling::{are_all_ended, spell};
 use crate::storing::store;
 use collector::Checkpoint;
 use collector::laws::snapshots_make_fitting;
 use flow_defs::{Bytes, Cause, Image, Job};
-use outside::{Keeper, LastImage, StopState, Stored, tell_cause, tell_stop, tell_stored};
+use outside::{LastImage, StopState, Stored, tell_cause, tell_stop, tell_stored};
 use std::alloc::Global;
 use std::sync::Wait;
 use turn_cell::{Pass, TurnCell};
@@ -42,7 +43,7 @@ pub struct Spelled {
 
 impl<'a> Worker<'a> {
     /// Stores the image of one checkpoint after the other, until that of the last one.
-    pub fn run<K: Keeper, R: Wait>(
+    pub fn run<K: ImageStore, R: Wait>(
         &mut self,
         rt: &R,
         alloc: Global,
@@ -52,6 +53,7 @@ impl<'a> Worker<'a> {
         requires worker { IsWorker 1 self.old }
         requires every { every_of self.old.gathering ≡ every }
         requires fresh { (mine self.old.last_pass ≡ []) × (mine self.old.stop_pass ≡ []) × (self.old.last ≡ None) }
+        requires cell { K.is_stopped_by keeper.old self.old.stop.now }
         requires above { (n : ℕ) → 0 < n → IsAboveLast (K.images keeper.old) n }
         ensures same { IsSameWorker self.old self.new }
         ensures own { HasOwnPasses self.new }
@@ -78,7 +80,7 @@ impl<'a> Worker<'a> {
     }
 
     // Gathers the image of a checkpoint and stores it. Whether all sources are ended in it is the answer.
-    fn store_next<K: Keeper, R: Wait>(
+    fn store_next<K: ImageStore, R: Wait>(
         &mut self,
         rt: &R,
         alloc: Global,
@@ -88,7 +90,9 @@ impl<'a> Worker<'a> {
         requires worker { IsWorker checkpoint.number self.old }
         requires number { 1 ≤ checkpoint.number }
         requires last { checkpoint.final_one ≡ true → MayBeLast self.old.job.now (every_of self.old.gathering) (received_by self.old.gathering.pass) checkpoint.number }
+        requires cell { K.is_stopped_by keeper.old self.old.stop.now }
         requires above { IsAboveLast (K.images keeper.old) checkpoint.number }
+        ensures cell { K.is_stopped_by keeper.new self.new.stop.now }
         ensures same { IsSameWorker self.old self.new }
         ensures own { HasOwnPasses self.new }
         ensures never_falls { K.faults keeper.old ≤ K.faults keeper.new }
@@ -143,7 +147,7 @@ impl<'a> Worker<'a> {
     }
 
     // Stores an image, and tells of it.
-    fn keep<K: Keeper, R: Wait>(
+    fn keep<K: ImageStore, R: Wait>(
         &mut self,
         rt: &R,
         alloc: Global,
@@ -153,7 +157,9 @@ impl<'a> Worker<'a> {
     ) -> Result<bool, Cause>
         requires own { HasOwnPasses self.old }
         requires bytes { bytes.now ≡ spelling image }
+        requires cell { K.is_stopped_by keeper.old self.old.stop.now }
         requires above { IsAboveLast (K.images keeper.old) image.number }
+        ensures cell { K.is_stopped_by keeper.new self.new.stop.now }
         ensures own { HasOwnPasses self.new }
         ensures same { (self.new.gathering ≡ self.old.gathering) × (self.new.job ≡ self.old.job) × (self.new.last_image ≡ self.old.last_image) × (self.new.stop ≡ self.old.stop) × (number self.new.stop_pass ≡ number self.old.stop_pass) }
         ensures never_falls { K.faults keeper.old ≤ K.faults keeper.new }

@@ -8,10 +8,11 @@ ghost use Rattle.collecting_worker.specs.Accounts.{CollectAccount, IsLent};
 ghost use Rattle.collecting_worker.specs.Steps.{EndsAs};
 
 use crate::gathering::Gathering;
+use crate::image_store::ImageStore;
 use crate::worker::Worker;
 use collector::Collector;
 use flow_defs::{Cause, Image, Job};
-use outside::{Keeper, LastImage, StopState, look_for_stop, tell_stop};
+use outside::{LastImage, StopState, look_for_stop, tell_stop};
 use snapshot_channel::{CollectingPass, SnapshotChannel};
 use std::alloc::Global;
 use std::sync::Wait;
@@ -46,13 +47,13 @@ pub struct CollectEnd {
 /// is the last; else it is the one behind the image in which all sources are ended. As Flink's default one
 /// checkpoint is open at a time; a snapshot for a later one waits until that is open.
 ///
-/// An image is stored in a turn of the stop cell that shows no fault, so none is once one was met. The others are
-/// told of it behind that.
+/// An image is stored in a turn of the stop cell that shows no entry, as `ImageStore` asks for, so none is stored
+/// behind one. The others are told of it behind that.
 ///
 /// It ends as `Done` with the last image. It ends as `Keeper`, `BigImage`, `Peer` or `Memory` for a fault of its
 /// own, which it has told, and as `Stopped` where it saw another's. It holds one image beside the one that it
 /// stored last, and the cost of a checkpoint is in proportion to the bytes of its image.
-pub fn collect_images<K: Keeper, R: Wait>(
+pub fn collect_images<K: ImageStore, R: Wait>(
     rt: &R,
     alloc: Global,
     keeper: &mut K,
@@ -60,6 +61,7 @@ pub fn collect_images<K: Keeper, R: Wait>(
     world: CollectWorld<'_>,
 ) -> CollectEnd
     requires lent { IsLent every world }
+    requires cell { K.is_stopped_by keeper.old world.stop.now }
     requires above { (n : ℕ) → 0 < n → IsAboveLast (K.images keeper.old) n }
     ensures collecting { IsCollecting world.entry.snapshots.now result.collecting }
     ensures last_pass { IsPassOf world.entry.last_image.now result.last_pass × (number result.last_pass ≡ 0) }

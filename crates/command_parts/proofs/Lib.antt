@@ -1,4 +1,3 @@
-pub mod CountingLemmas
 pub mod Options
 pub mod SourceLemmas
 pub mod Written

@@ -1,5 +1,4 @@
 pub mod Causes
-pub mod Counting
 pub mod FaultTexts
 pub mod Faults
 pub mod Front

@@ -5,10 +5,9 @@ use Rattle.flow_defs.specs.Items.{Items}
 use Rattle.flow_defs.specs.declared.job.Job.{Job}
 use Rattle.flow_defs.specs.Jobs.{tasks}
 use Rattle.flow_defs.specs.Lines.{lines}
-use Rattle.job_plan.specs.declared.limits.TheConstants.{SOURCE_MAX}
 use Rattle.command_parts.specs.declared.fault.Fault.{Fault}
 use Rattle.command_parts.specs.declared.fault.Fault.TheVariants.{SourceInput, LongLine, BigSource, Memory}
-use Rattle.job_plan.specs.Limits.{HasLongLine, IsOverLimit}
+use Rattle.job_plan.specs.Limits.{HasLongLine, IsOverLimit, source_max}
 
 -- The file that a source of a job names.
 abbrev pub source_name : Job → ℕ → List ℕ
@@ -30,7 +29,7 @@ AreWithinLimits job bytes = (a : ℕ) → a < tasks job 0 → IsOverLimit (bytes
 abbrev pub IsSourceFault : Job → (List ℕ → Option (List ℕ)) → Fault → Type 0
 IsSourceFault job contents (SourceInput a) = IsOfSource job contents a (λ bytes. ⊤)
 IsSourceFault job contents (LongLine a) = IsOfSource job contents a (λ bytes. HasLongLine (lines bytes))
-IsSourceFault job contents (BigSource a) = IsOfSource job contents a (λ bytes. SOURCE_MAX < length bytes)
+IsSourceFault job contents (BigSource a) = IsOfSource job contents a (λ bytes. source_max < length bytes)
 IsSourceFault job contents Memory = ⊤
 IsSourceFault job contents fault = ⊥
 
@@ -44,3 +43,8 @@ AreInputsOf {S} left faults job contents inputs = (a : ℕ) (input : S) → slic
 -- One of these inputs has a fault.
 abbrev pub HasFaulty : {S : Type 0} → (S → ℕ) → List S → Type 0
 HasFaulty {S} faults inputs = (a : ℕ) × (input : S) × (slice_get inputs a ≡ Some input) × (0 < faults input)
+
+-- A source that was not found is the one behind so many that were found: the first that was not.
+abbrev pub IsBehindFound : ℕ → Fault → Type 0
+IsBehindFound found (SourceInput a) = a ≡ found
+IsBehindFound found fault = ⊤

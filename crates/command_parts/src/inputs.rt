@@ -6,7 +6,7 @@ ghost use Rattle.flow_defs.specs.Jobs.{tasks};
 ghost use Rattle.flow_defs.specs.Stages.{IsToken};
 ghost use Rattle.outside.specs.Faults.{HasRisen};
 ghost use Rattle.command_parts.specs.Causes.{status_of};
-ghost use Rattle.command_parts.specs.Sources.{AreInputsOf, HasFaulty, IsSourceFault};
+ghost use Rattle.command_parts.specs.Sources.{AreInputsOf, HasFaulty, IsBehindFound, IsSourceFault};
 
 use crate::fault::Fault;
 use flow_defs::{Job, ListOf};
@@ -14,7 +14,7 @@ use outside::{Files, FindFault};
 use std::alloc::Global;
 
 /// Finds the inputs of the job's sources, in order, and puts them on the empty list, which has room for all. On a
-/// fault those that were found before are on it.
+/// fault those that were found before are on it, so the source that is told is the first that was not found.
 pub fn find_inputs<F: Files>(
     alloc: Global,
     job: &Job,
@@ -30,6 +30,7 @@ where
     ensures found { OnOk result (length inputs.new.items ≡ tasks job.now 0) }
     ensures told { AreInputsOf F.Input.left F.Input.faults job.now (F.contents files.old) inputs.new.items }
     ensures fault { IfErr result (IsSourceFault job.now (F.contents files.old)) }
+    ensures first { IfErr result (IsBehindFound (length inputs.new.items)) }
     ensures input { IfErr result (λ fault. status_of fault ≡ 4 → HasRisen (F.faults files.old) (F.faults files.new)) }
     ensures no_output { IfErr result (λ fault. status_of fault ≡ 7 → ⊥) }
     ensures lent { F.lent files.new ≡ F.lent files.old + length inputs.new.items }

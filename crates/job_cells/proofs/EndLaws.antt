@@ -10,19 +10,25 @@ use Rattle.turn_cell.specs.declared.pass.Pass.{Pass}
 use Rattle.turn_cell.specs.Passes.{IsPassOf, number, seen, mine, opened_with}
 use Rattle.flow_defs.specs.Items.{Items}
 use Rattle.segment_pool.specs.declared.pool.Pool.{Pool}
-use Rattle.segment_pool.specs.Pools.{size_of}
+use Rattle.segment_pool.specs.Pools.{size_of, total_of}
 use Rattle.local_pool.specs.declared.held.HeldPool.{HeldPool}
-use Rattle.local_pool.specs.declared.held.NoEntry.{NoEntry}
-use Rattle.local_pool.specs.Helds.{pool_of}
+use Rattle.local_pool.specs.Lending.{PoolPass}
+use Rattle.local_pool.specs.declared.local.LocalPool.{LocalPool}
+use Rattle.local_pool.specs.declared.shares.Want.{Want}
+use Rattle.local_pool.specs.Helds.{local_of, pool_of}
+use Rattle.local_pool.specs.Locals.{limit_of}
+use Rattle.local_pool.specs.Shares.{share_of}
+use Rattle.conn_parts.specs.Shares.{AreOf}
+use Rattle.subpartition.specs.Queues.{empty_queue}
 use Rattle.record_writer.specs.Writers.{SendCell, SendPass, PoolCell, place_of}
 use Rattle.job_cells.specs.declared.lender.Lender.{Lender}
 use Rattle.job_cells.specs.declared.pool_cells.PoolCells.{PoolCells}
 use Rattle.job_cells.specs.declared.gates.Gates.{Gates}
 use Rattle.job_cells.specs.declared.partitions.Partitions.{Partitions}
-use Rattle.job_cells.specs.Edges.{InputPass, AreGatesAt}
-use Rattle.job_cells.specs.Ends.{ArePools, IsWay, AreSent, HasWay, InputCell, HaveInputSize, HasGate, AreGates}
+use Rattle.job_cells.specs.Edges.{InputPass, AreGatesAt, HaveShare, items_room}
+use Rattle.job_cells.specs.Ends.{ArePools, HasPool, IsWay, AreSent, HasWay, InputCell, AreInputs, HasGate, AreGates}
 use Rattle.job_cells.specs.Groups.{AreDealt, IsMade}
-use Rattle.job_cells.specs.Lending.{HasLent}
+use Rattle.job_cells.specs.Lending.{HasLent, IsNext}
 use Rattle.job_cells.proofs.GroupLaws.{of_more}
 use Rattle.job_cells.proofs.Lists.{in_front, at_last, each_push, after_set}
 
@@ -34,7 +40,7 @@ lent_more n before mid after one two = record {
   given = (let a = one.given in let b = two.given in omega (arith, a, b));
 }
 
-pub pools_more : (size : ℕ) (before after : PoolCells) (cell : PoolCell) (task other : Pass HeldPool NoEntry (Pool × ℕ)) → ArePools size before → IsMade cell 0 task → IsMade cell 1 other → size_of (pool_of (opened_with cell)) ≡ size →
+pub pools_more : (size : ℕ) (before after : PoolCells) (cell : PoolCell) (task other : PoolPass) → ArePools size before → IsMade cell 0 task → IsMade cell 1 other → size_of (pool_of (opened_with cell)) ≡ size →
     after.cells.items ≡ before.cells.items ++ cell ∷ [] → after.tasks.items ≡ before.tasks.items ++ task ∷ [] → after.loops.items ≡ before.loops.items ++ other ∷ [] → ArePools size after
 pools_more size before after cell task other pools one two sized ec et el = record {
   sizes = All-same (λ (c : PoolCell). size_of (pool_of (opened_with c)) ≡ size) after.cells.items (before.cells.items ++ cell ∷ []) ec
@@ -42,6 +48,33 @@ pools_more size before after cell task other pools one two sized ec et el = reco
   tasks = of_more before.cells.items after.cells.items before.tasks.items after.tasks.items cell task pools.tasks one.0 ec et;
   loops = of_more before.cells.items after.cells.items before.loops.items after.loops.items cell other pools.loops two.0 ec el;
 }
+
+pub pools_none : (size : ℕ) (pools : PoolCells) → pools.cells.items ≡ [] → pools.tasks.items ≡ [] → pools.loops.items ≡ [] → ArePools size pools
+pools_none size pools ec et el = record {
+  sizes = All-same (λ (c : PoolCell). size_of (pool_of (opened_with c)) ≡ size) pools.cells.items [] ec (λ k d low. absurd (omega arith));
+  tasks = of_none pools.cells.items pools.tasks.items ec et;
+  loops = of_none pools.cells.items pools.loops.items ec el;
+}
+  where
+    of_none : (cells : List PoolCell) (passes : List PoolPass) → cells ≡ [] → passes ≡ [] → AreOf cells passes
+    of_none cells passes ec ep = record {
+      many = ap length ep ∙ sym (ap length ec);
+      each = λ k cell pass at at'. let none : slice_get cells k ≡ slice_get [] k = ap (λ l. slice_get l k) ec in absurd (cc);
+    }
+
+-- Of no pools each has its share, and of those with one more that was lent last.
+pub shares_none : (wants : List Want) (want : Want) (cells : List PoolCell) → length cells ≡ 0 → HaveShare wants want cells
+shares_none wants want cells none = λ k d low. absurd (omega (arith, none, low))
+
+pub shares_more : (pool : Pool) (old lender : Lender) (n : ℕ) (made lent : LocalPool) (want : Want) (before after : PoolCells) → HasLent n old lender → IsNext pool lender made → limit_of lent ≡ limit_of made →
+    HasPool pool lent before after → slice_get old.wants.items (old.given + n) ≡ Some want → HaveShare old.wants.items want before.cells.items → HaveShare old.wants.items want after.cells.items
+shares_more pool old lender n made lent want before after has next same more stands shares =
+    let wants = old.wants.items in
+    let here : slice_get lender.wants.items lender.given ≡ Some want = ap (λ ws. slice_get ws lender.given) has.wants ∙ ap (slice_get wants) has.given ∙ stands in
+    let limit : limit_of lent ≡ share_of wants (total_of pool) want = same ∙ next.shared want here ∙ ap (λ ws. share_of ws (total_of pool) want) has.wants in
+    let F : PoolCell → Type 0 = λ c. limit_of (local_of (opened_with c)) ≡ share_of wants (total_of (pool_of (opened_with c))) want in
+    All-same F after.cells.items (before.cells.items ++ more.cell ∷ []) more.is
+    (All-push F before.cells.items more.cell shares (ap limit_of more.local_is ∙ limit ∙ ap (λ p. share_of wants (total_of p) want) (sym more.of_pool)))
 
 -- ---- the sending end
 
@@ -58,7 +91,7 @@ pub sent_none : (many size : ℕ) (ends : Partitions) → AreDealt ends.group �
 sent_none many size ends dealt none lists empty = record {
   dealt = dealt;
   cells = ap length none ∙ omega arith;
-  sizes = All-same (λ (cell : SendCell). (opened_with cell).size ≡ size) ends.group.cells.items [] none (λ k d low. absurd (omega arith));
+  opened = All-same (λ (cell : SendCell). opened_with cell ≡ empty_queue size items_room) ends.group.cells.items [] none (λ k d low. absurd (omega arith));
   lists = lists;
   before = λ k own low at. absurd (omega arith);
   behind = λ k own low at. ap length (nothing k own at);
@@ -72,7 +105,7 @@ pub sent_row : (many c size : ℕ) (ends : Partitions) → AreSent many c many s
 sent_row many c size ends sent = record {
   dealt = sent.dealt;
   cells = (let l = sent.cells in omega (arith, l));
-  sizes = sent.sizes;
+  opened = sent.opened;
   lists = sent.lists;
   before = λ k own low at. absurd (omega arith);
   behind = λ k own low at. sent.before k own (let l = sent.lists in let w = slice_get_within ends.senders.items k own at in omega (arith, l, w)) at;
@@ -87,8 +120,8 @@ sent_more many c a size before after sent dealt way =
     record {
       dealt = dealt;
       cells = (let l = sent.cells in omega (arith, longer, l));
-      sizes = All-same (λ (d : SendCell). (opened_with d).size ≡ size) after.group.cells.items (cells ++ cell ∷ []) is
-          (All-push (λ (d : SendCell). (opened_with d).size ≡ size) cells cell sent.sizes (ap (λ q. q.size) way.more.opened ∙ way.sized));
+      opened = All-same (λ (d : SendCell). opened_with d ≡ empty_queue size items_room) after.group.cells.items (cells ++ cell ∷ []) is
+          (All-push (λ (d : SendCell). opened_with d ≡ empty_queue size items_room) cells cell sent.opened way.more.opened);
       lists = ap length way.set_is ∙ length-set before.senders.items a way.longer ∙ sent.lists;
       before = λ k own low at. elim (here k own at) [
         | inl same ↦ ap (λ (o : Items SendPass). length o.items) same.1 ∙ ap length way.pushed ∙ length_push way.own.items way.pass ∙ ap (λ n. n + 1) had
@@ -155,16 +188,16 @@ gate_more n before mid after own longer cell pass gate is made pushed =
       }));
     }
 
-pub gates_more : (n ways size : ℕ) (before after : Gates) (own : Items InputPass) → AreGates n ways size before → AreDealt after.group → HaveInputSize size after.group.cells.items → HasGate ways before.group.cells.items after.group.cells.items own.items →
+pub gates_more : (n ways size : ℕ) (before after : Gates) (own : Items InputPass) → AreGates n ways size before → AreDealt after.group → AreInputs size after.group.cells.items → HasGate ways before.group.cells.items after.group.cells.items own.items →
     after.passes.items ≡ before.passes.items ++ own ∷ [] → ArePools size after.pools → length after.pools.cells.items ≡ length before.pools.cells.items + 1 → AreGates (n + 1) ways size after
-gates_more n ways size before after own gates dealt sizes gate pushed pools pools_longer =
+gates_more n ways size before after own gates dealt opened gate pushed pools pools_longer =
     let count = gate.many_are in let had = gates.cells in let lists = gates.lists in
     let cells = before.group.cells.items in
     let whole : length after.group.cells.items ≡ n * ways + ways = (let l = ap length gate.is ∙ length-append cells gate.more in omega (arith, l, count, had)) in
     record {
       dealt = dealt;
       cells = omega (arith, whole);
-      sizes = sizes;
+      opened = opened;
       lists = ap length pushed ∙ length_push before.passes.items own ∙ ap (λ k. k + 1) lists;
       each = λ b o at. each_push (λ j p. AreGatesAt after.group.cells.items (j * ways) ways p.items) before.passes.items own
           (λ j p found. subst (λ (l : List InputCell). AreGatesAt l (j * ways) ways p.items) (sym gate.is) (gate_kept cells gate.more (j * ways) ways p.items (gates.each j p found)))

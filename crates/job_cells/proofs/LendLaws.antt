@@ -41,14 +41,18 @@ module _ (pool : Pool) (before after : Lender) (last : PoolPass) (may : MayLend 
   last_is : IsPassOf pool last × (out last ≡ 0) × (number last + suc (length after.passes.items) ≡ length before.wants.items)
   last_is = may.each (length after.passes.items) last (ap (λ l. slice_get l (length after.passes.items)) is ∙ at_last after.passes.items last (length after.passes.items) (λ i. length after.passes.items))
 
+  pub shared : (d : Want) → get_or before.limits.items before.given 0 ≡ share_of before.wants.items (total_of pool) (get_or before.wants.items before.given d)
+  shared d =
+      let many = may.many in let more = longer in let ws = before.wants.items in
+      ap (λ l. get_or l before.given 0) may.limits ∙ get_or-map (share_of ws (total_of pool)) ws before.given d 0 (omega (arith, many, more))
+
   pub grant : (d : Want) → IsGrant pool last (get_or before.wants.items before.given d) (get_or before.limits.items before.given 0)
   grant d =
       let many = may.many in let more = longer in let it = last_is in
       let place : number last ≡ before.given = (let n = it.2 in omega (arith, many, more, n)) in
       let low : before.given < length before.wants.items = omega (arith, many, more) in
       let ws = before.wants.items in let want = get_or ws before.given d in
-      let share : get_or before.limits.items before.given 0 ≡ share_of ws (total_of pool) want =
-      ap (λ l. get_or l before.given 0) may.limits ∙ get_or-map (share_of ws (total_of pool)) ws before.given d 0 low in
+      let share = shared d in
       let between = share_of-between ws (total_of pool) want (may.wants before.given d low) in
       let granted : get_or (limits_of pool) (number last) 0 ≡ get_or before.limits.items before.given 0 = ap (λ l. get_or l (number last) 0) may.granted ∙ ap (λ k. get_or before.limits.items k 0) place in
       record {

@@ -8,6 +8,8 @@ use Rattle.flow_defs.specs.declared.job.Exchange.TheVariants.{Hash, Rebalance, F
 use Rattle.flow_defs.specs.Items.{Items}
 use Rattle.flow_defs.specs.Jobs.{IsJob, last_edge, tasks, exchange}
 use Rattle.conn_parts.specs.Shares.{AreNew}
+use Rattle.subpartition.specs.Queues.{Queue}
+use Rattle.input_channel.specs.States.{ChannelState}
 use Rattle.credit_reader.specs.Senders.{AreDistinct}
 use Rattle.record_writer.specs.Writers.{SendPass, ways, ways_on, AreOwnAt, ways_into}
 use Rattle.job_cells.specs.declared.edge.Edge.{Edge}
@@ -16,12 +18,12 @@ use Rattle.job_cells.specs.declared.lender.Lender.{Lender}
 use Rattle.job_cells.specs.declared.parts.Parts.{Parts}
 use Rattle.job_cells.specs.declared.span.Span.{Span}
 use Rattle.job_cells.specs.Edges.{IsEdgeOf, ArePassesOf}
-use Rattle.job_cells.specs.Grants.{gate_want}
+use Rattle.job_cells.specs.Grants.{gate_want, partition_want, wants_of}
 use Rattle.job_cells.specs.Lending.{IsAt, HasLent}
-use Rattle.job_cells.specs.Parts.{AreParts}
-use Rattle.job_cells.specs.Spans.{span_on, ways_in}
+use Rattle.job_cells.specs.Parts.{AreParts, HaveShares}
+use Rattle.job_cells.specs.Spans.{span_on, ways_in, ways_out}
 use Rattle.job_cells.proofs.Places.{ids_apart, length_ids}
-use Rattle.job_cells.proofs.WantLaws.{gate_stands}
+use Rattle.job_cells.proofs.WantLaws.{gate_stands, partition_stands}
 
 -- Both ends have the same channels.
 same_width : (x : Exchange) (n m : ℕ) → (x ≡ Forward → n ≡ m) → ways x m * n + 0 ≡ m * ways x n
@@ -55,8 +57,8 @@ passes_from parts = record {
   loop_gates = parts.gates.pools.loops;
 }
 
-pub is_edge : (job : Job) (e size : ℕ) (parts : Parts) → IsJob job → e ≤ last_edge job → AreParts (span_on job e) size parts → IsEdgeOf job e size (edge_from parts)
-is_edge job e size parts is low are =
+pub is_edge : (job : Job) (e size : ℕ) (parts : Parts) → IsJob job → e ≤ last_edge job → AreParts (span_on job e) size parts → HaveShares (span_on job e) (wants_of job) parts → IsEdgeOf job e size (edge_from parts)
+is_edge job e size parts is low are shares =
     let span = span_on job e in let n = tasks job e in let m = tasks job (suc e) in
     let long : length parts.channels.items ≡ m * ways_into job e = ap length are.channels ∙ length_ids span m in
     record {
@@ -64,13 +66,17 @@ is_edge job e size parts is low are =
       distinct = subst AreDistinct (sym are.channels) (ids_apart span m);
       readers = are.readers;
       subpartitions = are.sending.cells ∙ same_width (exchange job e) n m (is.widths e low) ∙ sym long;
-      sizes = are.sending.sizes;
+      sizes = λ k d low. ap (λ (queue : Queue). queue.size) (are.sending.opened k d low);
       inputs = are.gates.cells ∙ sym long;
-      input_sizes = are.gates.sizes;
+      input_sizes = λ k d low. ap (λ (input : ChannelState). input.size) (are.gates.opened k d low);
+      rooms = λ k d low. ap (λ (queue : Queue). queue.room) (are.sending.opened k d low);
+      input_rooms = λ k d low. ap (λ (input : ChannelState). input.room) (are.gates.opened k d low);
       partitions = are.partitions_many;
       partition_sizes = are.partitions.sizes;
       gates = are.gates.pools_many;
       gate_sizes = are.gates.pools.sizes;
+      partition_shares = shares.partitions;
+      gate_shares = shares.gates;
     }
 
 pub are_passes : (job : Job) (e size : ℕ) (parts : Parts) → AreParts (span_on job e) size parts → ArePassesOf job e (edge_from parts) (passes_from parts)
@@ -112,6 +118,13 @@ pub gates_wanted : (job : Job) (e : ℕ) (span : Span) (lender : Lender) → e �
 gates_wanted job e span lender low is at =
     subst (λ (s : Span). (b : ℕ) → b < s.receivers → slice_get lender.wants.items (lender.given + (s.senders + b)) ≡ Some (gate_want (ways_in s))) (sym is) (λ b here.
     ap (λ ws. slice_get ws (lender.given + (tasks job e + b))) at.wants ∙ ap (λ k. slice_get (Rattle.job_cells.specs.Grants.wants_of job) (k + (tasks job e + b))) at.given ∙ gate_stands job e b low here)
+
+-- And where its partitions stand.
+pub partitions_wanted : (job : Job) (e : ℕ) (span : Span) (lender : Lender) → e ≤ last_edge job → span ≡ span_on job e → IsAt job e lender →
+    (a : ℕ) → a < span.senders → slice_get lender.wants.items (lender.given + a) ≡ Some (partition_want (ways_out span))
+partitions_wanted job e span lender low is at =
+    subst (λ (s : Span). (a : ℕ) → a < s.senders → slice_get lender.wants.items (lender.given + a) ≡ Some (partition_want (ways_out s))) (sym is) (λ a here.
+    ap (λ ws. slice_get ws (lender.given + a)) at.wants ∙ ap (λ k. slice_get (wants_of job) (k + a)) at.given ∙ partition_stands job e a low here)
 
 pub at_more : (job : Job) (e : ℕ) (span : Span) (before after : Lender) → span ≡ span_on job e → IsAt job e before → HasLent (span.senders + span.receivers) before after → IsAt job (e + 1) after
 at_more job e span before after is at lent =

@@ -3,6 +3,12 @@
 -- side by side.
 use Rattle.std.specs.Prelude.{◌≡◌, ℕ, suc, ◌+◌, ◌*◌, List, [], length, slice_get, All, Some, map}
 use Rattle.std.specs.List.{range_with_len}
+use Rattle.segment_pool.specs.Pools.{total_of}
+use Rattle.local_pool.specs.declared.held.HeldPool.{HeldPool}
+use Rattle.local_pool.specs.declared.shares.Want.{Want}
+use Rattle.local_pool.specs.Helds.{local_of, pool_of}
+use Rattle.local_pool.specs.Locals.{limit_of}
+use Rattle.local_pool.specs.Shares.{share_of}
 use Rattle.turn_cell.specs.declared.cell.TurnCell.{TurnCell}
 use Rattle.turn_cell.specs.declared.pass.Pass.{Pass}
 use Rattle.turn_cell.specs.Passes.{IsPassOf, number, seen, mine, opened_with}
@@ -22,6 +28,19 @@ use Rattle.conn_parts.specs.Shares.{AreOf, AreOwn, AreNew, HavePoolSize}
 use Rattle.record_writer.specs.Writers.{SendPass, ways, ways_on, AreOwnAt, sender_at, ways_into}
 use Rattle.job_cells.specs.declared.edge.Edge.{Edge}
 use Rattle.job_cells.specs.declared.edge.EdgePasses.{EdgePasses}
+use Rattle.job_cells.specs.Grants.{gate_want, partition_want, wants_of}
+
+-- How many items a subpartition has room for, and how many buffers an input channel.
+abbrev pub items_room : ℕ
+items_room = 32
+
+abbrev pub buffers_room : ℕ
+buffers_room = 10
+
+-- Each local pool, which wants so much among all these, lends up to its share of its global pool.
+abbrev pub HaveShare : {E F : Type 0} → List Want → Want → List (TurnCell HeldPool E F) → Type 0
+HaveShare {E} {F} wants want cells =
+    All (λ (cell : TurnCell HeldPool E F). let held = opened_with cell in limit_of (local_of held) ≡ share_of wants (total_of (pool_of held)) want) cells
 
 -- The channels into task b, in order, and all channels of the edge.
 abbrev pub channels_into : Job → ℕ → ℕ → List ChannelId
@@ -34,8 +53,8 @@ channels_on job e = concat_below (tasks job (suc e)) (channels_into job e)
 abbrev pub place_into : Job → ℕ → ℕ → ℕ → ℕ
 place_into job e b i = b * ways_into job e + i
 
--- There is a cell of each kind for each channel, a pool for the partition of each sending task and one for the gate of each receiving task,
--- and all have segments of one size.
+-- There is a cell of each kind for each channel, with that room, a pool for the partition of each sending task and one for the gate of each
+-- receiving task, each with its share, and all have segments of one size.
 pub record IsEdgeOf (job : Job) (e size : ℕ) (edge : Edge) : Type 0 where
   pub channels : edge.channels.items ≡ channels_on job e
   pub distinct : AreDistinct edge.channels.items
@@ -44,10 +63,14 @@ pub record IsEdgeOf (job : Job) (e size : ℕ) (edge : Edge) : Type 0 where
   pub sizes : All (λ (cell : TurnCell Queue SendEntry ℕ). (opened_with cell).size ≡ size) edge.subpartitions.items
   pub inputs : length edge.inputs.items ≡ length edge.channels.items
   pub input_sizes : All (λ (cell : TurnCell ChannelState ReceiveEntry ℕ). (opened_with cell).size ≡ size) edge.inputs.items
+  pub rooms : All (λ (cell : TurnCell Queue SendEntry ℕ). (opened_with cell).room ≡ items_room) edge.subpartitions.items
+  pub input_rooms : All (λ (cell : TurnCell ChannelState ReceiveEntry ℕ). (opened_with cell).room ≡ buffers_room) edge.inputs.items
   pub partitions : length edge.partitions.items ≡ tasks job e
   pub partition_sizes : HavePoolSize size edge.partitions.items
   pub gates : length edge.gates.items ≡ tasks job (suc e)
   pub gate_sizes : HavePoolSize size edge.gates.items
+  pub partition_shares : HaveShare (wants_of job) (partition_want (ways_on job e)) edge.partitions.items
+  pub gate_shares : HaveShare (wants_of job) (gate_want (ways_into job e)) edge.gates.items
 
 abbrev pub InputPass : Type 0
 InputPass = Pass ChannelState ReceiveEntry ℕ

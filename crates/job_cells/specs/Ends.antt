@@ -3,15 +3,18 @@ use Rattle.std.specs.Prelude.{◌≡◌, ℕ, ◌+◌, ◌*◌, ◌<◌, ◌≤�
 use Rattle.turn_cell.specs.declared.cell.TurnCell.{TurnCell}
 use Rattle.turn_cell.specs.Passes.{IsPassOf, number, mine, opened_with}
 use Rattle.flow_defs.specs.Items.{Items}
-use Rattle.subpartition.specs.Queues.{Queue}
-use Rattle.input_channel.specs.States.{ChannelState}
+use Rattle.segment_pool.specs.declared.pool.Pool.{Pool}
+use Rattle.local_pool.specs.declared.local.LocalPool.{LocalPool}
+use Rattle.local_pool.specs.Helds.{local_of, pool_of}
+use Rattle.subpartition.specs.Queues.{Queue, empty_queue}
+use Rattle.input_channel.specs.States.{ChannelState, opening}
 use Rattle.input_channel.specs.declared.entry.ReceiveEntry.{ReceiveEntry}
-use Rattle.record_writer.specs.Writers.{SendCell, SendPass, place_of}
+use Rattle.record_writer.specs.Writers.{PoolCell, SendCell, SendPass, place_of}
 use Rattle.conn_parts.specs.Shares.{AreOf, HavePoolSize}
 use Rattle.job_cells.specs.declared.pool_cells.PoolCells.{PoolCells}
 use Rattle.job_cells.specs.declared.gates.Gates.{Gates}
 use Rattle.job_cells.specs.declared.partitions.Partitions.{Partitions}
-use Rattle.job_cells.specs.Edges.{InputPass, AreGatesAt}
+use Rattle.job_cells.specs.Edges.{InputPass, AreGatesAt, buffers_room, items_room}
 use Rattle.job_cells.specs.Groups.{AreDealt, HasMore}
 
 -- ---- local pools
@@ -21,6 +24,13 @@ pub record ArePools (size : ℕ) (pools : PoolCells) : Type 0 where
   pub sizes : HavePoolSize size pools.cells.items
   pub tasks : AreOf pools.cells.items pools.tasks.items
   pub loops : AreOf pools.cells.items pools.loops.items
+
+-- A cell was added, which was made with this local pool of this pool.
+pub record HasPool (pool : Pool) (local : LocalPool) (before after : PoolCells) : Type 0 where
+  pub cell : PoolCell
+  pub is : after.cells.items ≡ before.cells.items ++ cell ∷ []
+  pub of_pool : pool_of (opened_with cell) ≡ pool
+  pub local_is : local_of (opened_with cell) ≡ local
 
 -- ---- the sending end
 
@@ -36,7 +46,7 @@ pub record IsWay (cells : List SendCell) (many a c : ℕ) (pass : SendPass) : Ty
 pub record AreSent (many c a size : ℕ) (ends : Partitions) : Type 0 where
   pub dealt : AreDealt ends.group
   pub cells : length ends.group.cells.items ≡ c * many + a
-  pub sizes : All (λ (cell : SendCell). (opened_with cell).size ≡ size) ends.group.cells.items
+  pub opened : All (λ (cell : SendCell). opened_with cell ≡ empty_queue size items_room) ends.group.cells.items
   pub lists : length ends.senders.items ≡ many
   pub before : (k : ℕ) (own : Items SendPass) → k < a → slice_get ends.senders.items k ≡ Some own → length own.items ≡ c + 1
   pub behind : (k : ℕ) (own : Items SendPass) → a ≤ k → slice_get ends.senders.items k ≡ Some own → length own.items ≡ c
@@ -45,12 +55,10 @@ pub record AreSent (many c a size : ℕ) (ends : Partitions) : Type 0 where
 
 -- Task a got a further channel.
 pub record HasWay (a size : ℕ) (before after : Partitions) : Type 0 where
-  pub state : Queue
-  pub sized : state.size ≡ size
   pub pass : SendPass
   pub own : Items SendPass
   pub longer : Items SendPass
-  pub more : HasMore state before.group.cells.items after.group.cells.items pass
+  pub more : HasMore (empty_queue size items_room) before.group.cells.items after.group.cells.items pass
   pub stood : slice_get before.senders.items a ≡ Some own
   pub pushed : longer.items ≡ own.items ++ pass ∷ []
   pub set_is : after.senders.items ≡ slice_set before.senders.items a longer
@@ -60,8 +68,9 @@ pub record HasWay (a size : ℕ) (before after : Partitions) : Type 0 where
 abbrev pub InputCell : Type 0
 InputCell = TurnCell ChannelState ReceiveEntry ℕ
 
-abbrev pub HaveInputSize : ℕ → List InputCell → Type 0
-HaveInputSize size cells = All (λ (cell : InputCell). (opened_with cell).size ≡ size) cells
+-- Each was made with a channel whose two exclusive buffers have this size.
+abbrev pub AreInputs : ℕ → List InputCell → Type 0
+AreInputs size cells = All (λ (cell : InputCell). opened_with cell ≡ opening size buffers_room) cells
 
 -- So many cells were added, and these are a gate's passes of them.
 pub record HasGate (many : ℕ) (before after : List InputCell) (own : List InputPass) : Type 0 where
@@ -74,7 +83,7 @@ pub record HasGate (many : ℕ) (before after : List InputCell) (own : List Inpu
 pub record AreGates (many ways size : ℕ) (ends : Gates) : Type 0 where
   pub dealt : AreDealt ends.group
   pub cells : length ends.group.cells.items ≡ many * ways
-  pub sizes : HaveInputSize size ends.group.cells.items
+  pub opened : AreInputs size ends.group.cells.items
   pub lists : length ends.passes.items ≡ many
   pub each : (b : ℕ) (own : Items InputPass) → slice_get ends.passes.items b ≡ Some own → AreGatesAt ends.group.cells.items (b * ways) ways own.items
   pub pools : ArePools size ends.pools

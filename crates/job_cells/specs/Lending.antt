@@ -37,11 +37,12 @@ pub record HasLent (n : ℕ) (before after : Lender) : Type 0 where
   pub wants : after.wants.items ≡ before.wants.items
   pub given : after.given ≡ before.given + n
 
--- A local pool of this pool which has lent nothing, and may lend what the next want needs.
+-- A local pool of this pool which has lent nothing, and may lend what the next want needs and up to its share.
 pub record IsNext (pool : Pool) (lender : Lender) (local : LocalPool) : Type 0 where
   pub of_pool : IsLocalOf pool local
   pub none_lent : lent_of local ≡ 0
   pub enough : (want : Want) → slice_get lender.wants.items lender.given ≡ Some want → want.need ≤ limit_of local
+  pub shared : (want : Want) → slice_get lender.wants.items lender.given ≡ Some want → limit_of local ≡ share_of lender.wants.items (total_of pool) want
 
 -- How many local pools there are at both ends of an edge, and how many at the edges before it.
 abbrev pub ends : Job → ℕ → ℕ

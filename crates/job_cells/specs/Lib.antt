@@ -3,6 +3,7 @@ pub mod Ends
 pub mod Grants
 pub mod Groups
 pub mod Lending
+pub mod Networks
 pub mod Parts
 pub mod Places
 pub mod Spans

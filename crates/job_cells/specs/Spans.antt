@@ -3,7 +3,7 @@ use Rattle.std.specs.Prelude.{◌≡◌, ℕ, suc, ◌≤◌, List, ◌++◌, ma
 use Rattle.std.specs.List.{range_with_len}
 use Rattle.flow_defs.specs.declared.job.Job.{Job}
 use Rattle.flow_defs.specs.declared.job.Exchange.TheVariants.{Forward}
-use Rattle.flow_defs.specs.declared.job.TheConstants.{STAGES_MAX, TASKS_MAX}
+use Rattle.flow_defs.specs.Limits.{stages_max, tasks_max}
 use Rattle.flow_defs.specs.declared.task.ChannelId.{ChannelId}
 use Rattle.flow_defs.specs.Jobs.{tasks, exchange}
 use Rattle.plain_machine.specs.Worth.{concat_below}
@@ -25,11 +25,11 @@ ways_in span = ways span.exchange span.senders
 
 -- It may be the span of an edge of a job.
 pub record IsSpan (span : Span) : Type 0 where
-  pub edge : span.edge ≤ STAGES_MAX
+  pub edge : span.edge ≤ stages_max
   pub some_send : 1 ≤ span.senders
-  pub few_send : span.senders ≤ TASKS_MAX
+  pub few_send : span.senders ≤ tasks_max
   pub some_receive : 1 ≤ span.receivers
-  pub few_receive : span.receivers ≤ TASKS_MAX
+  pub few_receive : span.receivers ≤ tasks_max
   pub forward : span.exchange ≡ Forward → span.senders ≡ span.receivers
 
 -- Channel i of the gate of task b, the first channels of that gate, and those of the first gates.

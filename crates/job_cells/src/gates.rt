@@ -3,8 +3,8 @@ ghost use Rattle.std.specs.Prelude.{◌≡◌, ℕ, ◌+◌, ◌*◌, ◌<◌, �
 ghost use Rattle.segment_pool.specs.Pools.{IsLimited, size_of};
 ghost use Rattle.local_pool.specs.Locals.{IsLocalOf, lent_of, limit_of};
 ghost use Rattle.input_channel.specs.States.{opening};
-ghost use Rattle.job_cells.specs.declared.gates.TheConstants.{BUFFERS_MAX};
-ghost use Rattle.job_cells.specs.Ends.{AreGates, HasGate, HaveInputSize};
+ghost use Rattle.job_cells.specs.Edges.{HaveShare, buffers_room};
+ghost use Rattle.job_cells.specs.Ends.{AreGates, AreInputs, HasGate};
 ghost use Rattle.job_cells.specs.Grants.{gate_want};
 ghost use Rattle.job_cells.specs.Groups.{AreDealt};
 ghost use Rattle.job_cells.specs.Lending.{HasLent, MayLend};
@@ -43,7 +43,7 @@ fn input_of<R: Wait>(
     requires local { IsLocalOf pool.now local.old }
     requires left { lent_of local.old + 2 ≤ limit_of local.old }
     ensures local { IsLocalOf pool.now local.new × (limit_of local.new ≡ limit_of local.old) × (lent_of local.new ≡ lent_of local.old + 2) }
-    ensures opened { IfOk result (λ input. input ≡ opening (size_of pool.now) BUFFERS_MAX) }
+    ensures opened { IfOk result (λ input. input ≡ opening (size_of pool.now) buffers_room) }
 {
     let Some(first) = local.request(rt, pool) else {
         unreachable!()
@@ -70,10 +70,10 @@ fn add_inputs<R: Wait>(
     requires local { IsLocalOf pool.now local.old × (lent_of local.old ≡ 0) }
     requires left { 2 * ways ≤ limit_of local.old }
     requires dealt { AreDealt group.old }
-    requires sizes { HaveInputSize (size_of pool.now) group.old.cells.items }
-    ensures local { IfOk result (λ _. IsLocalOf pool.now local.new) }
+    requires opened { AreInputs (size_of pool.now) group.old.cells.items }
+    ensures local { IfOk result (λ _. IsLocalOf pool.now local.new × (limit_of local.new ≡ limit_of local.old)) }
     ensures dealt { IfOk result (λ _. AreDealt group.new) }
-    ensures sizes { IfOk result (λ _. HaveInputSize (size_of pool.now) group.new.cells.items) }
+    ensures opened { IfOk result (λ _. AreInputs (size_of pool.now) group.new.cells.items) }
     ensures gate { IfOk result (λ own. HasGate ways group.old.cells.items group.new.cells.items own.items) }
 {
     channels_stand_for_histories();
@@ -111,6 +111,7 @@ pub fn gates_of<'p, R: Wait>(
     requires wants { (b : ℕ) → b < many → slice_get lender.old.wants.items (lender.old.given + b) ≡ Some (gate_want ways) }
     ensures lender { IfOk result (λ _. MayLend pool.now lender.new × HasLent many lender.old lender.new) }
     ensures gates { IfOk result (AreGates many ways (size_of pool.now)) }
+    ensures shares { IfOk result (λ gates. HaveShare lender.old.wants.items (gate_want ways) gates.pools.cells.items) }
 {
     let mut gates = Gates::new(alloc);
     for _made in 0..many {

@@ -1,7 +1,8 @@
 // Who lends the global pool's segments to a job's local pools.
 ghost use Rattle.std.specs.Prelude.{◌≡◌, ◌<◌, length, reverse, slice_get, IfOk, Some};
-ghost use Rattle.segment_pool.specs.Pools.{IsLimited};
+ghost use Rattle.segment_pool.specs.Pools.{IsLimited, total_of};
 ghost use Rattle.local_pool.specs.Locals.{IsLocalOf, lent_of, limit_of};
+ghost use Rattle.local_pool.specs.Shares.{share_of};
 ghost use Rattle.job_cells.specs.Lending.{HasLent, IsGrant, IsNext, MayLend};
 
 use crate::open::Grants;
@@ -75,6 +76,7 @@ impl Lender {
         ensures may { MayLend pool.now self.new × HasLent 1 self.old self.new }
         ensures grant { IsGrant pool.now result.0 result.1 result.2 }
         ensures want { slice_get self.old.wants.items self.old.given ≡ Some result.1 }
+        ensures share { result.2 ≡ share_of self.old.wants.items (total_of pool.now) result.1 }
     {
         let _pool = pool;
         let Some(pass) = self.passes.pop() else {

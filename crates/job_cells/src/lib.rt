@@ -17,4 +17,4 @@ mod span;
 
 pub use edge::{Edge, EdgePasses};
 pub use group::cell_of_two;
-pub use open::{Grants, open_edges, open_pool};
+pub use open::{Grants, Network, open_edges, open_network};

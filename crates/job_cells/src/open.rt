@@ -1,17 +1,19 @@
 // Opens the edges of a job.
 ghost use Rattle.std.specs.Prelude.{◌≡◌, ◌<◌, ◌≤◌, suc, length, IfOk};
 ghost use Rattle.flow_defs.specs.Jobs.{IsJob, last_edge, segments_needed};
-ghost use Rattle.segment_pool.specs.Pools.{size_of};
+ghost use Rattle.segment_pool.specs.Pools.{size_of, total_of};
 ghost use Rattle.segment_pool.specs.Stocks.{IsTotal, IsSize};
 ghost use Rattle.job_cells.specs.Edges.{AreEdgesOf, AreAllPassesOf};
-ghost use Rattle.job_cells.specs.Grants.{AreGrantsOf};
+ghost use Rattle.local_pool.specs.Shares.{dealt};
+ghost use Rattle.job_cells.specs.Grants.{AreGrantsOf, wants_of};
+ghost use Rattle.job_cells.specs.Networks.{IsNetworkOf};
 
 use crate::edge::{Edge, EdgePasses};
 use crate::lender::Lender;
 use crate::parts::{edge_of, parts_of};
 use crate::pools::{limits_of, wants_of};
 use crate::span::{edges_of, span_of};
-use flow_defs::{Job, ListOf};
+use flow_defs::{Job, ListOf, needed};
 use local_pool::Want;
 use segment_pool::{Pool, PoolPass};
 use std::alloc::{AllocError, Global};
@@ -26,21 +28,55 @@ pub struct Grants {
     pub limits: ListOf<u32>,
 }
 
-/// A pool of `total` segments of `size` bytes for the tasks of a job, and what each of them may have of it.
+/// The network memory of a run: the global pool of segments, and what the local pools may have of it.
+#[derive(Drop)]
+pub struct Network {
+    pub pool: Pool,
+    pub grants: Grants,
+}
+
+// How many segments are opened for each that is needed: more are never lent.
+const OPENED: u32 = 6;
+
+// How many segments are opened for a job that may have so many. Each local pool has its share of all.
+fn opened(job: &Job, segments: u32) -> u32
+    requires is_job { IsJob job.now }
+    requires range { IsTotal segments × (segments_needed job.now ≤ segments) }
+    ensures range { IsTotal result × (segments_needed job.now ≤ result) }
+    ensures within { result ≤ segments }
+    ensures dealt { dealt (wants_of job.now) result ≡ dealt (wants_of job.now) segments }
+{
+    let most = OPENED * needed(job);
+    segments.min(most.max(1))
+}
+
+/// The network memory of a job that may have `segments` segments of `size` bytes. Of these at most six for
+/// each that the job needs are opened; more are never lent.
 ///
 /// A partition of s channels needs s + 1 segments and takes at most 2 s + 8; a gate of g channels needs 2 g
 /// and takes at most 2 g + 8. Beyond the needs the segments are shared in proportion to what each may still
 /// take.
-pub fn open_pool(
+pub fn open_network(
     alloc: Global,
     job: &Job,
-    total: u32,
+    segments: u32,
     size: u32,
-) -> Result<(Pool, Grants), AllocError>
+) -> Result<Network, AllocError>
+    requires is_job { IsJob job.now }
+    requires range { IsTotal segments × IsSize size }
+    requires enough { segments_needed job.now ≤ segments }
+    ensures { IfOk result (IsNetworkOf job.now segments size) }
+{
+    let (pool, grants) = open_pool(alloc, job, opened(job, segments), size)?;
+    Ok(Network { pool, grants })
+}
+
+// A pool of so many segments for the tasks of a job, and what each of them may have of it.
+fn open_pool(alloc: Global, job: &Job, total: u32, size: u32) -> Result<(Pool, Grants), AllocError>
     requires is_job { IsJob job.now }
     requires range { IsTotal total × IsSize size }
     requires enough { segments_needed job.now ≤ total }
-    ensures size { IfOk result (λ r. size_of r.0 ≡ size) }
+    ensures terms { IfOk result (λ r. (total_of r.0 ≡ total) × (size_of r.0 ≡ size)) }
     ensures grants { IfOk result (λ r. AreGrantsOf job.now r.0 r.1) }
 {
     let wants = wants_of(alloc, job)?;

@@ -4,10 +4,10 @@ ghost use Rattle.flow_defs.specs.declared.job.Job.{Job};
 ghost use Rattle.flow_defs.specs.Jobs.{IsJob, last_edge};
 ghost use Rattle.segment_pool.specs.Pools.{size_of};
 ghost use Rattle.job_cells.specs.Edges.{ArePassesOf, IsEdgeOf};
-ghost use Rattle.job_cells.specs.Grants.{gate_want};
+ghost use Rattle.job_cells.specs.Grants.{gate_want, partition_want, wants_of};
 ghost use Rattle.job_cells.specs.Lending.{HasLent, MayLend};
-ghost use Rattle.job_cells.specs.Parts.{AreParts};
-ghost use Rattle.job_cells.specs.Spans.{IsSpan, span_on, ways_in};
+ghost use Rattle.job_cells.specs.Parts.{AreParts, HaveShares};
+ghost use Rattle.job_cells.specs.Spans.{IsSpan, span_on, ways_in, ways_out};
 
 use crate::channels::{channels_of, readers_of};
 use crate::edge::{Edge, EdgePasses};
@@ -45,9 +45,11 @@ pub fn parts_of<'p, R: Wait>(
 ) -> Result<Parts<'p>, AllocError>
     requires span { IsSpan span }
     requires may { MayLend pool.now lender.old }
+    requires partition_wants { (a : ℕ) → a < span.senders → slice_get lender.old.wants.items (lender.old.given + a) ≡ Some (partition_want (ways_out span)) }
     requires wants { (b : ℕ) → b < span.receivers → slice_get lender.old.wants.items (lender.old.given + (span.senders + b)) ≡ Some (gate_want (ways_in span)) }
     ensures lender { IfOk result (λ _. MayLend pool.now lender.new × HasLent (span.senders + span.receivers) lender.old lender.new) }
     ensures parts { IfOk result (AreParts span (size_of pool.now)) }
+    ensures shares { IfOk result (HaveShares span lender.old.wants.items) }
 {
     let channels = channels_of(alloc, span)?;
     let (readers, writer, granter) = readers_of(alloc, channels.as_slice())?;
@@ -67,7 +69,7 @@ pub fn parts_of<'p, R: Wait>(
 
 /// The edge of these parts, and its passes.
 pub fn edge_of<'p>(parts: Parts<'p>) -> (Edge<'p>, EdgePasses<'p>)
-    ensures edge { (job : Job) (e size : ℕ) → IsJob job → e ≤ last_edge job → AreParts (span_on job e) size parts.entry → IsEdgeOf job e size result.0 }
+    ensures edge { (job : Job) (e size : ℕ) → IsJob job → e ≤ last_edge job → AreParts (span_on job e) size parts.entry → HaveShares (span_on job e) (wants_of job) parts.entry → IsEdgeOf job e size result.0 }
     ensures passes { (job : Job) (e size : ℕ) → IsJob job → e ≤ last_edge job → AreParts (span_on job e) size parts.entry → ArePassesOf job e result.0 result.1 }
 {
     let sending = parts.sending;

@@ -1,9 +1,11 @@
 // The cells of local pools.
-ghost use Rattle.std.specs.Prelude.{◌≡◌, ◌+◌, ◌≤◌, [], length, IfOk, OnOk};
+ghost use Rattle.std.specs.Prelude.{◌≡◌, ℕ, ◌+◌, ◌<◌, ◌≤◌, [], length, slice_get, IfOk, OnOk, Some};
 ghost use Rattle.segment_pool.specs.Pools.{size_of};
+ghost use Rattle.local_pool.specs.declared.shares.Want.{Want};
 ghost use Rattle.local_pool.specs.Locals.{IsLocalOf};
+ghost use Rattle.job_cells.specs.Edges.{HaveShare};
 ghost use Rattle.job_cells.specs.Lending.{HasLent, MayLend};
-ghost use Rattle.job_cells.specs.Ends.{ArePools};
+ghost use Rattle.job_cells.specs.Ends.{ArePools, HasPool};
 
 use crate::group::cell_of_two;
 use crate::lender::Lender;
@@ -40,6 +42,7 @@ impl<'p> PoolCells<'p> {
         requires pools { ArePools (size_of pool.now) self.old }
         ensures pools { OnOk result (ArePools (size_of pool.now) self.new) }
         ensures many { OnOk result (length self.new.cells.items ≡ length self.old.cells.items + 1) }
+        ensures made { OnOk result (HasPool pool.now local self.old self.new) }
     {
         let (cell, task, other) = cell_of_two(alloc, HeldPool::new(pool, local))?;
         self.cells.push(cell)?;
@@ -61,6 +64,8 @@ pub fn partitions_of<'p, R: Wait>(
     requires left { lender.old.given + many ≤ length lender.old.wants.items }
     ensures lender { IfOk result (λ _. MayLend pool.now lender.new × HasLent many lender.old lender.new) }
     ensures pools { IfOk result (λ pools. ArePools (size_of pool.now) pools × (length pools.cells.items ≡ many)) }
+    ensures shares { IfOk result (λ pools. (want : Want) →
+        ((a : ℕ) → a < many → slice_get lender.old.wants.items (lender.old.given + a) ≡ Some want) → HaveShare lender.old.wants.items want pools.cells.items) }
 {
     let mut pools = PoolCells::new(alloc);
     for _made in 0..many {

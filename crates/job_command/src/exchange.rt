@@ -12,6 +12,7 @@ ghost use Rattle.stage_fns.specs.Kinds.{kinds};
 ghost use Rattle.job_plan.specs.Plans.{CanRun};
 ghost use Rattle.collecting_worker.specs.Accounts.{HasText};
 ghost use Rattle.flow_defs.specs.declared.image.Image.{Image};
+ghost use Rattle.job_cells.specs.Networks.{IsNetworkOf};
 ghost use Rattle.job_workers.specs.Collecting.{TakesImages};
 ghost use Rattle.job_outcome.specs.Outcomes.{AreTold, AreWithin, ComeBack, IsRunCause};
 ghost use Rattle.job_outcome.specs.Storing.{EndsIn, HasKept, HasStored, IsTooLarge};
@@ -24,6 +25,7 @@ ghost use Rattle.job_command.specs.RunFaults.{IsRunFault};
 use command_parts::fault::Fault;
 use command_parts::inputs::{find_inputs, give_back};
 use flow_defs::{Cause, Job, ListOf, SOURCES_MAX, Table};
+use job_cells::{Network, open_network};
 use job_run::run_job;
 use job_text::RunOptions;
 use outside::{Files, Keeper, MemoryLinks, Source};
@@ -32,8 +34,8 @@ use std::alloc::Global;
 use std::sync::Wait;
 use std::thread::Threads;
 
-/// The table of the job, whose tasks run at once and read its sources at once. The images of its checkpoints go to the
-/// keeper. Each input that was found is given back, whatever comes.
+/// The table of the job, whose tasks run at once and read its sources at once, over network memory of the size that the
+/// options say. The images of its checkpoints go to the keeper. Each input that was found is given back, whatever comes.
 pub fn table_by_exchange<R: Threads + Wait + Sync, F: Files, K: Keeper + Send>(
     rt: &R,
     alloc: Global,
@@ -67,6 +69,7 @@ where
     ensures keeper_never_falls { K.faults keeper.old ≤ K.faults keeper.new }
     ensures given_back { F.lent files.new ≡ F.lent files.old }
 {
+    let network = open_network(alloc, job, options.pool, options.segment)?;
     let mut inputs = ListOf::new(alloc);
     inputs.reserve(SOURCES_MAX)?;
     let table = table_of_found(
@@ -74,6 +77,7 @@ where
         alloc,
         job,
         options,
+        network,
         functions,
         files,
         keeper,
@@ -89,6 +93,7 @@ fn table_of_found<R: Threads + Wait + Sync, F: Files, K: Keeper + Send>(
     alloc: Global,
     job: &Job,
     options: RunOptions,
+    network: Network,
     functions: &FnTable,
     files: &mut F,
     keeper: &mut K,
@@ -99,8 +104,7 @@ where
     requires is_job { IsJob job.now × CanRun (kinds functions.now) job.now }
     requires few { length job.now.sources.items ≤ 8 }
     requires names { AllByRecursion (λ (file : Items ℕ). IsToken file.items) job.now.sources.items }
-    requires range { IsTotal options.pool × IsSize options.segment }
-    requires enough { HasPool options job.now }
+    requires network { IsNetworkOf job.now options.pool options.segment network }
     requires text { HasText job.now }
     requires every { IfSome options.every (λ n. 1 ≤ n) }
     requires keeper { TakesImages (K.images keeper.old) }
@@ -122,7 +126,7 @@ where
     ensures never_falls { F.faults files.old ≤ F.faults files.new }
 {
     find_inputs(alloc, job, files, inputs)?;
-    match table_of_inputs(rt, alloc, job, options, functions, keeper, inputs) {
+    match table_of_inputs(rt, alloc, job, options, network, functions, keeper, inputs) {
         Ok(table) => Ok(table),
         Err(cause) => Err(fault_of(cause)),
     }
@@ -134,13 +138,13 @@ fn table_of_inputs<R: Threads + Wait + Sync, S: Source + Send + Drop, K: Keeper 
     alloc: Global,
     job: &Job,
     options: RunOptions,
+    network: Network,
     functions: &FnTable,
     keeper: &mut K,
     inputs: &mut ListOf<S>,
 ) -> Result<Table, Cause>
     requires is_job { IsJob job.now × CanRun (kinds functions.now) job.now }
-    requires range { IsTotal options.pool × IsSize options.segment }
-    requires enough { HasPool options job.now }
+    requires network { IsNetworkOf job.now options.pool options.segment network }
     requires text { HasText job.now }
     requires every { IfSome options.every (λ n. 1 ≤ n) }
     requires keeper { TakesImages (K.images keeper.old) }
@@ -164,16 +168,7 @@ fn table_of_inputs<R: Threads + Wait + Sync, S: Source + Send + Drop, K: Keeper 
         ListOf::new(alloc),
     );
     run_job(
-        rt,
-        alloc,
-        job,
-        functions,
-        options.every,
-        options.pool,
-        options.segment,
-        inputs,
-        &mut net,
-        keeper,
+        rt, alloc, job, functions, options, network, inputs, &mut net, keeper,
     )
 }
 

@@ -56,6 +56,8 @@ module _ (size : ℕ) (edge : Edge) (stop : StopCell) (share : ConnShare) (passe
     subpartitions = own_of 1 edge.subpartitions.items share.subpartitions.now passes.subpartitions.items share.passes.subpartitions.items over.subpartitions (ap (λ (p : SharePasses). p.subpartitions.items) same) own;
     pools = of_of edge.partitions.items share.pools.now passes.pools.items share.passes.pools.items pools (ap (λ (p : SharePasses). p.pools.items) same) of;
     sizes = subst (λ (n : ℕ). HavePoolSize n share.pools.now) (sym over.size_is) (subst (λ (l : List PoolCell). HavePoolSize size l) (sym pools) wired.partition_sizes);
+    queue_sizes = subst (λ (n : ℕ). All (λ (cell : TurnCell Queue SendEntry ℕ). (opened_with cell).size ≡ n) share.subpartitions.now) (sym over.size_is)
+        (subst (λ (l : List (TurnCell Queue SendEntry ℕ)). All (λ (cell : TurnCell Queue SendEntry ℕ). (opened_with cell).size ≡ size) l) (sym over.subpartitions) wired.sizes);
     senders = subst (λ (l : List ChannelId). All (λ c. c.from < length share.pools.now) l) (sym over.channels)
         (subst (λ (l : List PoolCell). All (λ c. c.from < length l) edge.channels.items) (sym pools) wired.senders);
     stop = stop_here;

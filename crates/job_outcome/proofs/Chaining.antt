@@ -164,6 +164,7 @@ module _ {S O I L N : Type 0} {left : S → Option (List ℕ)} {faults : S → �
             chains job size every bytes base (own_at rows) (gate_at rows) (snapshots_at rows) account_of.images
             (interval_of every run.interval) start (job_ran base start);
         still = let first = starts job in still (job_ran first.0 first.1);
+        spelled = account_of.stored.spelled;
       }
 
       -- The image that is next behind those that were stored is of the chain with them.

@@ -10,8 +10,7 @@ use Rattle.flow_defs.specs.Jobs.{tasks}
 use Rattle.flow_defs.specs.Lines.{lines}
 use Rattle.outside.specs.Faults.{HasRisen}
 use Rattle.collecting_worker.specs.declared.world.CollectEnd.{CollectEnd}
-use Rattle.job_plan.specs.Limits.{HasLongLine, IsOverLimit}
-use Rattle.job_plan.specs.declared.limits.TheConstants.{SOURCE_MAX}
+use Rattle.job_plan.specs.Limits.{HasLongLine, IsOverLimit, source_max}
 use Rattle.job_workers.specs.declared.connection.LoopLeft.TheVariants.{SentItems, ReadControl, ReadItems, SentControl}
 use Rattle.job_workers.specs.declared.collecting.CollectTask.{CollectTask}
 use Rattle.job_workers.specs.declared.place.Place.{Place}
@@ -93,7 +92,7 @@ module _ {S : Type 0} (left : S → Option (List ℕ)) (faults : S → ℕ) (bef
   IsRunCause link peer keeper big causes.Keeper = keeper
   IsRunCause link peer keeper big causes.Link = link
   IsRunCause link peer keeper big (causes.LongLine a) = IsOfInput a (λ told fell rose. IfSome told (λ bytes. HasLongLine (lines bytes)))
-  IsRunCause link peer keeper big (causes.BigSource a) = IsOfInput a (λ told fell rose. IfSome told (λ bytes. SOURCE_MAX < length bytes))
+  IsRunCause link peer keeper big (causes.BigSource a) = IsOfInput a (λ told fell rose. IfSome told (λ bytes. source_max < length bytes))
   IsRunCause link peer keeper big causes.BigImage = big
   IsRunCause link peer keeper big (causes.OverCredit channel received announced) = IsOverByOne received announced
   IsRunCause link peer keeper big (causes.Peer fault) = peer fault

@@ -20,14 +20,15 @@ HasNoneInFlight job image = (e a b : ℕ) → is_channel job e a b ≡ true → 
 abbrev pub HasKept : Option (List KeptImage) → Option (List KeptImage) → List Image → Type 0
 HasKept before after images = after ≡ with_images before images
 
--- The images that the keeper got are a chain from the start on, each the successor of the one before it by the takes recorded in it, and
--- nothing is in flight at any of them. Where the keeper doesn't tell its images nothing is said: HasKept holds of no images then, and those
+-- The images that the keeper got are a chain from the start on, each the successor of the one before it by the takes recorded in it. Nothing
+-- is in flight at any of them, and each has a spelling, so that it can be read. Where the keeper doesn't tell its images nothing is said: HasKept holds of no images then, and those
 -- are a chain.
 pub record HasStored (job : Job) (lines : ℕ → List (List ℕ)) (every : Option ℕ) (before after : Option (List KeptImage)) : Type 0 where
   pub images : List Image
   pub kept : HasKept before after images
   pub chain : (base : Image) → IsStart job base → Chain job lines every base images
   pub still : AllByRecursion (HasNoneInFlight job) images
+  pub spelled : AllByRecursion CanSpell images
 
 -- The last of them is marked so, and this is the table of all its tasks' tables.
 pub record EndsIn (job : Job) (lines : ℕ → List (List ℕ)) (every : Option ℕ) (before after : Option (List KeptImage)) (table : Values) : Type 0 where

@@ -14,6 +14,8 @@ use Rattle.flow_defs.specs.Tables.{Values}
 use Rattle.plain_machine.specs.Chains.{last_of}
 use Rattle.outside.specs.Faults.{HasRisen}
 use Rattle.outside.specs.Keepers.{KeptImage}
+use Rattle.outside.specs.Stops.{first_met}
+use Rattle.outside.specs.declared.stop.StopEntry.{StopEntry}
 use Rattle.outside.specs.declared.wires.Wire.{Wire}
 use Rattle.snapshot_channel.specs.declared.opened.SnapshotChannel.{SnapshotChannel}
 use Rattle.snapshot_channel.specs.Passes.{IsCollecting}
@@ -66,12 +68,12 @@ cause_with left faults before after L M P Q keeper big large f h g causes.Memory
 -- ---- the images that a keeper got
 
 -- It got none.
-pub none_kept : (told : Option (List KeptImage)) → HasKept told told []
+none_kept : (told : Option (List KeptImage)) → HasKept told told []
 none_kept None = refl
 none_kept (Some images) = ap Some (sym (append-nil images))
 
-pub none_stored : (job : Job) (lines : ℕ → List (List ℕ)) (every : Option ℕ) (told : Option (List KeptImage)) → HasStored job lines every told told
-none_stored job lines every told = record { images = []; kept = none_kept told; chain = λ base start. tt; still = tt }
+none_stored : (job : Job) (lines : ℕ → List (List ℕ)) (every : Option ℕ) (told : Option (List KeptImage)) → HasStored job lines every told told
+none_stored job lines every told = record { images = []; kept = none_kept told; chain = λ base start. tt; still = tt; spelled = tt }
 
 -- The last of some images is the last one behind any.
 last_behind : (images : List Image) (first last : Image) → last_or (Some first) images ≡ Some last → last_of first images ≡ last
@@ -225,8 +227,8 @@ module _ {S O I L N : Type 0} (left : S → Option (List ℕ)) (faults : S → �
             table_is = joined.table_of.table_is;
           }
 
-      pub is_run : (result : Result Values Cause) → IsAnswer job rows loops collected result → IsRun left faults sent got job every inputs after kept keeps fell rose link peer result
-      is_run (Ok table) answer =
+      pub is_run : (history : List (ℕ × StopEntry)) (result : Result Values Cause) → IsAnswer job rows loops collected history result → IsRun left faults sent got job every inputs after kept keeps fell rose link peer result
+      is_run history (Ok table) answer =
           let some = got_images job size every snapshots edges inputs wires kept keeps fell rose rows loops collected ran in
           record {
             tally = λ tell bytes told.
@@ -241,7 +243,7 @@ module _ {S O I L N : Type 0} (left : S → Option (List ℕ)) (faults : S → �
             last = ends_in table answer.table.0 answer.table.1;
             never_falls = some.1;
           }
-      is_run (Err cause) answer =
+      is_run history (Err cause) answer =
           let some = got_images job size every snapshots edges inputs wires kept keeps fell rose rows loops collected ran in
           record {
             tally = tt;
@@ -279,7 +281,7 @@ is_memory causes.Memory = inl refl
 module _ {S O I : Type 0} (job : Job) (rows seen_rows : List (Items (TaskPlace S))) (loops seen_loops : List (Items (LoopPlace O I))) (collected : Place CollectTask CollectEnd)
     (same_rows : seen_rows ≡ rows) (same_loops : seen_loops ≡ loops) (cause : Cause)
     (done : cause ≡ causes.Done → AllDone seen_rows seen_loops collected) (ended : cause ≢ causes.Done → cause ≢ causes.Memory → HasEnded seen_rows seen_loops collected cause)
-    (not_stopped : cause ≢ causes.Stopped) where
+    (not_stopped : cause ≢ causes.Stopped) (met : List (ℕ × StopEntry)) (first : cause ≢ causes.Done → cause ≢ causes.Memory → first_met met ≡ Some cause) where
   all_done : cause ≡ causes.Done → AllDone rows loops collected
   all_done is =
       subst (λ (l : List (Items (LoopPlace O I))). AllDone rows l collected) same_loops
@@ -290,19 +292,19 @@ module _ {S O I : Type 0} (job : Job) (rows seen_rows : List (Items (TaskPlace S
       subst (λ (l : List (Items (LoopPlace O I))). HasEnded rows l collected cause) same_loops
       (subst (λ (r : List (Items (TaskPlace S))). HasEnded r seen_loops collected cause) same_rows (ended not other))
 
-  has_fault : (fault : Cause) → IsFaultOf cause fault → (fault ≡ causes.Memory) ⊎ (HasEnded rows loops collected fault × (fault ≢ causes.Done) × (fault ≢ causes.Stopped))
+  has_fault : (fault : Cause) → IsFaultOf cause fault → (fault ≡ causes.Memory) ⊎ (HasEnded rows loops collected fault × (fault ≢ causes.Done) × (fault ≢ causes.Stopped) × (first_met met ≡ Some fault))
   has_fault fault (inl memory) = inl memory
   has_fault fault (inr same) = elim (is_memory cause) [
     | inl memory ↦ inl (same.0 ∙ memory)
     | inr other ↦
         let is : cause ≡ fault = sym same.0 in
         let not : cause ≢ causes.Done = (λ e. same.1 (same.0 ∙ e)) in
-        inr (subst (λ (f : Cause). HasEnded rows loops collected f) is (one_ended not other), same.1, subst (λ (f : Cause). f ≢ causes.Stopped) is not_stopped)
+        inr (subst (λ (f : Cause). HasEnded rows loops collected f) is (one_ended not other), same.1, subst (λ (f : Cause). f ≢ causes.Stopped) is not_stopped, subst (λ (f : Cause). first_met met ≡ Some f) is (first not other))
   ]
 
   pub is_answer : (result : Result Values Cause) (end : CollectEnd) → collected ≡ Ended end →
       OnOk result (cause ≡ causes.Done) → IfOk result (λ table. IsTableOf job end.last table) → IfErr result (λ fault. IsFaultOf cause fault) →
-      IsAnswer job rows loops collected result
+      IsAnswer job rows loops collected met result
   is_answer (Ok table) end is is_done table_of fault = record { table = (all_done is_done, record { end = end; end_is = is; table_of = table_of }); cause = tt }
   is_answer (Err found) end is is_done table_of fault = record { table = tt; cause = has_fault found fault }
 

@@ -12,6 +12,8 @@ use Rattle.flow_defs.specs.Tables.{Values, join}
 use Rattle.plain_machine.specs.Worth.{tally}
 use Rattle.outside.specs.Faults.{HasRisen}
 use Rattle.outside.specs.Keepers.{KeptImage}
+use Rattle.outside.specs.Stops.{first_met}
+use Rattle.outside.specs.declared.stop.StopEntry.{StopEntry}
 use Rattle.snapshot_channel.specs.declared.opened.SnapshotChannel.{SnapshotChannel}
 use Rattle.snapshot_channel.specs.Passes.{IsCollecting}
 use Rattle.collecting_worker.specs.declared.world.CollectEnd.{CollectEnd}
@@ -60,10 +62,11 @@ abbrev pub IsFaultOf : Cause → Cause → Type 0
 IsFaultOf cause fault = (fault ≡ Memory) ⊎ ((fault ≡ cause) × (fault ≢ Done))
 
 module _ {S O I : Type 0} (job : Job) (rows : List (Items (TaskPlace S))) (loops : List (Items (LoopPlace O I))) (collected : Place CollectTask CollectEnd) where
-  -- A table comes of workers that are all done, and another answer is the cause with which one of them ended, or want of memory.
-  pub record IsAnswer (result : Result Values Cause) : Type 0 where
+  -- A table comes of workers that are all done. Another answer is the first fault of the history that the stop cell tells, for which one of them
+  -- ended, or want of memory.
+  pub record IsAnswer (met : List (ℕ × StopEntry)) (result : Result Values Cause) : Type 0 where
     pub table : IfOk result (λ table. AllDone rows loops collected × IsJoined job collected table)
-    pub cause : IfErr result (λ cause. (cause ≡ Memory) ⊎ (HasEnded rows loops collected cause × (cause ≢ Done) × (cause ≢ Stopped)))
+    pub cause : IfErr result (λ cause. (cause ≡ Memory) ⊎ (HasEnded rows loops collected cause × (cause ≢ Done) × (cause ≢ Stopped) × (first_met met ≡ Some cause)))
 
 -- ---- the run
 

@@ -1,6 +1,6 @@
 // How a run whose workers have ended is wound up.
 ghost use Rattle.std.specs.Prelude.{◌≡◌, ◌+◌, ◌≤◌, [], ℕ, length, suc};
-ghost use Rattle.turn_cell.specs.Passes.{IsPassOf};
+ghost use Rattle.turn_cell.specs.Passes.{IsPassOf, seen};
 ghost use Rattle.flow_defs.specs.Jobs.{IsJob, last_edge, tasks};
 ghost use Rattle.outside.specs.Faults.{HasRisen};
 ghost use Rattle.snapshot_channel.specs.Passes.{IsCollecting};
@@ -68,7 +68,8 @@ fn settle_all<'a, 'p, S, N: Links, R: Wait>(
     settle_snapshots(job, channel, collecting, rows, room);
 }
 
-/// What the workers of a job came to: the tables of the last image, joined, where all are done, and else the cause.
+/// What the workers of a job came to: the tables of the last image, joined, where all are done, and else the cause of
+/// the first fault that the stop cell tells. The pass is the run's own.
 /// Their edges are settled, each of which gives its wire back to `net`, and then their snapshots. The inputs of the
 /// sources come back in `inputs`, in order, for which there is room, as there is for the passes of the channel of
 /// snapshots.
@@ -79,13 +80,13 @@ pub fn wind_up<'a, 'p, S: Drop, N: Links, R: Wait>(
     edges: &[Edge<'p>],
     cells: &RunCells,
     room: ListOf<TaskPass>,
-    pass: Pass<StopState>,
+    pass: &mut Pass<StopState>,
     ran: Ran<'a, 'p, S, N::Out, N::In>,
     inputs: &mut ListOf<S>,
     net: &mut N,
 ) -> Result<Table, Cause>
     requires is_job { IsJob job.now }
-    requires stop { IsPassOf cells.now.stop pass }
+    requires stop { IsPassOf cells.now.stop pass.old }
     requires ended { (size : ℕ) × AreEnded (λ out input. N.belong (N.Out.line out) (N.In.line input)) N.Out.sent N.In.got job.now size edges.now ran.rows.items ran.loops.items }
     requires acknowledged { HaveAcknowledged job.now cells.now.channel ran.rows.items }
     requires collected { HasCollected cells.now.channel ran.collected }
@@ -93,7 +94,8 @@ pub fn wind_up<'a, 'p, S: Drop, N: Links, R: Wait>(
     requires room { (room.items ≡ []) × (length (all_tasks job.now) ≤ room.room) }
     requires inputs { (inputs.old.items ≡ []) × (tasks job.now 0 ≤ inputs.old.room) }
     requires lent { suc (last_edge job.now) ≤ N.lent net.old }
-    ensures answer { IsAnswer job.now ran.entry.rows.items ran.entry.loops.items ran.entry.collected result }
+    ensures stop { IsPassOf cells.now.stop pass.new }
+    ensures answer { IsAnswer job.now ran.entry.rows.items ran.entry.loops.items ran.entry.collected (seen pass.new) result }
     ensures inputs { AreLeftIn ran.entry.rows.items inputs.new.items × (length inputs.new.items ≡ tasks job.now 0) }
     ensures settled { LinksTell N.Out.sent N.In.got → (end : CollectEnd) → ran.entry.collected ≡ Ended end → AreSettledWith job.now ran.entry.rows.items end }
     ensures wires { RowsCameBack N.In.got N.In.ended (N.wires net.old) (N.wires net.new) ran.entry.loops.items (suc (last_edge job.now)) }
@@ -108,8 +110,7 @@ pub fn wind_up<'a, 'p, S: Drop, N: Links, R: Wait>(
     } = ran;
     let mut rows = rows;
     let mut loops = loops;
-    let mut pass = pass;
-    let told = look_for_stop(rt, &cells.stop, &mut pass);
+    let told = look_for_stop(rt, &cells.stop, pass);
     let cause = outcome_of(rows.as_slice(), loops.as_slice(), &collected, told);
     let CollectEnd {
         collecting,

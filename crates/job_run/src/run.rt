@@ -1,18 +1,18 @@
 // A run of a job, from its inputs to its table.
 ghost use Rattle.std.specs.Prelude.{◌≡◌, ◌+◌, ◌≤◌, ℕ, List, length, suc, All, IfErr, IfOk, IfSome};
 ghost use Rattle.flow_defs.specs.declared.image.Image.{Image};
-ghost use Rattle.flow_defs.specs.Jobs.{IsJob, last_edge, segments_needed, tasks};
+ghost use Rattle.flow_defs.specs.Jobs.{IsJob, last_edge, tasks};
 ghost use Rattle.flow_defs.specs.Lines.{lines};
 ghost use Rattle.plain_machine.specs.Worth.{tally};
 ghost use Rattle.outside.specs.Faults.{HasRisen};
 ghost use Rattle.outside.specs.Links.{NeverFails};
 ghost use Rattle.segment_pool.specs.Pools.{size_of};
-ghost use Rattle.segment_pool.specs.Stocks.{IsSize, IsTotal};
 ghost use Rattle.stage_fns.specs.Kinds.{kinds};
 ghost use Rattle.job_plan.specs.Plans.{CanRun};
 ghost use Rattle.collecting_worker.specs.Accounts.{HasText};
 ghost use Rattle.job_cells.specs.Edges.{AreAllPassesOf, AreEdgesOf};
 ghost use Rattle.job_cells.specs.Grants.{AreGrantsOf};
+ghost use Rattle.job_cells.specs.Networks.{IsNetworkOf};
 ghost use Rattle.job_workers.specs.Collecting.{TakesImages};
 ghost use Rattle.job_ends.specs.Ended.{LinksTell};
 ghost use Rattle.job_outcome.specs.Outcomes.{AreTold, AreWithin, ComeBack, IsRunCause};
@@ -26,12 +26,13 @@ use crate::cells::{OpenedCells, open_cells};
 use crate::ending::wind_up;
 use crate::wires::{give_back, open_wires};
 use crate::workers::run_workers;
-use flow_defs::{Cause, Job, ListOf, Table, needed};
-use job_cells::{Edge, EdgePasses, Grants, open_edges, open_pool};
+use flow_defs::{Cause, Job, ListOf, Table};
+use job_cells::{Edge, EdgePasses, Grants, Network, open_edges};
 use job_outcome::laws::{
     causes_have_grounds, done_collector_has_last, done_workers_tally, inputs_come_back,
     keeper_got_images, stored_images_are_chain, sure_wires_have_no_fault, workers_end,
 };
+use job_text::RunOptions;
 use outside::{Keeper, Links, Source, Wire};
 use segment_pool::Pool;
 use stage_fns::FnTable;
@@ -99,7 +100,10 @@ where
     done_collector_has_last::<S, N>();
     stored_images_are_chain::<S, N>();
     keeper_got_images::<S, N>();
-    wind_up(rt, alloc, job, edges, &cells, room, own, ran, inputs, net)
+    let mut own = own;
+    wind_up(
+        rt, alloc, job, edges, &cells, room, &mut own, ran, inputs, net,
+    )
 }
 
 // Runs a job with this pool, by what is granted of it.
@@ -151,31 +155,15 @@ where
     }
 }
 
-// How many segments are opened for each that is needed: more are never lent.
-const OPENED: u32 = 6;
-
-// How many segments of a pool of so many a run of the job opens.
-fn opened(job: &Job, segments: u32) -> u32
-    requires is_job { IsJob job.now }
-    requires range { IsTotal segments × (segments_needed job.now ≤ segments) }
-    ensures range { IsTotal result × (segments_needed job.now ≤ result) }
-    ensures within { result ≤ segments }
-{
-    let most = OPENED * needed(job);
-    segments.min(most.max(1))
-}
-
 /// Runs a job: each task, each of the four loops of each edge's connection, and the worker that collects snapshots is
 /// a worker of its own, in a thread of its own where threads can be made. Answers the table that the aggregate's tasks
 /// counted, which is that of the last image, or the cause of the first fault that a worker met.
 ///
-/// `every` is how many lines a source reads between two checkpoints, from 1; with None there is one checkpoint, at the
-/// end. The images are stored in the keeper, from number 1 on; it must hold no image yet with a number from 1 on. With
-/// aligned barriers as in Flink nothing is in flight at any of them.
+/// The images of its checkpoints are stored in the keeper, from number 1 on; it must hold no image yet with a number
+/// from 1 on. With aligned barriers as in Flink nothing is in flight at any of them.
 ///
-/// `segments` and `size` are those of the pool of network memory, in segments and in bytes a segment. Of the
-/// segments at most six for each that the job needs are opened; more are never lent. There is
-/// an input for each source, in order; they come back in the same order. Memory: the pool, the tables, two images,
+/// The run works in this network memory, which is the one that its options ask for. There is an input for each
+/// source, in order; they come back in the same order. Memory: the pool, the tables, two images,
 /// 131,072 bytes for each link and the stacks of the threads. A task of several senders also keeps a run for each
 /// change of sender since its last checkpoint, with no interval for the whole run, and an image has those of all
 /// tasks: so much may grow with the inputs.
@@ -184,9 +172,8 @@ pub fn run_job<S, N, K, R>(
     alloc: Global,
     job: &Job,
     functions: &FnTable,
-    every: Option<u64>,
-    segments: u32,
-    size: u32,
+    options: RunOptions,
+    network: Network,
     inputs: &mut ListOf<S>,
     net: &mut N,
     keeper: &mut K,
@@ -197,11 +184,10 @@ where
     K: Keeper + Send,
     R: Threads + Wait + Sync,
     requires is_job { IsJob job.now × CanRun (kinds functions.now) job.now }
-    requires range { IsTotal segments × IsSize size }
-    requires enough { segments_needed job.now ≤ segments }
+    requires network { IsNetworkOf job.now options.pool options.segment network }
     requires inputs { length inputs.old.items ≡ tasks job.now 0 }
     requires text { HasText job.now }
-    requires every { IfSome every (λ n. 1 ≤ n) }
+    requires every { IfSome options.every (λ n. 1 ≤ n) }
     requires keeper { TakesImages (K.images keeper.old) }
 
     // Over links and inputs that tell their bytes the table is the tally of all lines, whatever the order in which workers took their
@@ -212,24 +198,31 @@ where
         (IsLinkGround (N.never_fails net.old) (N.faults net.old) (N.faults net.new))
         (IsPeerGround N.Out.sent N.In.got N.In.ended job.now (N.wires net.old) (N.wires net.new))
         (HasRisen (K.faults keeper.old) (K.faults keeper.new))
-        (LinksTell N.Out.sent N.In.got → (bytes : ℕ → List ℕ) → AreTold S.left inputs.old.items bytes → IsTooLarge job.now (λ a. lines (bytes a)) every (K.images keeper.old) (K.images keeper.new))) }
+        (LinksTell N.Out.sent N.In.got → (bytes : ℕ → List ℕ) → AreTold S.left inputs.old.items bytes → IsTooLarge job.now (λ a. lines (bytes a)) options.every (K.images keeper.old) (K.images keeper.new))) }
     ensures inputs { ComeBack S.faults inputs.old.items inputs.new.items }
     ensures lent { N.lent net.new ≡ N.lent net.old }
     ensures never_falls { N.faults net.old ≤ N.faults net.new }
 
     // Whatever it answers, the images that the keeper got are then a chain from the start on, and a table is that of the last of them.
     ensures chain { LinksTell N.Out.sent N.In.got → (bytes : ℕ → List ℕ) → AreTold S.left inputs.old.items bytes →
-        HasStored job.now (λ a. lines (bytes a)) every (K.images keeper.old) (K.images keeper.new) }
+        HasStored job.now (λ a. lines (bytes a)) options.every (K.images keeper.old) (K.images keeper.new) }
     ensures last { IfOk result (λ table. LinksTell N.Out.sent N.In.got → (bytes : ℕ → List ℕ) → AreTold S.left inputs.old.items bytes →
-        EndsIn job.now (λ a. lines (bytes a)) every (K.images keeper.old) (K.images keeper.new) table) }
+        EndsIn job.now (λ a. lines (bytes a)) options.every (K.images keeper.old) (K.images keeper.new) table) }
     ensures kept { (images : List Image) × HasKept (K.images keeper.old) (K.images keeper.new) images }
     ensures keeper_never_falls { K.faults keeper.old ≤ K.faults keeper.new }
 {
-    let total = opened(job, segments);
-    let Ok((pool, grants)) = open_pool(alloc, job, total, size) else {
-        return Err(Cause::Memory);
-    };
+    let Network { pool, grants } = network;
     run_in_pool(
-        rt, alloc, job, functions, every, &pool, grants, size, inputs, net, keeper,
+        rt,
+        alloc,
+        job,
+        functions,
+        options.every,
+        &pool,
+        grants,
+        options.segment,
+        inputs,
+        net,
+        keeper,
     )
 }

@@ -3,7 +3,7 @@ ghost use Rattle.std.specs.Prelude.{◌≡◌, IfOk};
 ghost use Rattle.flow_defs.specs.Jobs.{IsJob};
 
 use flow_defs::{AggKind, Bytes, Exchange, Job, ListOf, Stage, StageKind, needed};
-use job_cells::{open_edges, open_pool};
+use job_cells::{Network, open_edges, open_network};
 use std::alloc::{AllocError, Global};
 use std::test::Fail;
 
@@ -54,7 +54,7 @@ fn a_pool_of_what_is_needed_opens(rt: HostRuntime) -> Result<(), Fail> {
     let job = job_of(alloc, Exchange::Rebalance)?;
     let segments = needed(&job);
     assert_eq!(rt; segments, 42);
-    let (pool, grants) = open_pool(alloc, &job, segments, 64)?;
+    let Network { pool, grants } = open_network(alloc, &job, segments, 64)?;
     assert_eq!(rt; pool.size(), 64);
     // Two partitions and two gates on each of three edges.
     assert_eq!(rt; grants.passes.as_slice().len(), 12);
@@ -72,7 +72,7 @@ fn an_edge_has_a_pass_for_each_channel(rt: HostRuntime) -> Result<(), Fail> {
         let total = needed(&job);
         assert_eq!(rt; total, segments);
         assert!(rt; total > 0 && total < 100);
-        let (pool, grants) = open_pool(alloc, &job, total, 64)?;
+        let Network { pool, grants } = open_network(alloc, &job, total, 64)?;
         let (edges, all) = open_edges(&rt, alloc, &job, &pool, grants)?;
         let edge = edges.as_slice().first().ok_or("there is no edge")?;
         assert_eq!(rt; edge.channels.as_slice().len(), channels);

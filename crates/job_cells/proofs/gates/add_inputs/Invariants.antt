@@ -1,7 +1,7 @@
 use Rattle.std.proofs.Common.{◌≡◌, ◌*◌}
 use Rattle.segment_pool.specs.Pools.{size_of}
 use Rattle.local_pool.specs.Locals.{IsLocalOf, lent_of, limit_of}
-use Rattle.job_cells.specs.Ends.{HasGate, HaveInputSize}
+use Rattle.job_cells.specs.Ends.{AreInputs, HasGate}
 use Rattle.job_cells.specs.Groups.{AreDealt}
 use Rattle.job_cells.proofs.gates.add_inputs.Given as goal
 
@@ -11,6 +11,6 @@ invariant-loop-way g l = record {
   limit : limit_of l.local ≡ limit_of l.fn.local;
   lent : lent_of l.local ≡ 2 * l._way;
   dealt : AreDealt l.group;
-  sizes : HaveInputSize (size_of l.pool) l.group.cells.items;
+  opened : AreInputs (size_of l.pool) l.group.cells.items;
   gate : HasGate l._way l.fn.group.cells.items l.group.cells.items l.own.items;
 }

@@ -7,11 +7,12 @@ use Rattle.job_cells.specs.declared.edge.Edge.{Edge}
 use Rattle.job_cells.specs.declared.edge.EdgePasses.{EdgePasses}
 use Rattle.job_cells.specs.declared.span.Span.{Span}
 use Rattle.job_cells.specs.Edges.{IsEdgeOf, ArePassesOf}
-use Rattle.job_cells.specs.Parts.{AreParts}
+use Rattle.job_cells.specs.Grants.{wants_of}
+use Rattle.job_cells.specs.Parts.{AreParts, HaveShares}
 use Rattle.job_cells.specs.Spans.{span_on}
 use Rattle.job_cells.proofs.LendLaws.{may_at_first}
 use Rattle.job_cells.proofs.Lists.{each_push, pairs_push}
-use Rattle.job_cells.proofs.PartLaws.{gates_wanted, at_more}
+use Rattle.job_cells.proofs.PartLaws.{gates_wanted, partitions_wanted, at_more}
 use Rattle.job_cells.proofs.open.open_edges.Goals as goal
 
 pub loop-e-init : goal.loop-e-init
@@ -31,6 +32,11 @@ parts_of-requires-clause-wants g c =
     let end = c.edges_of-e-end.ensures in let low = c.loop-e-test.true in
     gates_wanted c.args.job.now c.loop-e.e c.span_of.result c.loop-e.lender (omega (arith, end, low)) c.span_of.ensures.is c.loop-e.invariant.at
 
+pub parts_of-requires-clause-partition_wants : goal.parts_of-requires-clause-partition_wants
+parts_of-requires-clause-partition_wants g c =
+    let end = c.edges_of-e-end.ensures in let low = c.loop-e-test.true in
+    partitions_wanted c.args.job.now c.loop-e.e c.span_of.result c.loop-e.lender (omega (arith, end, low)) c.span_of.ensures.is c.loop-e.invariant.at
+
 pub loop-e-preserved : goal.loop-e-preserved
 loop-e-preserved g c =
     let before = c.loop-e.invariant in let job = c.args.job.now in let e = c.loop-e.e in let size = size_of c.args.pool.now in
@@ -40,6 +46,8 @@ loop-e-preserved g c =
     let low : e ≤ last_edge job = omega (arith, end, test) in
     let is = c.span_of.ensures.is in let lent = c.in_ok-parts.ensures.lender in
     let are : AreParts (span_on job e) size c.in_ok-parts.parts = subst (λ (s : Span). AreParts s size c.in_ok-parts.parts) is c.in_ok-parts.ensures.parts in
+    let shares : HaveShares (span_on job e) (wants_of job) c.in_ok-parts.parts =
+    subst (λ (s : Span). HaveShares s (wants_of job) c.in_ok-parts.parts) is (subst (λ ws. HaveShares c.span_of.result ws c.in_ok-parts.parts) before.at.wants c.in_ok-parts.ensures.shares) in
     let many = before.many_edges in let same = before.many_passes in
     let one = c.in_ok-push.ensures.ok in let two = c.in_ok-push-2.ensures.ok in
     record {
@@ -48,7 +56,7 @@ loop-e-preserved g c =
       many_edges = ap length one ∙ length_push edges edge ∙ ap (λ n. n + 1) many;
       edge = λ k found at.
           each_push (λ j (x : Edge). IsEdgeOf job j size x) edges edge before.edge
-          (subst (λ (j : ℕ). IsEdgeOf job j size edge) (sym many) (c.edge_of-edge.ensures.edge job e size c.requires.is_job low are))
+          (subst (λ (j : ℕ). IsEdgeOf job j size edge) (sym many) (c.edge_of-edge.ensures.edge job e size c.requires.is_job low are shares))
           k found (ap (λ l. slice_get l k) (sym one) ∙ at);
       many_passes = ap length two ∙ length_push all passes ∙ ap (λ n. n + 1) same;
       passes = λ k found own at at'.

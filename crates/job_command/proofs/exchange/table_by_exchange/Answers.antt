@@ -23,3 +23,6 @@ returns-in_err-reserve-clause-chain g c = λ bytes tells. none_stored c.args.job
 
 pub returns-in_err-reserve-clause-kept : goal.returns-in_err-reserve-clause-kept
 returns-in_err-reserve-clause-kept g c = kept_still (g.K.Keeper.images c.args.keeper.now) (g.K.Keeper.images c.args.keeper.now) refl
+
+pub returns-in_err-network-clause-chain : goal.returns-in_err-network-clause-chain
+returns-in_err-network-clause-chain g c = λ bytes tells. none_stored c.args.job.now (λ a. lines (bytes a)) c.args.options.every (g.K.Keeper.images c.args.keeper.now) (g.K.Keeper.images c.args.keeper.now) refl

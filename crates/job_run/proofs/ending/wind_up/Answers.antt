@@ -5,8 +5,9 @@ use Rattle.flow_defs.specs.declared.cause.Cause.TheVariants.{Done}
 use Rattle.flow_defs.specs.Items.{Items}
 use Rattle.flow_defs.specs.Jobs.{last_edge}
 use Rattle.snapshot_channel.specs.Passes.{IsCollecting}
+use Rattle.turn_cell.specs.Passes.{seen}
 use Rattle.collecting_worker.specs.declared.world.CollectEnd.{CollectEnd}
-use Rattle.job_ends.specs.Ended.{LoopPlace, TaskPlace, HaveAcknowledged}
+use Rattle.job_ends.specs.Ended.{LoopPlace, TaskPlace, HasLinkFault, HaveAcknowledged}
 use Rattle.job_ends.specs.Returning.{RowsCameBack}
 use Rattle.job_outcome.specs.Theorems.{AreLeftIn, AreSettledWith}
 use Rattle.job_run.specs.Runs.{input_in}
@@ -58,7 +59,8 @@ pub answer_of-answer-requires : goal.answer_of-answer-requires
 answer_of-answer-requires g c =
     let same = same_end c.requires.collected.end c.end_in-collecting.result c.requires.collected.end_is c.end_in-collecting.ensures in
     has_image c.args.job.now c.args.ran.rows.items c.as_slice.result.now c.args.ran.loops.items c.as_slice-2.result.now c.args.ran.collected c.as_slice.ensures c.as_slice-2.ensures c.outcome_of-cause.result
-    c.outcome_of-cause.ensures.done.0 c.outcome_of-cause.ensures.ended c.outcome_of-cause.ensures.stopped
+    c.outcome_of-cause.ensures.done.0 c.outcome_of-cause.ensures.ended c.outcome_of-cause.ensures.stopped (seen c.look_for_stop-told.new.pass)
+    (λ not other. sym c.look_for_stop-told.ensures.answer ∙ c.outcome_of-cause.ensures.told not other)
     c.end_in-collecting.result c.end_in-collecting.ensures (subst (λ (end : CollectEnd). end.cause ≡ Done → IsSome end.last) same c.requires.collected.last)
 
 pub settle_all-requires-clause-collecting : goal.settle_all-requires-clause-collecting
@@ -69,7 +71,8 @@ settle_all-requires-clause-collecting g c κs within =
 pub returns-clause-answer : goal.returns-clause-answer
 returns-clause-answer g c =
     is_answer c.args.job.now c.args.ran.rows.items c.as_slice.result.now c.args.ran.loops.items c.as_slice-2.result.now c.args.ran.collected c.as_slice.ensures c.as_slice-2.ensures c.outcome_of-cause.result
-    c.outcome_of-cause.ensures.done.0 c.outcome_of-cause.ensures.ended c.outcome_of-cause.ensures.stopped
+    c.outcome_of-cause.ensures.done.0 c.outcome_of-cause.ensures.ended c.outcome_of-cause.ensures.stopped (seen c.look_for_stop-told.new.pass)
+    (λ not other. sym c.look_for_stop-told.ensures.answer ∙ c.outcome_of-cause.ensures.told not other)
     c.answer_of-answer.result c.end_in-collecting.result c.end_in-collecting.ensures c.answer_of-answer.ensures.done c.answer_of-answer.ensures.table c.answer_of-answer.ensures.fault
 
 pub returns-clause-settled : goal.returns-clause-settled
@@ -77,3 +80,10 @@ returns-clause-settled g c = λ tell end is.
     let same = same_end end c.end_in-collecting.result is c.end_in-collecting.ensures in
     subst (λ (r : List (Items (TaskPlace g.row.S.Denot))). AreSettledWith c.args.job.now r end) c.as_mut_slice.ensures.value
     (c.settle_all.ensures.settled tell end (ap (λ (e : CollectEnd). e.collecting) same))
+
+pub returns-clause-stop : goal.returns-clause-stop
+returns-clause-stop g c = c.look_for_stop-told.ensures.pass.0
+
+pub returns-clause-fault : goal.returns-clause-fault
+returns-clause-fault g c = λ failed.
+    c.settle_all.ensures.fault (subst (λ (l : List (Items (LoopPlace g.row.N-Out.Denot g.row.N-In.Denot))). HasLinkFault g.N.Out.LinkOut.faults g.N.In.LinkIn.faults l) (sym c.as_mut_slice-2.ensures.value) failed)

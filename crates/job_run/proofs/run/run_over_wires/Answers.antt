@@ -1,6 +1,7 @@
 use Rattle.std.proofs.Common.{ap, ◌∙◌}
 use Rattle.std.specs.Prelude.{All}
 use Rattle.flow_defs.specs.declared.cause.Cause.TheVariants.{Memory}
+use Rattle.turn_cell.specs.Passes.{seen}
 use Rattle.outside.specs.Links.{NeverFails}
 use Rattle.job_run.specs.Wires.{IsLinkGround, IsPeerGround}
 use Rattle.job_run.proofs.PeerLaws.{peer_ground}
@@ -61,4 +62,4 @@ returns-clause-run g c =
     })
     (λ fault met. peer_ground g.N.Out.LinkOut.sent g.N.In.LinkIn.got g.N.In.LinkIn.ended c.args.job.now c.in-Ok.ran.loops.items (g.N.Links.wires c.args.net.now) (g.N.Links.wires c.wind_up.new.net) fault
     (c.in-Ok.ensures.ran.loops_many ∙ c.in-Ok.ensures.ran.deployed.loops_many) c.wind_up.ensures.wires met)
-    c.wind_up.result c.wind_up.ensures.answer
+    (seen c.wind_up.new.pass) c.wind_up.result c.wind_up.ensures.answer

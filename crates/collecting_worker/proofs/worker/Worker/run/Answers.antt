@@ -22,8 +22,9 @@ loop-number-init g c =
     record {
       same = worker_same w;
       worker = c.requires.worker;
-      going = begins w.job.now c.args.every (received_by w.gathering.pass) (g.K.Keeper.images c.args.keeper.now) (mine w.last_pass) w.last c.is_none-final_one.result c.requires.worker.text.is_job fresh.0 fresh.2 at_once.0 at_once.1;
+      going = begins w.job.now c.args.every (received_by w.gathering.pass) (g.K.ImageStore.images c.args.keeper.now) (mine w.last_pass) w.last c.is_none-final_one.result c.requires.worker.text.is_job fresh.0 fresh.2 at_once.0 at_once.1;
       stop = fresh.1;
+      cell = c.requires.cell;
       above = λ n low. c.requires.above n (omega (arith, low));
       never_falls = omega arith;
     }
@@ -31,8 +32,8 @@ loop-number-init g c =
 pub returns-then-final_one-clause-account : goal.returns-then-final_one-clause-account
 returns-then-final_one-clause-account g c =
     let was = c.loop-number.invariant in
-    let images = g.K.Keeper.images in
-    let faults = g.K.Keeper.faults in
+    let images = g.K.ImageStore.images in
+    let faults = g.K.ImageStore.faults in
     let cp : Checkpoint = record { number = c.loop-number.number; final_one = c.loop-number.final_one } in
     let same = worker_twice c.args.self.now c.loop-number.self c.store_next.new.self was.same c.store_next.ensures.same in
     let stored = c.in-Ok.ensures.stored in
@@ -43,8 +44,8 @@ returns-then-final_one-clause-account g c =
 pub returns-in-Err-clause-account : goal.returns-in-Err-clause-account
 returns-in-Err-clause-account g c =
     let was = c.loop-number.invariant in
-    let images = g.K.Keeper.images in
-    let faults = g.K.Keeper.faults in
+    let images = g.K.ImageStore.images in
+    let faults = g.K.ImageStore.faults in
     let cp : Checkpoint = record { number = c.loop-number.number; final_one = c.loop-number.final_one } in
     let same = worker_twice c.args.self.now c.loop-number.self c.store_next.new.self was.same c.store_next.ensures.same in
     broken_account c.snapshots_make_fitting.ensures c.args.self.now.job.now c.args.every c.loop-number.self c.store_next.new.self (images c.args.keeper.now) (images c.loop-number.keeper) (images c.store_next.new.keeper) cp
@@ -54,7 +55,7 @@ returns-in-Err-clause-account g c =
 pub loop-number-preserved : goal.loop-number-preserved
 loop-number-preserved g c =
     let was = c.loop-number.invariant in
-    let images = g.K.Keeper.images in
+    let images = g.K.ImageStore.images in
     let cp : Checkpoint = record { number = c.loop-number.number; final_one = c.loop-number.final_one } in
     let same = worker_twice c.args.self.now c.loop-number.self c.store_next.new.self was.same c.store_next.ensures.same in
     let stored = c.in-Ok.ensures.stored in
@@ -64,6 +65,7 @@ loop-number-preserved g c =
       going = going_on c.snapshots_make_fitting.ensures c.args.self.now.job.now c.args.every c.loop-number.self c.store_next.new.self (images c.args.keeper.now) (images c.loop-number.keeper) (images c.store_next.new.keeper) cp
           c.store_next.ensures.same.gathering.received was.going (ap (λ j. j.now) same.job_is) stored.0 stored.1 c.in-Ok.all_ended stored.2 stored.3 (c.loop-number.number + 1) (omega arith) c.if-final_one.false;
       stop = stored.3.stop ∙ was.stop;
+      cell = c.store_next.ensures.cell;
       above = λ n low. c.in-Ok.ensures.above n (omega (arith, low));
       never_falls = omega (arith, was.never_falls, c.store_next.ensures.never_falls);
     }

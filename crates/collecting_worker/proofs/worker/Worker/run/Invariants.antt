@@ -11,8 +11,9 @@ abbrev pub invariant-loop-number : goal.invariant-loop-number
 invariant-loop-number g l = record {
   same : IsSameWorker l.fn.self l.self;
   worker : IsWorker l.number l.self;
-  going : IsGoing l.fn.self.job.now l.fn.every (received_by l.self.gathering.pass) (g.K.Keeper.images l.fn.keeper) (g.K.Keeper.images l.keeper) (mine l.self.last_pass) l.self.last l.number l.final_one;
+  going : IsGoing l.fn.self.job.now l.fn.every (received_by l.self.gathering.pass) (g.K.ImageStore.images l.fn.keeper) (g.K.ImageStore.images l.keeper) (mine l.self.last_pass) l.self.last l.number l.final_one;
   stop : mine l.self.stop_pass ≡ [];
-  above : (n : ℕ) → l.number ≤ n → IsAboveLast (g.K.Keeper.images l.keeper) n;
-  never_falls : g.K.Keeper.faults l.fn.keeper ≤ g.K.Keeper.faults l.keeper;
+  cell : g.K.ImageStore.is_stopped_by l.keeper l.self.stop.now;
+  above : (n : ℕ) → l.number ≤ n → IsAboveLast (g.K.ImageStore.images l.keeper) n;
+  never_falls : g.K.ImageStore.faults l.fn.keeper ≤ g.K.ImageStore.faults l.keeper;
 }

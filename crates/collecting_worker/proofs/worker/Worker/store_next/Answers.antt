@@ -5,8 +5,8 @@ pub returns-in-Ok-clause-stored : goal.returns-in-Ok-clause-stored
 returns-in-Ok-clause-stored g c =
     let made = c.make.ensures in
     let kept = c.keep.ensures in
-    stored_by c.args.self.now c.make.new.self c.keep.new.self c.args.checkpoint c.in-Ok.field-0.image c.in-Ok.field-0.bytes (g.K.Keeper.images c.args.keeper.now) (g.K.Keeper.images c.keep.new.keeper) c.keep.result
+    stored_by c.args.self.now c.make.new.self c.keep.new.self c.args.checkpoint c.in-Ok.field-0.image c.in-Ok.field-0.bytes (g.K.ImageStore.images c.args.keeper.now) (g.K.ImageStore.images c.keep.new.keeper) c.keep.result
     c.in-Ok.ensures.ready kept.same.0 kept.same.1 made.still.0 c.in-Ok.ensures.untold kept.kept
 
 pub returns-in-Err-clause-fault : goal.returns-in-Err-clause-fault
-returns-in-Err-clause-fault g c = c.in-Err.ensures.fault (g.K.Keeper.faults c.args.keeper.now) (g.K.Keeper.faults c.args.keeper.now)
+returns-in-Err-clause-fault g c = c.in-Err.ensures.fault (g.K.ImageStore.faults c.args.keeper.now) (g.K.ImageStore.faults c.args.keeper.now)

@@ -1,7 +1,8 @@
 -- The job that `selfrun` runs, and what its run comes to.
-use Rattle.std.proofs.Common.{◌≡◌, ℕ, zero, suc, ◌≤◌, List, [], ◌∷◌, length, Option, Some, None, refl, ap, subst, ◌∙◌, arith, lit≤}
+use Rattle.std.proofs.Common.{◌≡◌, ℕ, zero, suc, ◌+◌, ◌*◌, ◌/◌, ◌%◌, ◌≤◌, List, [], ◌∷◌, length, Option, Some, None, refl, ap, subst, ◌∙◌, arith, lit≤}
 use Rattle.std.specs.Fmt.{digits}
-use Rattle.std.specs.Prelude.{codes}
+use Rattle.std.specs.Prelude.{codes, ◌^◌}
+use Rattle.std.specs.FinMap.{entries}
 use Rattle.std.proofs.lemmas.List.Elements.{All-cons, All-nil}
 use Rattle.flow_defs.specs.declared.job.Job.{Job}
 use Rattle.flow_defs.specs.declared.job.Exchange.TheVariants.{Rebalance, Forward}
@@ -11,19 +12,23 @@ use Rattle.flow_defs.specs.Jobs.{IsJob, exchange, segments_needed, tasks}
 use Rattle.flow_defs.specs.Stages.{IsToken}
 use Rattle.flow_defs.specs.Tables.{Values}
 use Rattle.plain_machine.specs.Worth.{tally}
+use Rattle.plain_machine.specs.Theorems.{StartExists}
+use Rattle.plain_machine.specs.SizeTheorems.{FinishedChainIsCounted, TallyCountsRecords}
+use Rattle.line_generator.specs.Theorems.{GeneratedAreCounted, EachHasTwoWords}
 use Rattle.stage_fns.specs.Functions.{Functions}
 use Rattle.outside.specs.Keepers.{KeptImage}
 use Rattle.collecting_worker.specs.Accounts.{HasText}
 use Rattle.job_text.specs.JobText.{IsJobText}
 use Rattle.job_text.specs.JobFaults.{first_fault}
 use Rattle.job_text.specs.KnownKinds.{every_kind}
-use Rattle.job_text.specs.Laws.{JobTextHasNoFault, JobTextNamesItsFiles}
+use Rattle.job_text.specs.Laws.{JobTextHasNoFault, JobTextNamesItsFiles, JobTextSaysTasks, JobTextSaysWork, HaveSameWork}
 use Rattle.job_outcome.specs.Storing.{EndsIn}
 use Rattle.command_parts.specs.declared.fault.Fault.{Fault}
 use Rattle.command_parts.specs.declared.fault.Fault.TheVariants.{JobLine, OverCredit, Peer, Memory}
 use Rattle.commands.specs.declared.run.TheConstants.{JOB_MAX}
 use Rattle.command_parts.specs.Causes.{status_of}
-use Rattle.commands.specs.SelfRuns.{HasFunctions, HasRunOver, IsSelfFault, made_lines, of_self, self_text, summary_of}
+use Rattle.commands.specs.SelfRuns.{HasFunctions, HasRunOver, IsSelfFault, made_lines, of_self, self_text, counted_in, numbers_of, summary_of}
+use Rattle.commands.proofs.SelfNumbers.{self_records, self_images}
 use Rattle.job_command.specs.RunFaults.{IsRunFault}
 use Rattle.command_parts.specs.Sources.{TellsSources}
 use Rattle.commands.proofs.SegmentLemmas.{needs_same}
@@ -110,19 +115,29 @@ module _ (functions : Functions) (job : Job) (is : IsJobText functions self_text
       there (suc a) inside = absurd (omega (arith, inside))
 
 -- what the run comes to
-pub self_ran : (functions : Functions) (job : Job) (is : IsJobText functions self_text job) (many seed : ℕ) (before after : List KeptImage) (table : Values) (text : List ℕ) →
-    before ≡ [] → table ≡ tally job (made_lines many seed) → EndsIn job (made_lines many seed) (Some 100000) (Some before) (Some after) table → text ≡ summary_of many table (length after) →
+pub self_ran : StartExists → FinishedChainIsCounted → TallyCountsRecords → GeneratedAreCounted → EachHasTwoWords → JobTextSaysTasks → JobTextSaysWork → (functions : Functions) (job : Job) (is : IsJobText functions self_text job) (many seed : ℕ) (before after : List KeptImage) (table : Values) (text : List ℕ) →
+    before ≡ [] → table ≡ tally job (made_lines many seed) → EndsIn job (made_lines many seed) (Some 100000) (Some before) (Some after) table → text ≡ summary_of many (counted_in table) (length (entries table)) (length after) →
     HasRunOver functions many seed (λ all. text ≡ all)
-self_ran functions job is many seed before after table text none table_is ends text_is = (
-  record {
-    job = job;
-    is_job = is;
-    kept = after;
-    table = table;
-    ends = subst (λ (held : List KeptImage). EndsIn job (made_lines many seed) (Some 100000) (Some held) (Some after) table) none ends;
-  },
-  text_is ∙ ap (λ (t : Values). summary_of many t (length after)) table_is,
+self_ran starts counts sums counted two says_tasks says_work functions job is many seed before after table text none table_is ends text_is = (
+  record { job = job; is_job = is; kept = after; table = table; ends = told },
+  text_is ∙ ap (λ n. summary_of many n (length (entries table)) (length after)) records ∙ ap (λ n. summary_of many (2 * many % 2 ^ 64) (length (entries table)) n) images
+      ∙ ap (λ (t : Values). numbers_of many t) table_is,
 )
+  where
+    told : EndsIn job (made_lines many seed) (Some 100000) (Some []) (Some after) table
+    told = subst (λ (held : List KeptImage). EndsIn job (made_lines many seed) (Some 100000) (Some held) (Some after) table) none ends
+
+    one : tasks job 0 ≡ 1
+    one = (says_tasks every_kind self_text job self_job (of_every functions job is) (self_is every_kind (refl, refl))).widths 0
+
+    work : HaveSameWork job self_job
+    work = says_work every_kind self_text job self_job (of_every functions job is) (self_is every_kind (refl, refl))
+
+    records : counted_in table ≡ 2 * many % 2 ^ 64
+    records = ap counted_in table_is ∙ self_records job is.is_job one counted many seed sums two work.aggregate work.kinds
+
+    images : length after ≡ 2 + many / 100000
+    images = self_images job is.is_job one counted many seed starts counts after table told
 
 -- ---- its faults
 

@@ -5,6 +5,9 @@ use Rattle.std.proofs.lemmas.List.{length-map}
 use Rattle.flow_defs.specs.Items.{Items}
 use Rattle.flow_defs.specs.Tables.{table_text}
 use Rattle.plain_machine.specs.Worth.{tally}
+use Rattle.plain_machine.specs.Theorems.{StartExists}
+use Rattle.plain_machine.specs.SizeTheorems.{LargeImageIsOfHeavyEdge}
+use Rattle.commands.proofs.LoadLemmas.{heavy_of_large}
 use Rattle.job_text.specs.declared.words.Command.TheVariants.{Run as RunCommand, Script as ScriptCommand, Gen as GenCommand, SelfRun as SelfRunCommand, Inspect as InspectCommand}
 use Rattle.job_text.specs.declared.words.RunOptions.{RunOptions}
 use Rattle.job_text.specs.Laws.{JobTextHasNoFault, JobTextNamesItsFiles, CommandHasNoFault, WordsAreOneCommand, source_files}
@@ -233,11 +236,15 @@ module _ (words : List (List ℕ)) (functions : Functions) (contents : List ℕ 
   over_source options (Some text) a P leads is =
       inr (is.2.0, is.2.1, inr (inl (a, (is.2.2.1.0, over (contents (source_name is.2.0 a)) P leads is.2.2.1.1))))
 
-  large_image : (options : RunOptions) (o : Option (List ℕ))
+  large_image : StartExists → LargeImageIsOfHeavyEdge → (options : RunOptions) (o : Option (List ℕ))
       → IfSome o (λ text. IsGoodText functions (λ job. HasPool options job × ((after : Option (List KeptImage)) × HasLargeImage job options.every contents held after)) text)
       → IfSome o (IsOverLimits functions contents options)
-  large_image options None is = tt
-  large_image options (Some text) is = inr (is.2.0, is.2.1, inr (inr (held, is.2.2.1.0, is.2.2.1.1)))
+  large_image starts loads options None is = tt
+  large_image starts loads options (Some text) is =
+      let job = is.2.0 in
+      let after = is.2.2.1.0 in
+      let large = is.2.2.1.1 in
+      inr (job, is.2.1, inr (inr (held, after, large, λ bytes tells. heavy_of_large starts loads job (λ a. lines (bytes a)) options.every held after is.2.1.is_job (large bytes tells))))
 
   small_pool : (options : RunOptions) (o : Option (List ℕ)) (have need : ℕ)
       → IfSome o (λ text. IsGoodText functions (λ job. HasSmallPool options job have need) text)
@@ -253,29 +260,29 @@ module _ (words : List (List ℕ)) (functions : Functions) (contents : List ℕ 
   too_few None have need is = tt
   too_few (Some text) have need is = let pool = is.1.2 in inr (is.0, (is.1.0, is.1.1, omega (arith, pool.have_is, pool.need_is, pool.few)))
 
-  pub passes_limit : (fault : Fault) → status_of fault ≡ 10 → IsFaultOf words functions contents held fault → PassesLimit words functions contents ⊎ NamesScript words contents PassesScriptLimit
-  passes_limit LongJob ten is = inl (record { job = is.job; options = is.options; is_run = is.is_run; holds = long_job is.options (contents is.job) is.holds })
-  passes_limit (LongLine a) ten is = inl (record { job = is.1.job; options = is.1.options; is_run = is.1.is_run; holds = over_source is.1.options (contents is.1.job) a (λ bytes. HasLongLine (lines bytes)) (λ bytes long. inr long) is.1.holds })
-  passes_limit (BigSource a) ten is = inl (record { job = is.1.job; options = is.1.options; is_run = is.1.is_run; holds = over_source is.1.options (contents is.1.job) a (λ bytes. SOURCE_MAX < length bytes) (λ bytes big. inl big) is.1.holds })
-  passes_limit BigImage ten is = inl (record { job = is.1.job; options = is.1.options; is_run = is.1.is_run; holds = large_image is.1.options (contents is.1.job) is.1.holds })
-  passes_limit (TooFewSegments have need) ten (inl is) = inl (record { job = is.job; options = is.options; is_run = is.is_run; holds = small_pool is.options (contents is.job) have need is.holds })
-  passes_limit (TooFewSegments have need) ten (inr is) = inr (is.0, is.1, too_few (contents is.0) have need is.2)
-  passes_limit (Usage kind) ten is = absurd (cc)
-  passes_limit (JobLine line kind) ten is = absurd (cc)
-  passes_limit JobInput ten is = absurd (cc)
-  passes_limit (SourceInput a) ten is = absurd (cc)
-  passes_limit Keeper ten is = absurd (cc)
-  passes_limit (HoldsImage number) ten is = absurd (cc)
-  passes_limit HoldsNoImage ten is = absurd (cc)
-  passes_limit (NotImage number place) ten is = absurd (cc)
-  passes_limit Link ten is = absurd (cc)
-  passes_limit (OverCredit channel received announced) ten is = absurd (cc)
-  passes_limit (Peer peer) ten is = absurd (cc)
-  passes_limit Output ten is = absurd (cc)
-  passes_limit Memory ten is = absurd (cc)
-  passes_limit LongScript ten is = inr (is.0, is.1, too_long (contents is.0) is.2)
-  passes_limit (ScriptLine line) ten is = absurd (cc)
-  passes_limit ScriptInput ten is = absurd (cc)
+  pub passes_limit : StartExists → LargeImageIsOfHeavyEdge → (fault : Fault) → status_of fault ≡ 10 → IsFaultOf words functions contents held fault → PassesLimit words functions contents ⊎ NamesScript words contents PassesScriptLimit
+  passes_limit starts loads LongJob ten is = inl (record { job = is.job; options = is.options; is_run = is.is_run; holds = long_job is.options (contents is.job) is.holds })
+  passes_limit starts loads (LongLine a) ten is = inl (record { job = is.1.job; options = is.1.options; is_run = is.1.is_run; holds = over_source is.1.options (contents is.1.job) a (λ bytes. HasLongLine (lines bytes)) (λ bytes long. inr long) is.1.holds })
+  passes_limit starts loads (BigSource a) ten is = inl (record { job = is.1.job; options = is.1.options; is_run = is.1.is_run; holds = over_source is.1.options (contents is.1.job) a (λ bytes. SOURCE_MAX < length bytes) (λ bytes big. inl big) is.1.holds })
+  passes_limit starts loads BigImage ten is = inl (record { job = is.1.job; options = is.1.options; is_run = is.1.is_run; holds = large_image starts loads is.1.options (contents is.1.job) is.1.holds })
+  passes_limit starts loads (TooFewSegments have need) ten (inl is) = inl (record { job = is.job; options = is.options; is_run = is.is_run; holds = small_pool is.options (contents is.job) have need is.holds })
+  passes_limit starts loads (TooFewSegments have need) ten (inr is) = inr (is.0, is.1, too_few (contents is.0) have need is.2)
+  passes_limit starts loads (Usage kind) ten is = absurd (cc)
+  passes_limit starts loads (JobLine line kind) ten is = absurd (cc)
+  passes_limit starts loads JobInput ten is = absurd (cc)
+  passes_limit starts loads (SourceInput a) ten is = absurd (cc)
+  passes_limit starts loads Keeper ten is = absurd (cc)
+  passes_limit starts loads (HoldsImage number) ten is = absurd (cc)
+  passes_limit starts loads HoldsNoImage ten is = absurd (cc)
+  passes_limit starts loads (NotImage number place) ten is = absurd (cc)
+  passes_limit starts loads Link ten is = absurd (cc)
+  passes_limit starts loads (OverCredit channel received announced) ten is = absurd (cc)
+  passes_limit starts loads (Peer peer) ten is = absurd (cc)
+  passes_limit starts loads Output ten is = absurd (cc)
+  passes_limit starts loads Memory ten is = absurd (cc)
+  passes_limit starts loads LongScript ten is = inr (is.0, is.1, too_long (contents is.0) is.2)
+  passes_limit starts loads (ScriptLine line) ten is = absurd (cc)
+  passes_limit starts loads ScriptInput ten is = absurd (cc)
 
   -- ---- of the keeper
 

@@ -6,13 +6,15 @@ use Rattle.flow_defs.specs.Jobs.{segments_needed, tasks}
 use Rattle.flow_defs.specs.Lines.{lines}
 use Rattle.flow_defs.specs.Tables.{Values, table_text}
 use Rattle.plain_machine.specs.Worth.{tally}
+use Rattle.plain_machine.specs.Loads.{HasHeavyEdge}
 use Rattle.stage_fns.specs.Functions.{Functions}
 use Rattle.job_text.specs.declared.fault.JobFault.{JobFault}
 use Rattle.job_text.specs.declared.words.RunOptions.{RunOptions}
 use Rattle.job_text.specs.Words.{IsRun, IsScript, IsGen, IsSelfRun, IsInspect, usage_fault}
 use Rattle.job_text.specs.JobText.{IsJobText}
 use Rattle.job_text.specs.JobFaults.{first_fault}
-use Rattle.commands.specs.declared.run.TheConstants.{JOB_MAX}
+use Rattle.flow_defs.specs.Limits.{job_text_max}
+use Rattle.script_command.specs.Limits.{script_max}
 use Rattle.command_parts.specs.declared.fault.Fault.{Fault}
 use Rattle.command_parts.specs.declared.fault.Fault.TheVariants.{Usage, JobLine, ScriptLine, JobInput, ScriptInput, SourceInput, Keeper, Output, HoldsImage, HoldsNoImage, NotImage, LongJob, LongScript, LongLine, BigSource, BigImage, TooFewSegments, Link, OverCredit, Peer, Memory}
 use Rattle.command_parts.specs.Causes.{status_of}
@@ -27,7 +29,6 @@ use Rattle.job_command.specs.RunFaults.{HasLargeImage}
 use Rattle.job_command.specs.Pools.{HasPool, HasSmallPool}
 use Rattle.command_parts.specs.Held.{HoldsLast, HoldsNone}
 use Rattle.inspect_command.specs.Inspects.{Inspects, IsNoImageAt, HasNoneToShow}
-use Rattle.script_command.specs.declared.script.TheConstants.{SCRIPT_MAX}
 use Rattle.script_command.specs.Scripts.{NamesScript, IsScriptWith, HasTooFew, HasBadLine, ScriptRunsTo}
 use Rattle.commands.specs.SelfRuns.{NamesSelfRun, SelfRunsTo, StartsSelfRun, self_text}
 use Rattle.line_generator.specs.Generated.{generated}
@@ -58,7 +59,7 @@ NamesJob words contents P = NamesRun words contents (λ options text. P text)
 
 -- The text is within its limit and has no fault, and is that of a job that has P.
 abbrev pub IsGoodText : Functions → (Job → Type 0) → List ℕ → Type 0
-IsGoodText functions P text = (length text ≤ JOB_MAX) × (first_fault functions text ≡ None) × ((job : Job) × IsJobText functions text job × P job)
+IsGoodText functions P text = (length text ≤ job_text_max) × (first_fault functions text ≡ None) × ((job : Job) × IsJobText functions text job × P job)
 
 -- The words name a job that has P under its options, and its text is within its limit and has no fault.
 abbrev pub NamesGoodJob : List (List ℕ) → Functions → (List ℕ → Option (List ℕ)) → (RunOptions → Job → Type 0) → Type 0
@@ -106,9 +107,9 @@ HasDoneInPart words functions contents held before after = Prints words function
 abbrev pub IsFaultOf : List (List ℕ) → Functions → (List ℕ → Option (List ℕ)) → Option (List KeptImage) → Fault → Type 0
 IsFaultOf words functions contents held (Usage kind) = usage_fault words ≡ Some kind
 IsFaultOf words functions contents held JobInput = NamesJob words contents (λ text. ⊤)
-IsFaultOf words functions contents held LongJob = NamesJob words contents (λ text. JOB_MAX < length text)
+IsFaultOf words functions contents held LongJob = NamesJob words contents (λ text. job_text_max < length text)
 IsFaultOf words functions contents held (JobLine line kind) =
-    NamesJob words contents (λ text. (length text ≤ JOB_MAX) × (first_fault functions text ≡ Some (line, kind)))
+    NamesJob words contents (λ text. (length text ≤ job_text_max) × (first_fault functions text ≡ Some (line, kind)))
     ⊎ (NamesSelfRun words × (first_fault functions self_text ≡ Some (line, kind)))
 IsFaultOf words functions contents held (SourceInput a) = StartsJob words functions contents held (λ job. IsSourceFault job contents (SourceInput a))
 IsFaultOf words functions contents held (LongLine a) = StartsJob words functions contents held (λ job. IsSourceFault job contents (LongLine a))
@@ -118,7 +119,7 @@ IsFaultOf words functions contents held Link = ⊥
 IsFaultOf words functions contents held (OverCredit channel received announced) = (StartsJob words functions contents held (λ job. ⊤) ⊎ StartsSelfRun words functions) × IsOverByOne received announced
 IsFaultOf words functions contents held (Peer fault) = StartsJob words functions contents held (λ job. ⊤) ⊎ StartsSelfRun words functions
 IsFaultOf words functions contents held ScriptInput = NamesScript words contents (λ text. ⊤)
-IsFaultOf words functions contents held LongScript = NamesScript words contents (λ text. SCRIPT_MAX < length text)
+IsFaultOf words functions contents held LongScript = NamesScript words contents (λ text. script_max < length text)
 IsFaultOf words functions contents held (ScriptLine line) = NamesScript words contents (HasBadLine line)
 IsFaultOf words functions contents held (TooFewSegments have need) =
     NamesGoodJob words functions contents (λ options job. HasSmallPool options job have need)
@@ -153,15 +154,19 @@ IsHindered words functions contents held =
 
 -- The text is within its limit, and is no job's.
 abbrev pub IsNoJob : Functions → List ℕ → Type 0
-IsNoJob functions text = (length text ≤ JOB_MAX) × ((fault : ℕ × JobFault) × (first_fault functions text ≡ Some fault))
+IsNoJob functions text = (length text ≤ job_text_max) × ((fault : ℕ × JobFault) × (first_fault functions text ≡ Some fault))
 
--- The text is over its limit, or that of a job that needs more segments than the pool has, or of one with a source over a limit or an
--- image that is too large, whatever a keeper got before it.
+-- Where its sources are told to have some bytes, the load of some edge of the job over their lines is above 4,294,967,295.
+abbrev pub HasHeavyLines : Job → (List ℕ → Option (List ℕ)) → Type 0
+HasHeavyLines job contents = (bytes : ℕ → List ℕ) → TellsSources job contents bytes → HasHeavyEdge job (λ a. lines (bytes a))
+
+-- The text is over its limit, or that of a job that needs more segments than the pool has, or of one with a source over a limit, or with
+-- an image that is too large, whatever a keeper got before it, and then with an edge whose load is.
 abbrev pub IsOverLimits : Functions → (List ℕ → Option (List ℕ)) → RunOptions → List ℕ → Type 0
 IsOverLimits functions contents options text =
-    (JOB_MAX < length text)
+    (job_text_max < length text)
     ⊎ ((job : Job) × IsJobText functions text job
-    × ((options.pool < segments_needed job) ⊎ ((a : ℕ) × IsOfSource job contents a IsOverLimit) ⊎ ((before after : Option (List KeptImage)) × HasLargeImage job options.every contents before after)))
+    × ((options.pool < segments_needed job) ⊎ ((a : ℕ) × IsOfSource job contents a IsOverLimit) ⊎ ((before after : Option (List KeptImage)) × HasLargeImage job options.every contents before after × HasHeavyLines job contents)))
 
 -- The words name a job, and a limit of its text, its pool, its sources or its images is passed.
 abbrev pub PassesLimit : List (List ℕ) → Functions → (List ℕ → Option (List ℕ)) → Type 0
@@ -177,7 +182,7 @@ pub record TellsJob (words : List (List ℕ)) (contents : List ℕ → Option (L
 pub record TellsRun (words : List (List ℕ)) (functions : Functions) (contents : List ℕ → Option (List ℕ)) (options : RunOptions) (job : Job) : Type 0 where
   pub text : List ℕ
   pub tells : TellsJob words contents options text
-  pub fits : length text ≤ JOB_MAX
+  pub fits : length text ≤ job_text_max
   pub is_job : IsJobText functions text job
 
 -- The images that a run of the job stored are a chain over the lines of these bytes.

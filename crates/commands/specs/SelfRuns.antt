@@ -1,6 +1,6 @@
 -- What `selfrun` does: it runs a job of words over lines that are made of a seed. The command, its job and what it prints are this project's
 -- own choice.
-use Rattle.std.specs.Prelude.{◌≡◌, ⊤, ℕ, ◌%◌, ◌^◌, List, [], ◌∷◌, ◌++◌, length, Some, None, codes, decimal}
+use Rattle.std.specs.Prelude.{◌≡◌, ⊤, ℕ, ◌+◌, ◌*◌, ◌/◌, ◌%◌, ◌^◌, List, [], ◌∷◌, ◌++◌, length, Some, None, codes, decimal}
 use Rattle.std.specs.List.{sum_by}
 use Rattle.std.specs.FinMap.{entries}
 use Rattle.flow_defs.specs.declared.job.Job.{Job}
@@ -43,10 +43,15 @@ abbrev pub number_line : List ℕ → ℕ → List ℕ
 number_line name n = name ++ decimal n ++ 10 ∷ []
 
 -- How many lines there were, how many records came of them, how many different ones, and how many images were stored.
-abbrev pub summary_of : ℕ → Values → ℕ → List ℕ
-summary_of many table images =
-    number_line (codes "lines ") many ++ number_line (codes "records ") (counted_in table)
-    ++ number_line (codes "keys ") (length (entries table)) ++ number_line (codes "images ") images
+abbrev pub summary_of : ℕ → ℕ → ℕ → ℕ → List ℕ
+summary_of many records keys images =
+    number_line (codes "lines ") many ++ number_line (codes "records ") records
+    ++ number_line (codes "keys ") keys ++ number_line (codes "images ") images
+
+-- What that is for so many lines of two words each and the table of these: an image is stored behind each 100,000 lines, one more where all
+-- are read, and the last one. The number of records is printed modulo 2^64.
+abbrev pub numbers_of : ℕ → Values → List ℕ
+numbers_of many table = summary_of many (2 * many % 2 ^ 64) (length (entries table)) (2 + many / 100000)
 
 -- ---- what is run
 
@@ -59,9 +64,9 @@ pub record SelfRan (functions : Functions) (many seed : ℕ) : Type 0 where
   pub table : Values
   pub ends : EndsIn job (made_lines many seed) (Some 100000) (Some []) (Some kept) table
 
--- There is such a run, and P holds of the text that tells of the tally of its lines and of its images.
+-- There is such a run, and P holds of the text that tells its numbers.
 abbrev pub HasRunOver : Functions → ℕ → ℕ → (List ℕ → Type 0) → Type 0
-HasRunOver functions many seed P = (ran : SelfRan functions many seed) × P (summary_of many (tally ran.job (made_lines many seed)) (length ran.kept))
+HasRunOver functions many seed P = (ran : SelfRan functions many seed) × P (numbers_of many (tally ran.job (made_lines many seed)))
 
 -- The words ask for it, and P holds of that text.
 abbrev pub SelfRunsTo : List (List ℕ) → Functions → (List ℕ → Type 0) → Type 0

@@ -3,7 +3,7 @@ use Rattle.std.specs.Prelude.{◌≡◌, ⊤, ℕ, ◌<◌, List, length, Option
 use Rattle.stage_fns.specs.Functions.{Functions}
 use Rattle.job_text.specs.Words.{usage_fault}
 use Rattle.job_text.specs.JobFaults.{first_fault}
-use Rattle.commands.specs.declared.run.TheConstants.{JOB_MAX}
+use Rattle.flow_defs.specs.Limits.{job_text_max}
 use Rattle.command_parts.specs.declared.fault.Fault.{Fault}
 use Rattle.command_parts.specs.declared.fault.Fault.TheVariants.{Usage, JobLine, JobInput, LongJob, TooFewSegments, Memory}
 use Rattle.flow_defs.specs.declared.job.Job.{Job}
@@ -18,7 +18,7 @@ IsWordFault words fault = ⊥
 
 -- The file of a job's text has this fault: its bytes, where they are told, are too many, or it is another one.
 abbrev pub IsJobFileFault : Option (List ℕ) → Fault → Type 0
-IsJobFileFault contents LongJob = IfSome contents (λ text. JOB_MAX < length text)
+IsJobFileFault contents LongJob = IfSome contents (λ text. job_text_max < length text)
 IsJobFileFault contents JobInput = ⊤
 IsJobFileFault contents Memory = ⊤
 IsJobFileFault contents fault = ⊥

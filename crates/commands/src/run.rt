@@ -18,6 +18,7 @@ ghost use Rattle.commands.specs.Run.{RunsTo, Prints, HasChain, HasDone, HasDoneI
 ghost use Rattle.job_command.specs.Pools.{HasPool};
 ghost use Rattle.command_parts.specs.Sources.{TellsSources};
 ghost use Rattle.commands.specs.TextFaults.{IsWordFault, IsJobFileFault, IsSmallPoolFault, IsTextFault};
+ghost use Rattle.flow_defs.specs.Limits.{job_text_max};
 
 use crate::selfrun::selfrun_text;
 use command_parts::fault::Fault;
@@ -216,7 +217,7 @@ pub fn job_of_text(alloc: Global, text: &[u8], functions: &FnTable) -> Result<Jo
 // The text of the job in the file of this name.
 fn read_job_text<F: Files>(alloc: Global, files: &mut F, name: &str) -> Result<Bytes, Fault>
     ensures told { IfOk result (λ text. IfSome (F.contents files.old name.now) (λ held. text.items ≡ held)) }
-    ensures fits { IfOk result (λ text. length text.items ≤ JOB_MAX) }
+    ensures fits { IfOk result (λ text. length text.items ≤ job_text_max) }
     ensures fault { IfErr result (IsJobFileFault (F.contents files.old name.now)) }
     ensures input { IfErr result (λ fault. status_of fault ≡ 4 → HasRisen (F.faults files.old) (F.faults files.new)) }
     ensures same { F.contents files.new ≡ F.contents files.old }

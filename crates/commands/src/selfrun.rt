@@ -1,5 +1,6 @@
 // Runs the job of the words over lines that are made of a seed.
-ghost use Rattle.std.specs.Prelude.{◌≡◌, ◌++◌, [], ◌∷◌, Some, IfOk, IfErr, OnOk, codes, decimal};
+ghost use Rattle.std.specs.FinMap.{entries};
+ghost use Rattle.std.specs.Prelude.{◌≡◌, ◌++◌, [], ◌∷◌, Some, IfOk, IfErr, OnOk, codes, decimal, length};
 ghost use Rattle.flow_defs.specs.declared.job.Job.{Job};
 ghost use Rattle.line_generator.specs.Generated.{generated};
 ghost use Rattle.outside.specs.MemoryFiles.{contents_in};
@@ -15,7 +16,10 @@ use job_command::exchange::table_by_exchange;
 use job_text::RunOptions;
 use job_text::laws::job_texts_are_clear;
 use line_generator::generate;
+use line_generator::laws::lines_are_of_two_words;
 use outside::{MemoryFile, MemoryFiles, MemoryKeeper};
+use plain_machine::laws::start_exists;
+use plain_machine::sizes::{finished_chain_is_counted, tally_counts_records};
 use stage_fns::FnTable;
 use std::alloc::{AllocError, Global};
 use std::sync::Wait;
@@ -34,6 +38,10 @@ pub fn selfrun_text<R: Threads + Wait + Sync>(
     ensures fault { IfErr result (IsSelfFault (kinds functions.now)) }
 {
     job_texts_are_clear();
+    start_exists();
+    finished_chain_is_counted();
+    tally_counts_records();
+    lines_are_of_two_words();
     let job = job_of_text(alloc, self_text(), functions)?;
     let mut files = files_of_seed(alloc, lines, seed)?;
     let mut keeper = empty_keeper(alloc);
@@ -89,7 +97,7 @@ fn own_fault(fault: Fault) -> Fault
 
 // The lines that tell of a run over so many lines with this table, which stored so many images.
 fn summary(alloc: Global, lines: u64, table: &Table, images: u64) -> Result<Bytes, AllocError>
-    ensures { IfOk result (λ text. text.items ≡ summary_of lines table.now images) }
+    ensures { IfOk result (λ text. text.items ≡ summary_of lines (counted_in table.now) (length (entries table.now)) images) }
 {
     let mut text = Bytes::new(alloc);
     add_number(&mut text, "lines ", lines)?;

@@ -1,5 +1,5 @@
 // The program, over the world that it is handed.
-ghost use Rattle.std.specs.Prelude.{◌≡◌, ◌≢◌, ◌<◌, ◌⊎◌, ⊤, List, ℕ, [], ◌∷◌, ◌++◌, length, Option, Some, IfSome, Contains};
+ghost use Rattle.std.specs.Prelude.{◌≡◌, ◌≢◌, ◌<◌, ◌⊎◌, ⊤, List, ℕ, [], ◌∷◌, ◌++◌, length, Some, IfSome, Contains};
 ghost use Rattle.flow_defs.specs.Jobs.{segments_needed, tasks};
 ghost use Rattle.flow_defs.specs.Lines.{lines};
 ghost use Rattle.flow_defs.specs.Tables.{table_text};
@@ -9,24 +9,28 @@ ghost use Rattle.outside.specs.Faults.{HasRisen};
 ghost use Rattle.outside.specs.Keepers.{KeptImage};
 ghost use Rattle.stage_fns.specs.Kinds.{kinds};
 ghost use Rattle.job_plan.specs.Limits.{IsOverLimit};
-ghost use Rattle.job_outcome.specs.Storing.{HasKept, IsTooLarge};
+ghost use Rattle.plain_machine.specs.Loads.{HasHeavyEdge};
+ghost use Rattle.job_outcome.specs.Storing.{HasKept};
 ghost use Rattle.job_text.specs.Words.{IsGen, IsSelfRun, IsInspect};
 ghost use Rattle.job_text.specs.declared.words.RunOptions.{RunOptions};
 ghost use Rattle.command_parts.specs.Held.{TellsLast};
 ghost use Rattle.inspect_command.specs.Inspects.{HasNoneToShow, IsKept};
+ghost use Rattle.commands.specs.Answers.{IsAnswer};
 ghost use Rattle.commands.specs.Run.{NamesCommand, NamesJob, StartsJob, HasChain, HasDone, HasDoneInPart, HasToldOverCredit, EndsWith, IsHindered, IsNoJob, IsTold, PassesLimit, TellsJob, TellsRun};
 ghost use Rattle.job_command.specs.Pools.{HasPool};
 ghost use Rattle.command_parts.specs.Sources.{AreWithinLimits};
 ghost use Rattle.command_parts.specs.Sources.{TellsSources};
 ghost use Rattle.script_command.specs.Scripts.{NamesScript, HasEnough, IsNoScript, IsScriptWith, PassesScriptLimit, TellsScript};
 ghost use Rattle.commands.specs.SelfRuns.{HasFunctions, LacksFunction};
-ghost use Rattle.commands.specs.declared.run.TheConstants.{JOB_MAX};
+ghost use Rattle.flow_defs.specs.Limits.{job_text_max};
 
 use crate::run::run;
 use command_parts::output::tell;
 use flow_defs::{ListOf, Word};
 use job_text::laws::{job_texts_are_clear, words_are_clear};
 use outside::{Files, Keeper, Sink};
+use plain_machine::laws::start_exists;
+use plain_machine::sizes::large_image_is_of_load;
 use script_text::laws::script_texts_are_clear;
 use stage_fns::FnTable;
 use std::alloc::Global;
@@ -58,6 +62,46 @@ pub fn top<R: Threads + Wait + Sync, F: Files, K: Keeper + Send, O: Sink, E: Sin
 ) -> u8
 where
     F::Input: Drop,
+    ensures { IsAnswer words.now.items (kinds functions.now)
+        (record {
+          contents = F.contents files.old;
+          lent = F.lent files.old;
+          input_faults = F.faults files.old;
+          images = K.images keeper.old;
+          keeper_faults = K.faults keeper.old;
+          output = O.got out.old;
+          output_faults = O.faults out.old;
+          errors = E.got err.old;
+          error_faults = E.faults err.old;
+        })
+        (record {
+          contents = F.contents files.new;
+          lent = F.lent files.new;
+          input_faults = F.faults files.new;
+          images = K.images keeper.new;
+          keeper_faults = K.faults keeper.new;
+          output = O.got out.new;
+          output_faults = O.faults out.new;
+          errors = E.got err.new;
+          error_faults = E.faults err.new;
+        }) result }
+{
+    answer(rt, alloc, words, functions, files, keeper, out, err)
+}
+
+// The same, clause by clause.
+fn answer<R: Threads + Wait + Sync, F: Files, K: Keeper + Send, O: Sink, E: Sink>(
+    rt: &R,
+    alloc: Global,
+    words: &ListOf<Word>,
+    functions: &FnTable,
+    files: &mut F,
+    keeper: &mut K,
+    out: &mut O,
+    err: &mut E,
+) -> u8
+where
+    F::Input: Drop,
     // Status 0 comes only where all work was done: the pool was large enough, the keeper held no image, no source was over a limit, and
     // the output got the text of the tally, the replies to all events of the script, the lines of the seed, what a run over such comes to,
     // or the lines of the keeper's last image, and nothing else.
@@ -77,7 +121,7 @@ where
     ensures limit { result ≡ 10 → PassesLimit words.now.items (kinds functions.now) (F.contents files.old)
         ⊎ NamesScript words.now.items (F.contents files.old) PassesScriptLimit }
     ensures job_refused { (options : RunOptions) (text : List ℕ) → TellsJob words.now.items (F.contents files.old) options text →
-        JOB_MAX < length text → Contains (10 ∷ 4 ∷ 70 ∷ []) result }
+        job_text_max < length text → Contains (10 ∷ 4 ∷ 70 ∷ []) result }
     ensures pool_refused { (options : RunOptions) (job : Job) →
         TellsRun words.now.items (kinds functions.now) (F.contents files.old) options job → options.pool < segments_needed job →
         Contains (10 ∷ 4 ∷ 70 ∷ []) result }
@@ -120,12 +164,12 @@ where
     ensures no_link { result ≢ 6 }
     ensures over_credit { result ≡ 11 → HasToldOverCredit (E.got err.old) (E.got err.new) (HasRisen (E.faults err.old) (E.faults err.new)) }
 
-    // Where the words, the texts and what the keeper holds are good, no limit is passed and no count rises, all work is done unless memory
-    // runs out. That no other end of a connection has a fault is not said here.
+    // Where the words, the texts and what the keeper holds are good, no limit is passed, no edge has more than 4,294,967,295 encoded bytes to
+    // carry and no count rises, all work is done unless memory runs out. That no other end of a connection has a fault is not said here.
     ensures complete { (options : RunOptions) (job : Job) (bytes : ℕ → List ℕ) →
         TellsRun words.now.items (kinds functions.now) (F.contents files.old) options job → TellsSources job (F.contents files.old) bytes →
         HasPool options job → AreWithinLimits job bytes →
-        ((after : Option (List KeptImage)) → IsTooLarge job (λ a. lines (bytes a)) options.every (K.images keeper.old) after → ⊥) → K.images keeper.old ≡ Some [] →
+        (HasHeavyEdge job (λ a. lines (bytes a)) → ⊥) → K.images keeper.old ≡ Some [] →
         (HasRisen (F.faults files.old) (F.faults files.new) → ⊥) → (HasRisen (K.faults keeper.old) (K.faults keeper.new) → ⊥) →
         (HasRisen (O.faults out.old) (O.faults out.new) → ⊥) →
         Contains (0 ∷ 11 ∷ 12 ∷ 70 ∷ []) result }
@@ -155,6 +199,8 @@ where
     words_are_clear();
     job_texts_are_clear();
     script_texts_are_clear();
+    start_exists();
+    large_image_is_of_load();
     match run(rt, alloc, words, functions, files, keeper, out) {
         Ok(()) => 0,
         Err(fault) => {

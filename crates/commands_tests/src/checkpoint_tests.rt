@@ -1,14 +1,11 @@
 // The images that runs leave with a keeper.
 use crate::inspect_tests::{LAST, SHOWN};
-use crate::slow_machine::{Records, follows, lines_of};
 use crate::tests::{files, sink, words_of};
 use channel_state::read_image;
 use commands::program::run_program;
-use flow_defs::{Image, Job, ListOf};
-use job_text::read_grammar;
+use flow_defs::{Image, ListOf};
 use outside::{Kept, MemoryKeeper, MemorySink};
 use std::alloc::{AllocError, Global};
-use std::process::Abort;
 use std::sync::Wait;
 use std::test::Fail;
 use std::thread::Threads;
@@ -189,159 +186,6 @@ fn checkpoints_stand_so_many_lines_apart(rt: HostRuntime) -> Result<(), Fail> {
                 assert_eq!(rt; bytes.as_slice(), b"".as_slice(), "{command}");
             }
         }
-    }
-    Ok(())
-}
-
-// How many images a run over so many lines of each source stores.
-fn images_wanted(lines: &[Records], every: u64) -> u64 {
-    let mut wanted: u64 = 1;
-    if every > 0 {
-        for records in lines {
-            let ended = records.as_slice().len() as u64 / every;
-            wanted = wanted.max(ended.saturating_add(2));
-        }
-    }
-    wanted
-}
-
-// Runs a job with checkpoints behind so many lines, or with one where that is 0, and compares each image that was stored
-// with the plain machine's.
-fn compare_chain<R: Threads + Wait + Sync + Abort>(
-    rt: &R,
-    alloc: Global,
-    text: &str,
-    job: &Job,
-    lines: &[Records],
-    first: &str,
-    second: &str,
-    every: u64,
-) -> Result<(), Fail> {
-    let command = format!(in alloc; "run job --segment 64 --every {every}")?;
-    let words = if every == 0 {
-        "run job"
-    } else {
-        command.as_str()
-    };
-    let interval = if every == 0 { None } else { Some(every) };
-    let mut keeper = empty_keeper(alloc, 0)?;
-    let left = left_by(rt, alloc, words, text, first, second, &mut keeper)?;
-    assert_eq!(rt; left.status, 0, "`{text}` {every}");
-    let images = images_of(alloc, keeper.images())?;
-    let images = images.as_slice();
-    assert_eq!(rt;
-        images.len() as u64,
-        images_wanted(lines, every),
-        "`{text}` {every}"
-    );
-    let mut old = None;
-    for image in images {
-        assert!(rt;
-            follows(alloc, job, lines, interval, old, image)?,
-            "`{text}` {every}: {}",
-            image.number
-        );
-        old = Some(image);
-    }
-    assert!(rt;
-        images.iter().last().is_some_and(|image| image.final_one),
-        "`{text}` {every}"
-    );
-    Ok(())
-}
-
-// The same with each interval up to 3, and with none.
-fn compare_chains<R: Threads + Wait + Sync + Abort>(
-    rt: &R,
-    alloc: Global,
-    text: &str,
-    first: &str,
-    second: &str,
-) -> Result<(), Fail> {
-    let Ok(job) = read_grammar(alloc, text.as_bytes()) else {
-        return Err("no job".into());
-    };
-    let mut lines = ListOf::new(alloc);
-    for name in job.sources.as_slice() {
-        let bytes = if name.as_slice() == b"in".as_slice() {
-            first
-        } else {
-            second
-        };
-        lines.push(lines_of(alloc, bytes.as_bytes())?)?;
-    }
-    for every in 0..4 {
-        compare_chain(
-            rt,
-            alloc,
-            text,
-            &job,
-            lines.as_slice(),
-            first,
-            second,
-            every,
-        )?;
-    }
-    Ok(())
-}
-
-const FIRST: &str = "a b\nan,a a,c\n\nb a=7 b\na=18446744073709551615 a=2";
-
-const SECOND: &str = "a,t,o\nb\nab=3 a c d ab=1 a\n";
-
-#[test]
-fn images_of_jobs_without_stages_are_the_plain_machines(rt: HostRuntime) -> Result<(), Fail> {
-    let alloc = rt.alloc();
-    for (job, first, second) in [
-        (COUNT, "", ""),
-        (COUNT, FIRST, ""),
-        (TWO, "\n\n", "b"),
-        ("source in\naggregate sum 3\n", FIRST, ""),
-        (
-            "source in\nsource in2\nsource in\naggregate max 2\n",
-            FIRST,
-            SECOND,
-        ),
-    ] {
-        compare_chains(&rt, alloc, job, first, second)?;
-    }
-    Ok(())
-}
-
-#[test]
-fn images_of_jobs_with_a_stage_are_the_plain_machines(rt: HostRuntime) -> Result<(), Fail> {
-    let alloc = rt.alloc();
-    for (job, first, second) in [
-        (
-            "source in\nstage words 3 rebalance\naggregate count 2\n",
-            FIRST,
-            "",
-        ),
-        (
-            "source in2\nstage upper 2 rebalance\naggregate count 3\n",
-            "",
-            SECOND,
-        ),
-        (
-            "source in\nsource in2\nstage keep:a 2 forward\naggregate max 2\n",
-            FIRST,
-            SECOND,
-        ),
-    ] {
-        compare_chains(&rt, alloc, job, first, second)?;
-    }
-    Ok(())
-}
-
-#[test]
-fn images_of_jobs_with_stages_are_the_plain_machines(rt: HostRuntime) -> Result<(), Fail> {
-    let alloc = rt.alloc();
-    for job in [
-        "source in\nsource in2\nstage keep:a 2 rebalance\nstage field:2 2 hash\naggregate count 2\n",
-        "source in\nsource in2\nstage upper 2 forward\nstage words 3 hash\naggregate count 1\n",
-        "source in\nsource in2\nstage words 3 rebalance\nstage upper 3 forward\nstage keep:A 2 hash\naggregate sum 2\n",
-    ] {
-        compare_chains(&rt, alloc, job, FIRST, SECOND)?;
     }
     Ok(())
 }

@@ -1,5 +1,5 @@
-//! Tests of the commands: whole runs over files, keepers and outputs in memory, beside a slow machine and the evaluation on one
-//! thread.
+//! Tests of the commands over files, keepers and outputs in memory, which fail where a test has them fail. What the program prints for
+//! words and files is shown by the sessions in tests/cases.
 #![tactic(auto)]
 
 #[cfg(test)]
@@ -8,7 +8,5 @@ mod checkpoint_tests;
 mod held_files;
 #[cfg(test)]
 mod inspect_tests;
-#[cfg(test)]
-mod slow_machine;
 #[cfg(test)]
 mod tests;

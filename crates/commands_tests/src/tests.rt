@@ -2,30 +2,18 @@
 ghost use Rattle.std.specs.Prelude.{◌≡◌, ◌≤◌, IfOk};
 
 use crate::held_files::HeldFiles;
-use command_parts::output::table_text;
 use commands::program::run_program;
-use commands::run::job_of_text;
 use commands::top::top;
-use flow_defs::{AggKind, Bytes, ListOf, StageKind, Word};
+use flow_defs::{Bytes, ListOf, StageKind, Word};
 use outside::{MemoryFile, MemoryFiles, MemoryKeeper, MemorySink};
-use plain_tally::one_thread::tally_on_one_thread;
-use stage_fns::{AggFn, FnTable, StageFn, count, keep, upper, words};
+use stage_fns::{FnTable, StageFn, words};
 use std::alloc::{AllocError, Global};
-use std::process::Abort;
 use std::sync::Wait;
 use std::sync::atomic::AtomicU64;
 use std::test::Fail;
 use std::thread::Threads;
 
 const COUNT: &str = "source in\naggregate count 1\n";
-
-// Two sources of pages, of which those that were got are counted by their names. It needs 42 segments.
-const PAGES: &str =
-    "source in\nsource in2\nstage keep:GET 2 rebalance\nstage field:2 2 hash\naggregate count 2\n";
-
-// The widest job, which needs 1,400 segments.
-const WIDEST: &str =
-    "source in\nsource in\nsource in\nsource in\nsource in\nsource in\nsource in\nsource in\nstage upper 8 rebalance\nstage upper 8 hash\nstage upper 8 rebalance\nstage upper 8 hash\nstage upper 8 rebalance\nstage upper 8 hash\naggregate count 8\n";
 
 // A file that gives at most so many bytes in a read, and whose read of this number fails, if it is not 0.
 fn file(
@@ -117,108 +105,19 @@ fn left_by<R: Threads + Wait + Sync>(
     Ok(Left { status, out, err })
 }
 
+// Reads that give one byte, three or all.
 #[test]
 fn a_run_prints_the_tally_of_its_sources(rt: HostRuntime) -> Result<(), Fail> {
     let alloc = rt.alloc();
-    let pages = "GET,/a,3\nPUT,/b,4\nGET,/a,5\n";
-    for (job, first, second, table) in [
-        (COUNT, "a\nb\na\n", "", "a\t2\nb\t1\n"),
-        (COUNT, "", "", ""),
-        (COUNT, "b\n\na", "", "\t1\na\t1\nb\t1\n"),
-        (COUNT, "\n", "", "\t1\n"),
-        (
-            "source in\naggregate count 2\n",
-            "a\nb\na\n",
-            "",
-            "a\t2\nb\t1\n",
-        ),
-        (
-            "source in\nstage words 1 rebalance\naggregate count 1\n",
-            "a b a",
-            "",
-            "a\t2\nb\t1\n",
-        ),
-        (
-            "source in\naggregate sum 1\n",
-            "k=18446744073709551615\nk=2\n",
-            "",
-            "k\t1\n",
-        ),
-        (
-            "source in\naggregate max 1\n",
-            "k=7\nk=x\nm\n",
-            "",
-            "k\t7\nm\t0\n",
-        ),
-        (
-            "source in\nstage field:2 1 rebalance\naggregate count 1\n",
-            "a,b,c\na\na,\n",
-            "",
-            "\t1\nb\t1\n",
-        ),
-        (
-            "source in\nsource in2\nstage keep:GET 2 rebalance\nstage field:2 2 hash\naggregate count 2\n",
-            pages,
-            "GET,/c,1\n",
-            "/a\t2\n/c\t1\n",
-        ),
-        (
-            "source in\nsource in2\nstage upper 2 forward\nstage words 3 hash\naggregate count 1\n",
-            "to be or\n",
-            "not  to be",
-            "BE\t2\nNOT\t1\nOR\t1\nTO\t2\n",
-        ),
-    ] {
-        for most in [1, 3, 100] {
-            let files = files(alloc, job, first.as_bytes(), second, most, 0)?;
-            let left = left_by(&rt, alloc, "run job", files, 100, 100)?;
-            assert_eq!(rt; left.status, 0, "`{job}`");
-            assert_eq!(rt; left.out.bytes(), table.as_bytes(), "`{job}`");
-            assert_eq!(rt; left.err.bytes(), b"".as_slice());
-        }
-    }
-    Ok(())
-}
-
-#[test]
-fn a_script_prints_the_replies_to_its_events(rt: HostRuntime) -> Result<(), Fail> {
-    let alloc = rt.alloc();
-    for (script, replies) in [
-        (
-            "open 1 64 40\npool\nemit 1 a\nemit 1 b\nemit 1 c\nsend\nsend\nsend\ndeliver\npool\ncredit 1\ncontrol\nsend\nsend\ndeliver\ndeliver\npoll 1\npoll 1\npoll 1\npool\ncredit 1\n",
-            "pool 36 4\nqueued 1 1\nqueued 1 2\nqueued 1 3\nframe 1 0 data 5 2\nframe 1 1 data 5 1\nnothing\naccepted 1 0\npool 33 7\ncredit 1 3\ngranted 1 3\nframe 1 2 data 5 0\nnothing\naccepted 1 1\naccepted 1 2\ndata 1 5 1\nrecord 1 a\ndata 1 5 1\nrecord 1 b\ndata 1 5 1\nrecord 1 c\npool 36 4\nnone\n",
-        ),
-        (
-            "open 2 64 40\nemit 1 a\nemit 1 b\nemit 1 c\nemit 2 d\nsend\nsend\nsend\nsend\nemit 2 e\nsend\ndeliver\ndeliver\ndeliver\ndeliver\npoll 2\npoll 2\n",
-            "queued 1 1\nqueued 1 2\nqueued 1 3\nqueued 2 1\nframe 1 0 data 5 2\nframe 2 0 data 5 0\nframe 1 1 data 5 1\nnothing\nqueued 2 1\nframe 2 1 data 5 0\naccepted 1 0\naccepted 2 0\naccepted 1 1\naccepted 2 1\ndata 2 5 1\nrecord 2 d\ndata 2 5 1\nrecord 2 e\n",
-        ),
-        (
-            "open 1 64 4\nemit 1 a\nbarrier 1 1 inline\nbarrier 1 3 inline\nemit 1 b\nemit 1 c\nsend\nsend\nsend\ndeliver\ndeliver\npoll 1\nhold 1\nresume 1\npoll 1\nresume 1\nresume 1\ncontrol\nsend\nannounce\nannounce\n",
-            "queued 1 1\nok\nrefused\nqueued 1 2\nfull\nframe 1 0 data 5 1\nframe 1 1 inline 8 1\nnothing\naccepted 1 0\naccepted 1 1\ndata 1 5 1\nrecord 1 a\nheld 1\nrefused\nbarrier 1 1 inline\nok\nrefused\nresumed 1\nframe 1 2 data 5 0\nnothing\nnothing\n",
-        ),
-    ] {
-        let files = files(alloc, script, b"", "", 9, 0)?;
-        let left = left_by(&rt, alloc, "script job", files, 1000, 100)?;
-        assert_eq!(rt; left.status, 0, "`{script}`");
-        assert_eq!(rt; left.out.bytes(), replies.as_bytes(), "`{script}`");
+    let job =
+        "source in\nsource in2\nstage keep:GET 2 rebalance\nstage field:2 2 hash\naggregate count 2\n";
+    let pages = b"GET,/a,3\nPUT,/b,4\nGET,/a,5\n";
+    for most in [1, 3, 100] {
+        let files = files(alloc, job, pages, "GET,/c,1\n", most, 0)?;
+        let left = left_by(&rt, alloc, "run job", files, 100, 100)?;
+        assert_eq!(rt; left.status, 0);
+        assert_eq!(rt; left.out.bytes(), b"/a\t2\n/c\t1\n".as_slice());
         assert_eq!(rt; left.err.bytes(), b"".as_slice());
-    }
-    Ok(())
-}
-
-#[test]
-fn lines_are_made_of_a_seed(rt: HostRuntime) -> Result<(), Fail> {
-    let alloc = rt.alloc();
-    for (words, room, status, text) in [
-        ("gen 0 9", 0, 0, ""),
-        ("gen 1 0", 9, 0, "w807 w25\n"),
-        ("gen 1 1", 100, 0, "w774 w35\n"),
-        ("gen 2 1", 9, 7, "w774 w35\n"),
-    ] {
-        let files = files(alloc, COUNT, b"", "", 9, 0)?;
-        let left = left_by(&rt, alloc, words, files, room, 100)?;
-        assert_eq!(rt; left.status, status, "`{words}`");
-        assert_eq!(rt; left.out.bytes(), text.as_bytes(), "`{words}`");
     }
     Ok(())
 }
@@ -242,73 +141,6 @@ fn takes_lines_up_to_the_limit(rt: HostRuntime) -> Result<(), Fail> {
         assert_eq!(rt; left.status, status);
         assert_eq!(rt; left.out.bytes(), table.as_slice());
         assert_eq!(rt; left.err.bytes(), told.as_bytes());
-    }
-    Ok(())
-}
-
-#[test]
-fn the_pool_is_compared_with_what_the_job_needs(rt: HostRuntime) -> Result<(), Fail> {
-    let alloc = rt.alloc();
-    let pages = "GET,/a,3\nPUT,/b,4\nGET,/a,5\n";
-    for (words, job, first, second, table, told) in [
-        (
-            "run job --pool 41",
-            PAGES,
-            pages,
-            "GET,/c,1\n",
-            "",
-            "pool has 41, needs 42\n",
-        ),
-        (
-            "run job --pool 42",
-            PAGES,
-            pages,
-            "GET,/c,1\n",
-            "/a\t2\n/c\t1\n",
-            "",
-        ),
-        (
-            "run job --pool 3",
-            COUNT,
-            "b\na\nb\n",
-            "",
-            "",
-            "pool has 3, needs 4\n",
-        ),
-        (
-            "run job --pool 4",
-            COUNT,
-            "b\na\nb\n",
-            "",
-            "a\t1\nb\t2\n",
-            "",
-        ),
-        (
-            "run job --pool 1399",
-            WIDEST,
-            "a\nb\n",
-            "",
-            "",
-            "pool has 1399, needs 1400\n",
-        ),
-        (
-            "run job --pool 1400 --segment 64",
-            WIDEST,
-            "a\nb\n",
-            "",
-            "A\t8\nB\t8\n",
-            "",
-        ),
-    ] {
-        let files = files(alloc, job, first.as_bytes(), second, 9, 0)?;
-        let left = left_by(&rt, alloc, words, files, 100, 100)?;
-        assert_eq!(rt;
-            left.status,
-            if told.is_empty() { 0 } else { 10 },
-            "{words}"
-        );
-        assert_eq!(rt; left.out.bytes(), table.as_bytes(), "{words}");
-        assert_eq!(rt; left.err.bytes(), told.as_bytes(), "{words}");
     }
     Ok(())
 }
@@ -340,129 +172,22 @@ fn two_tasks_overlap(rt: HostRuntime) -> Result<(), Fail> {
     Ok(())
 }
 
-// The program prints of a job over these two files what the plain one prints, which reads the sources one
-// after another.
-fn compare<R: Threads + Wait + Sync + Abort>(
-    rt: &R,
-    alloc: Global,
-    functions: &FnTable,
-    job: &str,
-    first: &str,
-    second: &str,
-) -> Result<(), Fail> {
-    let mut plain = files(alloc, job, first.as_bytes(), second, 5, 0)?;
-    let Ok(plan) = job_of_text(alloc, job.as_bytes(), functions) else {
-        return Err("no job".into());
-    };
-    let Ok(table) = tally_on_one_thread(alloc, &plan, functions, &mut plain) else {
-        return Err("no table".into());
-    };
-    let text = table_text(alloc, &table)?;
-    let files = files(alloc, job, first.as_bytes(), second, 5, 0)?;
-    let left = left_by(rt, alloc, "run job --segment 64", files, 1000, 100)?;
-    assert_eq!(rt; left.status, 0, "`{job}`");
-    assert_eq!(rt; left.out.bytes(), text.as_slice(), "`{job}`");
-    Ok(())
-}
-
-#[test]
-fn the_exchange_prints_what_one_thread_prints(rt: HostRuntime) -> Result<(), Fail> {
-    let alloc = rt.alloc();
-    let mut functions = FnTable::new(alloc);
-    let f: StageFn = Box::new(
-        alloc,
-        |alloc: Global, arg: &[u8], record: &[u8], list: &mut ListOf<Bytes>| {
-            words(alloc, arg, record, list)
-        },
-    )?;
-    functions.add_stage(StageKind::Words, f)?;
-    let f: StageFn = Box::new(
-        alloc,
-        |alloc: Global, arg: &[u8], record: &[u8], list: &mut ListOf<Bytes>| {
-            upper(alloc, arg, record, list)
-        },
-    )?;
-    functions.add_stage(StageKind::Upper, f)?;
-    let f: StageFn = Box::new(
-        alloc,
-        |alloc: Global, arg: &[u8], record: &[u8], list: &mut ListOf<Bytes>| {
-            keep(alloc, arg, record, list)
-        },
-    )?;
-    functions.add_stage(StageKind::Keep, f)?;
-    let f: AggFn = Box::new(alloc, |record: &[u8], old: u64| count(record, old))?;
-    functions.add_agg(AggKind::Count, f)?;
-    for job in [
-        COUNT,
-        WIDEST,
-        "source in\nsource in2\nsource in\nstage words 3 rebalance\nstage keep:a 3 forward\naggregate count 4\n",
-        "source in\nsource in2\nstage upper 2 forward\nstage words 8 hash\nstage words 1 rebalance\naggregate count 8\n",
-    ] {
-        for (first, second) in [("", "\n\n"), ("a b\nan a\n\nb a b", "at\nb\na b c d a\n")] {
-            compare(&rt, alloc, &functions, job, first, second)?;
-        }
-    }
-    Ok(())
-}
-
 // So many of the bytes, or all where they are fewer.
 fn front(bytes: &[u8], most: usize) -> &[u8] {
     &bytes[..bytes.len().min(most)]
 }
 
-// Words that the program refuses, or whose job it does.
+// What the output for errors takes changes nothing in the status.
 #[test]
-fn tells_each_fault_by_its_status_and_a_line(rt: HostRuntime) -> Result<(), Fail> {
+fn tells_a_fault_whatever_the_room_for_it(rt: HostRuntime) -> Result<(), Fail> {
     let alloc = rt.alloc();
-    let lower = "source in\nstage words 2 rebalance\nstage lower 2 rebalance\naggregate count 1\n";
-    let width = "source in\nstage upper 2 rebalance\nstage words 3 forward\naggregate count 1\n";
-    for (text, job, status, told) in [
-        ("", COUNT, 2, "usage: no command\n"),
-        ("go", COUNT, 2, "usage: unknown command\n"),
-        ("run", COUNT, 2, "usage: missing operand\n"),
-        ("run -job", COUNT, 2, "usage: missing operand\n"),
-        ("run job k", COUNT, 2, "usage: extra word\n"),
-        ("run job --fast", COUNT, 2, "usage: unknown option\n"),
-        ("run job --pool 0", COUNT, 2, "usage: bad value\n"),
-        ("run job --pool", COUNT, 2, "usage: missing value\n"),
-        (
-            "run job --pool 4 --pool 4",
-            COUNT,
-            2,
-            "usage: option twice\n",
-        ),
-        ("inspect x", COUNT, 2, "usage: extra word\n"),
-        ("inspect --every 1", COUNT, 2, "usage: unknown option\n"),
-        ("inspect", COUNT, 8, "keeper holds no image\n"),
-        ("script", "", 2, "usage: missing operand\n"),
-        ("script job", "", 3, "script line 1: bad line\n"),
-        (
-            "script job",
-            "open 1 64 4\nemit 2 x\n",
-            3,
-            "script line 2: bad line\n",
-        ),
-        ("script other", "", 4, "input fault: script\n"),
-        ("script job", "open 1 64 3", 10, "pool has 3, needs 4\n"),
-        ("run job", lower, 3, "job line 3: unknown kind\n"),
-        ("run job", width, 3, "job line 3: bad width\n"),
-        ("run job", "source in\n", 3, "job line 2: missing\n"),
-        ("run other", COUNT, 4, "input fault: job\n"),
-        (
-            "run job",
-            "source in2\nsource gone\naggregate count 1\n",
-            4,
-            "input fault: source 1\n",
-        ),
-    ] {
-        // What the output for errors takes changes nothing in the status.
-        for spare in [100, 5, 0] {
-            let files = files(alloc, job, b"a\n", "d\n", 2, 0)?;
-            let left = left_by(&rt, alloc, text, files, 100, spare)?;
-            assert_eq!(rt; left.status, status, "{told}");
-            assert_eq!(rt; left.out.bytes(), b"".as_slice(), "{told}");
-            assert_eq!(rt; left.err.bytes(), front(told.as_bytes(), spare));
-        }
+    let told = b"input fault: script\n";
+    for spare in [100, 5, 0] {
+        let files = files(alloc, COUNT, b"", "", 2, 0)?;
+        let left = left_by(&rt, alloc, "script other", files, 100, spare)?;
+        assert_eq!(rt; left.status, 4);
+        assert_eq!(rt; left.out.bytes(), b"".as_slice());
+        assert_eq!(rt; left.err.bytes(), front(told, spare));
     }
     Ok(())
 }
@@ -471,15 +196,16 @@ fn tells_each_fault_by_its_status_and_a_line(rt: HostRuntime) -> Result<(), Fail
 #[test]
 fn tells_faults_of_the_source_and_the_output(rt: HostRuntime) -> Result<(), Fail> {
     let alloc = rt.alloc();
-    for (failing, room, status, got, told) in [
-        (3, 100, 4, "", "input fault: source 0\n"),
-        (4, 100, 4, "", "input fault: source 0\n"),
-        (5, 100, 0, "a\t1\nb\t1\nc\t1\n", ""),
-        (0, 0, 7, "", "output fault\n"),
-        (0, 5, 7, "a\t1\nb", "output fault\n"),
+    for (words, failing, room, status, got, told) in [
+        ("run job", 3, 100, 4, "", "input fault: source 0\n"),
+        ("run job", 4, 100, 4, "", "input fault: source 0\n"),
+        ("run job", 5, 100, 0, "a\t1\nb\t1\nc\t1\n", ""),
+        ("run job", 0, 0, 7, "", "output fault\n"),
+        ("run job", 0, 5, 7, "a\t1\nb", "output fault\n"),
+        ("gen 2 1", 0, 9, 7, "w774 w35\n", "output fault\n"),
     ] {
         let files = files(alloc, COUNT, b"a\nb\nc\n", "", 2, failing)?;
-        let left = left_by(&rt, alloc, "run job", files, room, 100)?;
+        let left = left_by(&rt, alloc, words, files, room, 100)?;
         assert_eq!(rt; left.status, status);
         assert_eq!(rt; left.out.bytes(), got.as_bytes());
         assert_eq!(rt; left.err.bytes(), told.as_bytes());
@@ -504,40 +230,18 @@ fn refuses_a_job_text_over_its_limit(rt: HostRuntime) -> Result<(), Fail> {
     Ok(())
 }
 
-#[test]
-fn a_selfrun_tells_what_its_run_comes_to(rt: HostRuntime) -> Result<(), Fail> {
-    let alloc = rt.alloc();
-    for (words, text) in [
-        ("selfrun 0 9", "lines 0\nrecords 0\nkeys 0\nimages 2\n"),
-        ("selfrun 1 0", "lines 1\nrecords 2\nkeys 2\nimages 2\n"),
-        (
-            "selfrun 2000 7",
-            "lines 2000\nrecords 4000\nkeys 876\nimages 2\n",
-        ),
-        (
-            "selfrun 2000 7",
-            "lines 2000\nrecords 4000\nkeys 876\nimages 2\n",
-        ),
-    ] {
-        let files = files(alloc, COUNT, b"", "", 9, 0)?;
-        let left = left_by(&rt, alloc, words, files, 100, 100)?;
-        assert_eq!(rt; left.status, 0, "`{words}`");
-        assert_eq!(rt; left.out.bytes(), text.as_bytes(), "`{words}`");
-        assert_eq!(rt; left.err.bytes(), b"".as_slice());
-    }
-    Ok(())
-}
-
-// Does `selfrun` with these functions.
-fn left_by_selfrun<R: Threads + Wait + Sync>(
+// Does a command with these functions.
+fn left_with<R: Threads + Wait + Sync>(
     rt: &R,
     alloc: Global,
+    command: &str,
     functions: &FnTable,
 ) -> Result<Left, AllocError> {
-    let mut files = files(alloc, COUNT, b"", "", 9, 0)?;
+    let job = "source in\nstage words 1 hash\nstage upper 1 hash\naggregate count 1\n";
+    let mut files = files(alloc, job, b"a\n", "", 9, 0)?;
     let mut out = sink(alloc, 100)?;
     let mut err = sink(alloc, 100)?;
-    let words = words_of(alloc, "selfrun 1 0")?;
+    let words = words_of(alloc, command)?;
     let status = top(
         rt,
         alloc,
@@ -552,10 +256,10 @@ fn left_by_selfrun<R: Threads + Wait + Sync>(
 }
 
 #[test]
-fn a_selfrun_needs_its_functions(rt: HostRuntime) -> Result<(), Fail> {
+fn refuses_a_kind_that_has_no_function(rt: HostRuntime) -> Result<(), Fail> {
     let alloc = rt.alloc();
     let mut functions = FnTable::new(alloc);
-    let left = left_by_selfrun(&rt, alloc, &functions)?;
+    let left = left_with(&rt, alloc, "selfrun 1 0", &functions)?;
     assert_eq!(rt; left.status, 3);
     assert_eq!(rt; left.err.bytes(), b"job line 2: no function\n".as_slice());
     let f: StageFn = Box::new(
@@ -565,45 +269,11 @@ fn a_selfrun_needs_its_functions(rt: HostRuntime) -> Result<(), Fail> {
         },
     )?;
     functions.add_stage(StageKind::Words, f)?;
-    let left = left_by_selfrun(&rt, alloc, &functions)?;
-    assert_eq!(rt; left.status, 3);
-    assert_eq!(rt; left.out.bytes(), b"".as_slice());
-    assert_eq!(rt; left.err.bytes(), b"job line 3: no function\n".as_slice());
-    Ok(())
-}
-
-#[test]
-fn refuses_a_kind_that_has_no_function(rt: HostRuntime) -> Result<(), Fail> {
-    let alloc = rt.alloc();
-    let mut functions = FnTable::new(alloc);
-    let f: StageFn = Box::new(
-        alloc,
-        |alloc: Global, arg: &[u8], record: &[u8], list: &mut ListOf<Bytes>| {
-            words(alloc, arg, record, list)
-        },
-    )?;
-    functions.add_stage(StageKind::Words, f)?;
-    let f: AggFn = Box::new(alloc, |record: &[u8], old: u64| count(record, old))?;
-    functions.add_agg(AggKind::Count, f)?;
-    let job = "source in\nstage words 1 hash\nstage upper 1 hash\naggregate count 1\n";
-    let mut files = files(alloc, job, b"a\n", "", 9, 0)?;
-    let mut out = sink(alloc, 100)?;
-    let mut err = sink(alloc, 100)?;
-    let words = words_of(alloc, "run job")?;
-    assert_eq!(rt;
-        top(
-            &rt,
-            alloc,
-            &words,
-            &functions,
-            &mut files,
-            &mut no_images(alloc),
-            &mut out,
-            &mut err
-        ),
-        3
-    );
-    assert_eq!(rt; out.bytes(), b"".as_slice());
-    assert_eq!(rt; err.bytes(), b"job line 3: no function\n".as_slice());
+    for command in ["selfrun 1 0", "run job"] {
+        let left = left_with(&rt, alloc, command, &functions)?;
+        assert_eq!(rt; left.status, 3);
+        assert_eq!(rt; left.out.bytes(), b"".as_slice());
+        assert_eq!(rt; left.err.bytes(), b"job line 3: no function\n".as_slice());
+    }
     Ok(())
 }

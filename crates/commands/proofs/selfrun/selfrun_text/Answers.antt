@@ -7,7 +7,8 @@ use Rattle.outside.specs.MemoryFiles.{contents_in}
 use Rattle.outside.specs.MemoryKeepers.{KeeperState}
 use Rattle.job_text.specs.JobText.{IsJobText}
 use Rattle.job_text.specs.JobFaults.{first_fault}
-use Rattle.commands.specs.SelfRuns.{IsSelfFault, self_text, summary_of}
+use Rattle.std.specs.FinMap.{entries}
+use Rattle.commands.specs.SelfRuns.{IsSelfFault, counted_in, self_text, summary_of}
 use Rattle.commands.proofs.SelfLemmas.{few_sources, of_self_run, self_enough, self_has_text, self_ran, self_tells}
 use Rattle.commands.proofs.selfrun.selfrun_text.Goals as goal
 
@@ -35,11 +36,12 @@ returns-in-Ok-clause-done g c =
     let kept = c.images.result.now in
     let after = c.table_by_exchange.new.keeper.images in
     let stored : length kept ≡ length after = sym (length-map kept image_of) ∙ ap length c.images.ensures.images in
-    self_ran functions job is many seed c.empty_keeper-keeper.result.images after c.in-Ok.table c.in_ok-summary-in-Ok.field-0.items
+    self_ran c.start_exists.ensures.exists c.finished_chain_is_counted.ensures.count c.tally_counts_records.ensures.sum c.lines_are_of_two_words.ensures.count c.lines_are_of_two_words.ensures.words
+    c.job_texts_are_clear.ensures.tasks c.job_texts_are_clear.ensures.work functions job is many seed c.empty_keeper-keeper.result.images after c.in-Ok.table c.in_ok-summary-in-Ok.field-0.items
     (ap (λ (k : KeeperState). k.images) c.empty_keeper-keeper.ensures)
     (c.in-Ok.ensures.told (λ a. generated seed many) tells).1
     (c.in-Ok.ensures.last (λ a. generated seed many) tells)
-    (c.in_ok-summary-in-Ok.ensures ∙ ap (λ (n : ℕ). summary_of many c.in-Ok.table n) stored)
+    (c.in_ok-summary-in-Ok.ensures ∙ ap (λ (n : ℕ). summary_of many (counted_in c.in-Ok.table) (length (entries c.in-Ok.table)) n) stored)
 
 pub returns-clause-fault : goal.returns-clause-fault
 returns-clause-fault g c =

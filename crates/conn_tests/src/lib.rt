@@ -1,5 +1,5 @@
 //! A connection at work: a source, the four loops and a sink, each in a thread of its own, over links that
-//! the caller gives. Its tests run it over links in memory, and the program links_bench times it.
+//! the caller gives. Its tests run it over links in memory, and the program benches times it.
 #![tactic(auto)]
 
 mod carrying;

@@ -2,7 +2,7 @@
 use Rattle.std.proofs.Common.{◌≡◌, ℕ, ◌+◌, ◌<◌, List, ◌++◌, [], ◌∷◌, length, get_or, sym, ap, ◌∙◌, arith}
 use Rattle.std.proofs.lemmas.List.FromFn.{get_or-map-range_with_len, length-map-range_with_len, map-range_with_len_more}
 use Rattle.flow_defs.specs.declared.task.ChannelId.{ChannelId}
-use Rattle.ends_bench.specs.Ids.{id_from, ids}
+use Rattle.benches.specs.Ids.{id_from, ids}
 
 pub ids_more : (n : ℕ) → ids (n + 1) ≡ ids n ++ id_from n ∷ []
 ids_more n = map-range_with_len_more id_from 0 n n (omega arith)

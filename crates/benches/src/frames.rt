@@ -1,11 +1,7 @@
-//! Encodes frames of 32 KiB of data, or decodes them and copies their data out, so many rounds of
-//! three frames. bench/frames measures it beside plain Rust.
-#![tactic(auto)]
-
+// Frames of 32 KiB of data, laid down or read.
 use flow_defs::{ChannelId, ListOf};
 use net_frames::{ArrivalKind2, Decoded, Frame, Span, decode, encode};
 use std::alloc::{AllocError, Global};
-use std::env;
 
 const DATA: usize = 32_768;
 
@@ -23,20 +19,13 @@ const FRAME: Frame = Frame::BufferResponse {
     what: ArrivalKind2::Buffer,
 };
 
-fn main(rt: HostRuntime) -> anyhow::Result<()> {
-    let mut words = env::args(&rt)?.skip(1);
-    let is_encoding = words.next().is_some_and(|word| word.as_str() == "encode");
-    let rounds = match words.next() {
-        Some(word) => word.parse()?,
-        None => 1u64,
-    };
-    let sum = if is_encoding {
-        encode_all(rt.alloc(), rounds)?
-    } else {
-        decode_all(rt.alloc(), rounds)?
-    };
-    println!(rt; "{sum}")?;
-    Ok(())
+// So many rounds of three frames: `encode` lays them down, `decode` reads them and copies their data out.
+pub fn work(alloc: Global, what: &str, rounds: u64) -> Option<u64> {
+    match what {
+        "encode" => encode_all(alloc, rounds).ok(),
+        "decode" => decode_all(alloc, rounds).ok(),
+        _ => None,
+    }
 }
 
 // Three frames, end to end.

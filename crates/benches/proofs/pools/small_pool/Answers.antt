@@ -1,5 +1,5 @@
-use Rattle.ends_bench.proofs.One.{only_one}
-use Rattle.ends_bench.proofs.pools.small_pool.Goals as goal
+use Rattle.benches.proofs.One.{only_one}
+use Rattle.benches.proofs.pools.small_pool.Goals as goal
 
 pub returns-clause-pass : goal.returns-clause-pass
 returns-clause-pass c =

@@ -1,6 +1,6 @@
 use Rattle.std.proofs.Common.{◌≡◌}
-use Rattle.ends_bench.specs.Ids.{ids}
-use Rattle.ends_bench.proofs.ends.ids_of.Given as goal
+use Rattle.benches.specs.Ids.{ids}
+use Rattle.benches.proofs.ends.ids_of.Given as goal
 
 abbrev pub invariant-loop-from : goal.invariant-loop-from
 invariant-loop-from l = l.found.items ≡ ids l.from

@@ -1,6 +1,6 @@
 use Rattle.std.proofs.Common.{◌≡◌, false}
 use Rattle.segment_pool.specs.Pools.{IsPassOf}
-use Rattle.ends_bench.proofs.ends.queue.Given as goal
+use Rattle.benches.proofs.ends.queue.Given as goal
 
 abbrev pub invariant-loop-item : goal.invariant-loop-item
 invariant-loop-item g l = IsPassOf l.pool l.pass × (l.queue.finished ≡ false)

@@ -1,5 +1,5 @@
 use Rattle.segment_pool.specs.Pools.{IsPassOf}
-use Rattle.ends_bench.proofs.pools.claim.Given as goal
+use Rattle.benches.proofs.pools.claim.Given as goal
 
 abbrev pub invariant-loop-turn : goal.invariant-loop-turn
 invariant-loop-turn g l = IsPassOf l.pool l.pass

@@ -1,8 +1,9 @@
 // The two ends of a channel.
 ghost use Rattle.std.specs.Prelude.{◌≡◌, ◌<◌, ◌≤◌, ◌^◌, [], IfSome};
-ghost use Rattle.ends_bench.specs.Ids.{ids};
+ghost use Rattle.benches.specs.Ids.{ids};
 ghost use Rattle.segment_pool.specs.Pools.{IsPassOf, limits_of, size_of};
 
+use crate::pools;
 use crate::pools::small_pool;
 use credit_reader::laws::{happenings_change_one, readers_are_in_order};
 use credit_reader::{CREDIT_MAX, Readers, SentKind};
@@ -13,9 +14,25 @@ use std::alloc::Global;
 use std::sync::Wait;
 use subpartition::{Filled, Item, Subpartition};
 
+// Does one thing so many times: `open SEGMENTS SIZE` opens a pool and closes it, `claim SEGMENTS` claims a
+// segment and gives it back, `queue ITEMS` takes an item and puts it back, `readers CHANNELS` lets the first
+// reader send, `inbox 0` accepts a buffer, polls it and takes it back, and `front BUFFERS` looks for the
+// front barrier behind so many buffers.
+pub fn work<R: Wait>(rt: &R, alloc: Global, what: &str, size: u32, times: u64) -> Option<u64> {
+    match what {
+        "open" => pools::open(rt, alloc, size, times),
+        "claim" => pools::claim(rt, alloc, size, times),
+        "queue" => queue(rt, alloc, size, times),
+        "readers" => readers(alloc, size, times),
+        "inbox" => inbox(rt, alloc, times),
+        "front" => front(rt, alloc, size, times),
+        _ => None,
+    }
+}
+
 // Takes the first item of a subpartition with so many items and puts it back, so many times. Returns how
 // many bytes were moved.
-pub fn queue<R: Wait>(rt: &R, alloc: Global, items: u32, times: u64) -> Option<u64> {
+fn queue<R: Wait>(rt: &R, alloc: Global, items: u32, times: u64) -> Option<u64> {
     if items == 0 || items > SEGMENTS_MAX {
         return None;
     }
@@ -68,7 +85,7 @@ fn admit(readers: &mut Readers, id: ChannelId) -> bool {
 }
 
 // Lets the first of so many readers send, so many times. Returns the sum of the sequence numbers.
-pub fn readers(alloc: Global, channels: u32, times: u64) -> Option<u64> {
+fn readers(alloc: Global, channels: u32, times: u64) -> Option<u64> {
     let ids = ids_of(alloc, channels)?;
     let mut readers = Readers::new(alloc, &ids).ok()?;
     for id in &ids {
@@ -106,7 +123,7 @@ fn channel<R: Wait>(
 
 // Accepts a buffer of 64 bytes, polls it, takes it back and tells the credit, so many times. Returns how
 // much credit was told.
-pub fn inbox<R: Wait>(rt: &R, alloc: Global, times: u64) -> Option<u64> {
+fn inbox<R: Wait>(rt: &R, alloc: Global, times: u64) -> Option<u64> {
     let (pool, mut pass) = small_pool(alloc, 2)?;
     let mut inbox = channel(rt, alloc, &pool, &mut pass, 10)?;
     let content = [7; SEGMENT_MIN];
@@ -130,7 +147,7 @@ pub fn inbox<R: Wait>(rt: &R, alloc: Global, times: u64) -> Option<u64> {
 
 // Looks for a front barrier behind so many buffers, so many times, and leaves it there. Returns how often
 // it was there.
-pub fn front<R: Wait>(rt: &R, alloc: Global, buffers: u32, times: u64) -> Option<u64> {
+fn front<R: Wait>(rt: &R, alloc: Global, buffers: u32, times: u64) -> Option<u64> {
     if buffers > SEGMENTS_MAX - 2 {
         return None;
     }

@@ -22,17 +22,18 @@ def job_cli():
     return ROOT / "crates" / "job_cli" / "out" / "job_cli"
 
 
-def proved(crate):
-    """The program of a crate of a bench, proved and built first where it is missing or older than the sources."""
-    program = ROOT / "crates" / crate / "out" / crate
+def proved(bench):
+    """The command of a bench in the program of crates/benches, proved and built first where it is missing or older than the sources."""
+    crate = ROOT / "crates" / "benches"
+    program = crate / "out" / "benches"
     if is_stale(program):
         program.unlink(missing_ok=True)
-        # With no words the program only tells its usage, so its status says nothing.
-        subprocess.run(["rt", "run"], cwd=ROOT / "crates" / crate, stdin=subprocess.DEVNULL, stdout=sys.stderr)
+        # With no words the program does nothing, so its status says nothing.
+        subprocess.run(["rt", "run"], cwd=crate, stdin=subprocess.DEVNULL, stdout=sys.stderr)
         if not program.exists():
-            sys.exit(f"the program could not be built: see `rt run` in crates/{crate}")
+            sys.exit("the program could not be built: see `rt run` in crates/benches")
         program.touch()
-    return program
+    return [program, bench]
 
 
 def is_stale(program):
@@ -44,15 +45,15 @@ def is_stale(program):
 
 
 def plain(folder, name):
-    """The program in plain Rust that bench/NAME.rs makes, in this folder."""
+    """The command of the program in plain Rust that bench/NAME.rs makes, in this folder."""
     program = Path(folder).resolve() / name
     subprocess.run(["rustc", "--edition", "2021", "-O", "-o", program, ROOT / "bench" / f"{name}.rs"], check=True)
-    return program
+    return [program]
 
 
-def seconds(*command):
+def seconds(program, *words):
     before = time.perf_counter()
-    subprocess.run([*map(str, command)], stdout=subprocess.PIPE, check=True)
+    subprocess.run([*program, *map(str, words)], stdout=subprocess.PIPE, check=True)
     return time.perf_counter() - before
 
 

@@ -1,7 +1,7 @@
 // A connection whose links lie in memory: its source, its four loops and its sink, each in a thread of its own.
 ghost use Rattle.std.specs.Prelude.{◌≡◌, None, IfSome};
 
-use conn_tests::{Carried, Counted, Plan, Work, carry, open_pool};
+use conn_harness::{Carried, Counted, Plan, Work, carry, open_pool};
 use flow_defs::{Cause, ListOf};
 use outside::{Links, MemoryLinks};
 use std::alloc::Global;

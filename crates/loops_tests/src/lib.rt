@@ -1,5 +1,5 @@
-//! Tests of the loops of a connection, each alone and over the built crates: conn_parts, conn_send, conn_grant and
-//! conn_receive.
+//! Tests of the loops of a connection, over the built crates: conn_parts, conn_send, conn_grant and
+//! conn_receive each alone, and all four with a source and a sink, as conn_harness runs them.
 #![tactic(auto)]
 
 #[cfg(test)]
@@ -10,3 +10,7 @@ mod conn_parts_tests;
 mod conn_receive_tests;
 #[cfg(test)]
 mod conn_send_tests;
+#[cfg(test)]
+mod connection_tests;
+#[cfg(test)]
+mod taps;

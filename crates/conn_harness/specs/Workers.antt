@@ -1,0 +1,18 @@
+-- What the workers of a connection are lent, each what its contract asks for. This is this project's own choice.
+use Rattle.turn_cell.specs.Passes.{IsPassOf}
+use Rattle.conn_send.specs.Sending.{MaySendItems}
+use Rattle.conn_grant.specs.Granting.{MayReadControl}
+use Rattle.conn_receive.specs.Receiving.{MayReadItems}
+use Rattle.conn_announce.specs.Announcing.{MaySendControl}
+use Rattle.conn_harness.specs.declared.cells.Cells.{Cells}
+use Rattle.conn_harness.specs.declared.workers.Workers.{Workers}
+use Rattle.conn_harness.specs.Ends.{MayPut, MayTake}
+
+pub record MayWork (cells : Cells) (workers : Workers) : Type 0 where
+  pub source : MayPut workers.source
+  pub sink : MayTake workers.sink
+  pub items : MaySendItems workers.items
+  pub control : MayReadControl workers.control
+  pub read : MayReadItems workers.read
+  pub asked : MaySendControl workers.asked
+  pub other : IsPassOf cells.stop workers.other

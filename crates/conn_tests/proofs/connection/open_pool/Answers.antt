@@ -1,5 +1,0 @@
-use Rattle.conn_tests.proofs.TaskLaws.{all_ready}
-use Rattle.conn_tests.proofs.connection.open_pool.Goals as goal
-
-pub returns-in-Ok-clause-passes : goal.returns-in-Ok-clause-passes
-returns-in-Ok-clause-passes c = all_ready c.in-Ok.pool c.in-Ok.passes.items c.in-Ok.ensures.made c.in-Ok.ensures.none_out

@@ -1,6 +1,0 @@
-use Rattle.std.proofs.Common.{◌≡◌}
-use Rattle.conn_tests.specs.Groups.{AreMade}
-use Rattle.conn_tests.proofs.pools.subpartitions_of.Given as goal
-
-abbrev pub invariant-loop-channel : goal.invariant-loop-channel
-invariant-loop-channel l = AreMade (λ queue. queue.size ≡ l.size) l._channel l.group

@@ -1,10 +1,9 @@
 // The images that runs leave with a keeper.
 use crate::inspect_tests::{LAST, SHOWN};
-use crate::tests::{files, sink, words_of};
+use crate::tests::{Left, files, left_over};
 use channel_state::read_image;
-use commands::program::run_program;
 use flow_defs::{Image, ListOf};
-use outside::{Kept, MemoryKeeper, MemorySink};
+use outside::{Kept, MemoryKeeper};
 use std::alloc::{AllocError, Global};
 use std::sync::Wait;
 use std::test::Fail;
@@ -23,15 +22,7 @@ fn empty_keeper(alloc: Global, failing: u64) -> Result<MemoryKeeper, AllocError>
     Ok(MemoryKeeper::new(ListOf::new(alloc), ListOf::new(alloc), puts))
 }
 
-// What a command leaves: its status, and what both outputs got.
-#[derive(Drop)]
-struct Left {
-    status: u8,
-    out: MemorySink,
-    err: MemorySink,
-}
-
-// Does a command over these files and this keeper.
+// Does a command over a job and two sources.
 fn left_by<R: Threads + Wait + Sync>(
     rt: &R,
     alloc: Global,
@@ -41,12 +32,8 @@ fn left_by<R: Threads + Wait + Sync>(
     second: &str,
     keeper: &mut MemoryKeeper,
 ) -> Result<Left, AllocError> {
-    let words = words_of(alloc, command)?;
-    let mut files = files(alloc, job, first.as_bytes(), second, 7, 0)?;
-    let mut out = sink(alloc, 10_000)?;
-    let mut err = sink(alloc, 100)?;
-    let status = run_program(rt, alloc, &words, &mut files, keeper, &mut out, &mut err);
-    Ok(Left { status, out, err })
+    let files = files(alloc, job, first.as_bytes(), second, 7, 0)?;
+    left_over(rt, alloc, command, files, keeper, 10_000, 100)
 }
 
 #[test]

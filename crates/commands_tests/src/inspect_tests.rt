@@ -1,6 +1,5 @@
 // Keepers that hold an image, or none, when the program begins.
-use crate::tests::{files, sink, words_of};
-use commands::program::run_program;
+use crate::tests::{files, left_over};
 use flow_defs::{Bytes, ListOf};
 use outside::{Kept, MemoryKeeper};
 use std::alloc::{AllocError, Global};
@@ -81,22 +80,11 @@ fn what_the_keeper_holds_is_shown_or_refused(rt: HostRuntime) -> Result<(), Fail
     ] {
         let mut keeper = keeper(alloc, number, bytes, failing)?;
         let held = keeper.images().len();
-        let line = words_of(alloc, words)?;
-        let mut files = files(alloc, JOB, b"a\nb\na\n", "", 9, 0)?;
-        let mut out = sink(alloc, 1000)?;
-        let mut err = sink(alloc, 100)?;
-        let left = run_program(
-            &rt,
-            alloc,
-            &line,
-            &mut files,
-            &mut keeper,
-            &mut out,
-            &mut err,
-        );
-        assert_eq!(rt; left, status, "`{words}`: {told}");
-        assert_eq!(rt; out.bytes(), got.as_bytes(), "`{words}`: {told}");
-        assert_eq!(rt; err.bytes(), told.as_bytes(), "`{words}`: {told}");
+        let files = files(alloc, JOB, b"a\nb\na\n", "", 9, 0)?;
+        let left = left_over(&rt, alloc, words, files, &mut keeper, 1000, 100)?;
+        assert_eq!(rt; left.status, status, "`{words}`: {told}");
+        assert_eq!(rt; left.out.bytes(), got.as_bytes(), "`{words}`: {told}");
+        assert_eq!(rt; left.err.bytes(), told.as_bytes(), "`{words}`: {told}");
         let more = if got.starts_with("a\t") { 1 } else { 0 };
         assert_eq!(rt;
             keeper.images().len(),

@@ -72,37 +72,49 @@ fn no_images(alloc: Global) -> MemoryKeeper {
     MemoryKeeper::new(ListOf::new(alloc), ListOf::new(alloc), ListOf::new(alloc))
 }
 
-// What a run leaves: its status, and what both outputs got.
+// What a command leaves: its status, and what both outputs got.
 #[derive(Drop)]
-struct Left {
-    status: u8,
-    out: MemorySink,
-    err: MemorySink,
+pub struct Left {
+    pub status: u8,
+    pub out: MemorySink,
+    pub err: MemorySink,
 }
 
-// Runs the program over these files, with so much room at each output.
-fn left_by<R: Threads + Wait + Sync>(
+// Does a command over these files and this keeper, with so much room at each output.
+pub fn left_over<R: Threads + Wait + Sync>(
     rt: &R,
     alloc: Global,
-    text: &str,
+    command: &str,
     mut files: MemoryFiles,
+    keeper: &mut MemoryKeeper,
     room: usize,
     spare: usize,
 ) -> Result<Left, AllocError> {
-    let words = words_of(alloc, text)?;
+    let words = words_of(alloc, command)?;
     let mut out = sink(alloc, room)?;
     let mut err = sink(alloc, spare)?;
-    let mut keeper = no_images(alloc);
-    let status = run_program(
+    let status = run_program(rt, alloc, &words, &mut files, keeper, &mut out, &mut err);
+    Ok(Left { status, out, err })
+}
+
+// The same, where the keeper holds nothing.
+fn left_by<R: Threads + Wait + Sync>(
+    rt: &R,
+    alloc: Global,
+    command: &str,
+    files: MemoryFiles,
+    room: usize,
+    spare: usize,
+) -> Result<Left, AllocError> {
+    left_over(
         rt,
         alloc,
-        &words,
-        &mut files,
-        &mut keeper,
-        &mut out,
-        &mut err,
-    );
-    Ok(Left { status, out, err })
+        command,
+        files,
+        &mut no_images(alloc),
+        room,
+        spare,
+    )
 }
 
 // Reads that give one byte, three or all.

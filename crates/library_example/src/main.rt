@@ -70,21 +70,6 @@ fn add_agg(functions: &mut FnTable, kind: AggKind, f: AggFn) -> Result<(), Alloc
     }
 }
 
-// The functions of the kinds that the job names.
-fn functions_of(alloc: Global) -> Result<FnTable, AllocError> {
-    let mut functions = FnTable::new(alloc);
-    let f: StageFn = Box::new(
-        alloc,
-        |alloc: Global, arg: &[u8], record: &[u8], list: &mut ListOf<Bytes>| {
-            words(alloc, arg, record, list)
-        },
-    )?;
-    add_stage(&mut functions, StageKind::Words, f)?;
-    let f: AggFn = Box::new(alloc, |record: &[u8], old: u64| count(record, old))?;
-    add_agg(&mut functions, AggKind::Count, f)?;
-    Ok(functions)
-}
-
 // What a run of the job of this text comes to: its table, or why a worker stopped it. The fault is of a run that could not
 // begin. Each source of the job reads the file.
 fn run<R: Threads + Wait + Sync>(
@@ -128,21 +113,33 @@ fn run<R: Threads + Wait + Sync>(
     Ok(ran)
 }
 
+// Runs the job with the functions of the kinds that it names.
+fn run_with_functions<R: Threads + Wait + Sync>(
+    rt: &R,
+    alloc: Global,
+    file: &mut HeldFile<'_>,
+    links: &mut CountedLinks,
+    keeper: &mut ImageList,
+) -> Result<Result<Result<Table, Cause>, Fault>, AllocError> {
+    let mut functions = FnTable::new(alloc);
+    let f: StageFn = Box::new(
+        alloc,
+        |alloc: Global, arg: &[u8], record: &[u8], list: &mut ListOf<Bytes>| {
+            words(alloc, arg, record, list)
+        },
+    )?;
+    add_stage(&mut functions, StageKind::Words, f)?;
+    let f: AggFn = Box::new(alloc, |record: &[u8], old: u64| count(record, old))?;
+    add_agg(&mut functions, AggKind::Count, f)?;
+    Ok(run(rt, alloc, JOB, &functions, file, links, keeper))
+}
+
 fn main(rt: HostRuntime) -> io::Result<ExitCode> {
     let alloc = rt.alloc();
-    let functions = functions_of(alloc)?;
     let mut file = HeldFile::new("lines", LINES);
     let mut links = CountedLinks::new(alloc);
     let mut keeper = ImageList::new(alloc);
-    match run(
-        &rt,
-        alloc,
-        JOB,
-        &functions,
-        &mut file,
-        &mut links,
-        &mut keeper,
-    ) {
+    match run_with_functions(&rt, alloc, &mut file, &mut links, &mut keeper)? {
         Ok(Ok(table)) => {
             io::writer(&rt).write_all(table_text(alloc, &table)?.as_slice())?;
             println!(rt; "connections {}", links.made)?;

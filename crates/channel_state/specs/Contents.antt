@@ -1,5 +1,5 @@
 -- What bytes have to be to spell an image. The format of images is this project's own.
-use Rattle.std.specs.Prelude.{ℕ, ◌<◌, ◌≤◌, ◌^◌, nat_lt, ◌&&◌, Bool, length, All}
+use Rattle.std.specs.Prelude.{ℕ, ◌<◌, ◌≤◌, ◌^◌, nat_lt, ◌&&◌, Bool, List, length, All}
 use Rattle.std.specs.List.{list_all}
 use Rattle.std.specs.FinMap.{entries}
 use Rattle.flow_defs.specs.Limits.{job_text_max}
@@ -33,7 +33,11 @@ pub record FitsItsText (image : Image) : Type 0 where
   pub fits : Fits job image
   pub short : length image.text.items ≤ TEXT_MOST
 
+-- The counts of these runs go into eight bytes.
+abbrev pub HaveCounts : List TakeRun → Type 0
+HaveCounts runs = All (λ (run : TakeRun). run.count < 2 ^ 64) runs
+
 -- The numbers of an image that may not be 0 go into their eight bytes, as those in memory do.
 pub record HasRange (image : Image) : Type 0 where
   pub number : image.number < 2 ^ 64
-  pub counts : All (λ (runs : Items TakeRun). All (λ (run : TakeRun). run.count < 2 ^ 64) runs.items) image.takes.items
+  pub counts : All (λ (runs : Items TakeRun). HaveCounts runs.items) image.takes.items

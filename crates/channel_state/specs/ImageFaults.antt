@@ -1,15 +1,17 @@
 -- What keeps bytes from being an image: the first field that is cut or doesn't say what it has to, in the
 -- order of the fields. The format is this project's own.
-use Rattle.std.specs.Prelude.{ℕ, zero, suc, ◌-◌, ◌==◌, ◌&&◌, ◌||◌, not, nat_le, Bool, true, List, [], ◌∷◌, ◌++◌, length, Option, Some, None, is_none, Result, Ok, Err, codes, bytes_eq}
+use Rattle.std.specs.Prelude.{◌≡◌, ℕ, zero, suc, ◌-◌, ◌==◌, ◌&&◌, ◌||◌, not, nat_le, Bool, true, List, [], ◌∷◌, ◌++◌, length, Option, Some, None, is_none, Result, Ok, Err, codes, bytes_eq}
 use Rattle.std.specs.Option.{option_map_or}
 use Rattle.std.specs.Ordering.{is_lt}
 use Rattle.std.specs.Int.{w32, w64}
 use Rattle.flow_defs.specs.Limits.{record_max}
 use Rattle.flow_defs.specs.declared.job.Job.{Job}
+use Rattle.flow_defs.specs.declared.image.Image.{Image}
 use Rattle.flow_defs.specs.Jobs.{last_edge, tasks, is_channel}
 use Rattle.flow_defs.specs.Records.{spans, all_encoded}
 use Rattle.flow_defs.specs.Tables.{key_cmp}
 use Rattle.plain_machine.specs.Places.{sending_tasks, channels}
+use Rattle.plain_machine.specs.Spelling.{spelling}
 use Rattle.job_text.specs.KnownKinds.{every_kind}
 use Rattle.job_text.specs.JobFaults.{first_fault}
 use Rattle.job_text.specs.Shapes.{said, job_of}
@@ -113,3 +115,7 @@ place_in bytes (Err left) = Some (length bytes - left)
 -- The place of the first faulty field, where one is.
 abbrev pub image_fault : List ℕ → Option ℕ
 image_fault bytes = place_in bytes (image bytes)
+
+-- An image can be read again: its spelling has no fault.
+abbrev pub IsReadable : Image → Type 0
+IsReadable image = image_fault (spelling image) ≡ None

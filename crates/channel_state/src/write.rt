@@ -9,7 +9,8 @@ ghost use Rattle.flow_defs.specs.Rows.{row_pair};
 ghost use Rattle.flow_defs.specs.declared.table.Row.{Row};
 ghost use Rattle.flow_defs.specs.declared.image.TakeRun.{TakeRun};
 ghost use Rattle.plain_machine.specs.Spelling.{flag_part, sized, counted, source_part, row_part, run_part, channel_part, spelling, CanSpell};
-ghost use Rattle.channel_state.specs.Contents.{FitsItsText, is_count, has_counts};
+ghost use Rattle.channel_state.specs.Contents.{FitsItsText, HasRange, HaveCounts, is_count, has_counts};
+ghost use Rattle.channel_state.specs.ImageFaults.{IsReadable};
 
 use crate::WriteFault;
 use flow_defs::{Bytes, Image, ListOf, Row, Table, TakeRun};
@@ -24,6 +25,7 @@ pub fn write_image(alloc: Global, image: &Image) -> Result<Bytes, WriteFault>
     requires fits { FitsItsText image.now }
     ensures ok { IfOk result (λ bytes. bytes.items ≡ spelling image.now) }
     ensures can { OnOk result (CanSpell image.now) }
+    ensures readable { OnOk result (IsReadable image.now) }
     ensures too_big { (result ≡ Err WriteFault.TooBig) ↔ (CanSpell image.now → ⊥) }
 {
     let can = can_spell(image);
@@ -81,7 +83,8 @@ fn pieces_fit(pieces: &[Bytes]) -> bool
 fn spell(alloc: Global, image: &Image) -> Result<Bytes, AllocError>
     requires fits { FitsItsText image.now }
     requires can { CanSpell image.now }
-    ensures { IfOk result (λ bytes. bytes.items ≡ spelling image.now) }
+    ensures ok { IfOk result (λ bytes. bytes.items ≡ spelling image.now) }
+    ensures range { OnOk result (HasRange image.now) }
 {
     let mut out = Bytes::new(alloc);
     out.extend(b"FLWI")?;
@@ -183,7 +186,8 @@ fn put_tables(out: &mut Bytes, tables: &[Table]) -> Result<(), AllocError>
 }
 
 fn put_run(out: &mut Bytes, run: TakeRun) -> Result<(), AllocError>
-    ensures { OnOk result (out.new.items ≡ out.old.items ++ run_part run) }
+    ensures out { OnOk result (out.new.items ≡ out.old.items ++ run_part run) }
+    ensures range { run.count < 2 ^ 64 }
 {
     out.extend(&run.from.to_be_bytes())?;
     out.extend(&run.count.to_be_bytes())?;
@@ -192,7 +196,8 @@ fn put_run(out: &mut Bytes, run: TakeRun) -> Result<(), AllocError>
 
 fn put_runs(out: &mut Bytes, runs: &[TakeRun]) -> Result<(), AllocError>
     requires { length runs.now < 2 ^ 32 }
-    ensures { OnOk result (out.new.items ≡ out.old.items ++ counted run_part runs.now) }
+    ensures out { OnOk result (out.new.items ≡ out.old.items ++ counted run_part runs.now) }
+    ensures range { OnOk result (HaveCounts runs.now) }
 {
     out.extend(&(runs.len() as u32).to_be_bytes())?;
     put_all_runs(out, runs)?;
@@ -200,7 +205,8 @@ fn put_runs(out: &mut Bytes, runs: &[TakeRun]) -> Result<(), AllocError>
 }
 
 fn put_all_runs(out: &mut Bytes, runs: &[TakeRun]) -> Result<(), AllocError>
-    ensures { OnOk result (out.new.items ≡ out.old.items ++ flat_map run_part runs.now) }
+    ensures out { OnOk result (out.new.items ≡ out.old.items ++ flat_map run_part runs.now) }
+    ensures range { OnOk result (HaveCounts runs.now) }
 {
     for run in runs {
         put_run(out, *run)?;
@@ -210,7 +216,8 @@ fn put_all_runs(out: &mut Bytes, runs: &[TakeRun]) -> Result<(), AllocError>
 
 fn put_takes(out: &mut Bytes, takes: &[ListOf<TakeRun>]) -> Result<(), AllocError>
     requires { All (λ (runs : Items TakeRun). length runs.items < 2 ^ 32) takes.now }
-    ensures { OnOk result (out.new.items ≡ out.old.items ++ flat_map (λ (runs : Items TakeRun). counted run_part runs.items) takes.now) }
+    ensures out { OnOk result (out.new.items ≡ out.old.items ++ flat_map (λ (runs : Items TakeRun). counted run_part runs.items) takes.now) }
+    ensures range { OnOk result (All (λ (runs : Items TakeRun). HaveCounts runs.items) takes.now) }
 {
     for runs in takes {
         put_runs(out, runs.as_slice())?;

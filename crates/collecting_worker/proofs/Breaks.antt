@@ -53,6 +53,7 @@ ready_still mid new cp image bytes gathering job h = record {
   complete = subst (λ (g : Gathering). IsComplete new.job.now (received_by g.pass) cp image) (sym gathering) (subst (λ j. IsComplete j (received_by mid.gathering.pass) cp image) (ap (λ j. j.now) (sym job)) h.complete);
   sound = subst (λ j. IsFaultOf j image None) (ap (λ j. j.now) (sym job)) h.sound;
   can = h.can;
+  readable = h.readable;
   bytes_are = h.bytes_are;
 }
 

@@ -12,6 +12,7 @@ use Rattle.flow_defs.specs.Jobs.{IsJob}
 use Rattle.plain_machine.specs.Images.{AllEnded, Fits, IsStart}
 use Rattle.plain_machine.specs.Chains.{last_of}
 use Rattle.plain_machine.specs.Spelling.{spelling, CanSpell}
+use Rattle.channel_state.specs.ImageFaults.{IsReadable}
 use Rattle.checkpoint_laws.specs.Chapters.{Linked}
 use Rattle.checkpoint_laws.specs.Collecting.{Collected, IsLast}
 use Rattle.collector.specs.declared.collector.Checkpoint.{Checkpoint}
@@ -76,6 +77,7 @@ still_stored job every received more before after told images starts h = record 
   collected = h.collected;
   fit = h.fit;
   spelled = h.spelled;
+  readable = h.readable;
   made = all_weaker (IsMadeFrom job received) (IsMadeFrom job more) images (still_made job received more starts) h.made;
 }
 
@@ -86,6 +88,7 @@ none_stored job every received before told none = record {
   collected = λ base start. tt;
   fit = tt;
   spelled = tt;
+  readable = tt;
   made = tt;
 }
 
@@ -156,7 +159,7 @@ module _ (law : SnapshotsMakeFitting) (job : Job) (every : Option ℕ) (received
   abbrev all_images : List Image
   all_images = going.images ++ image ∷ []
 
-  module _ (sound : IsFaultOf job image None) (can : CanSpell image) (kept : after ≡ with_image mid image.number (spelling image)) (tells : told' ≡ told ++ stored_of image ∷ []) (last_is : last' ≡ Some image) where
+  module _ (sound : IsFaultOf job image None) (can : CanSpell image) (readable : IsReadable image) (kept : after ≡ with_image mid image.number (spelling image)) (tells : told' ≡ told ++ stored_of image ∷ []) (last_is : last' ≡ Some image) where
     pub one_more : AreStored job every more before after told' all_images
     one_more =
         let was = still_stored job every received more before mid told going.images starts going.stored in
@@ -166,6 +169,7 @@ module _ (law : SnapshotsMakeFitting) (job : Job) (every : Option ℕ) (received
           collected = λ base start. linked_more (Collected job every) base image going.images (was.collected base start) (collected_next sound.1 base start);
           fit = all_more (Fits job) going.images image was.fit (complete_fits law job more cp image complete sound);
           spelled = all_more CanSpell going.images image was.spelled can;
+          readable = all_more IsReadable going.images image was.readable readable;
           made = all_more (IsMadeFrom job more) going.images image was.made (made_from job more cp image complete);
         }
 

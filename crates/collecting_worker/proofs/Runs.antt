@@ -57,8 +57,8 @@ module _ (law : SnapshotsMakeFitting) (job : Job) (every : Option ℕ) (old new 
     pub done_account : (fell rose : ℕ) (met : List (ℕ × StopEntry)) → fell ≤ rose → cp.final_one ≡ true → CollectAccount job every received before after (mine new.last_pass) new.last fell rose met causes.Done
     done_account fell rose met low final = record {
       images = going.images ++ image ∷ [];
-      stored = one_more law job every (received_by old.gathering.pass) received starts before mid after (mine old.last_pass) (mine new.last_pass) old.last new.last cp going image complete sound ready.can kept.kept kept.told kept.last_is;
-      last_is = last_is_it law job every (received_by old.gathering.pass) received starts before mid after (mine old.last_pass) (mine new.last_pass) old.last new.last cp going image complete sound ready.can kept.kept kept.told kept.last_is;
+      stored = one_more law job every (received_by old.gathering.pass) received starts before mid after (mine old.last_pass) (mine new.last_pass) old.last new.last cp going image complete sound ready.can ready.readable kept.kept kept.told kept.last_is;
+      last_is = last_is_it law job every (received_by old.gathering.pass) received starts before mid after (mine old.last_pass) (mine new.last_pass) old.last new.last cp going image complete sound ready.can ready.readable kept.kept kept.told kept.last_is;
       done = λ _. subst (λ o. IsSomeAnd o (λ (x : Image). x.final_one ≡ true)) (sym kept.last_is) (complete.image_is.last ∙ final);
       never_falls = low;
       cause_is = tt;
@@ -66,7 +66,7 @@ module _ (law : SnapshotsMakeFitting) (job : Job) (every : Option ℕ) (old new 
 
     pub going_on : (number : ℕ) → number ≡ suc cp.number → cp.final_one ≡ false → IsGoing job every received before after (mine new.last_pass) new.last number all_ended
     going_on number next not_last =
-        goes_on law job every (received_by old.gathering.pass) received starts before mid after (mine old.last_pass) (mine new.last_pass) old.last new.last cp going image complete sound ready.can kept.kept kept.told kept.last_is
+        goes_on law job every (received_by old.gathering.pass) received starts before mid after (mine old.last_pass) (mine new.last_pass) old.last new.last cp going image complete sound ready.can ready.readable kept.kept kept.told kept.last_is
         number all_ended next not_last kept.all_ended_is
 
 -- there is no number for one more

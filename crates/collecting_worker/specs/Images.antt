@@ -9,6 +9,7 @@ use Rattle.flow_defs.specs.declared.image.Snapshot.{Snapshot}
 use Rattle.flow_defs.specs.Jobs.{last_edge, tasks}
 use Rattle.plain_machine.specs.Images.{Fits, IsStart}
 use Rattle.plain_machine.specs.Spelling.{spelling, CanSpell}
+use Rattle.channel_state.specs.ImageFaults.{IsReadable}
 use Rattle.plain_machine.specs.Chains.{last_of}
 use Rattle.checkpoint_laws.specs.Chapters.{Linked, task_at}
 use Rattle.checkpoint_laws.specs.Collecting.{IsMadeOf, IsLast, Collected}
@@ -53,11 +54,12 @@ abbrev pub stored_of : Image → Stored
 stored_of image = record { number = image.number; all_ended = has_all_ended image }
 
 -- These images were stored from the start on, one behind the other, each of them made of snapshots that were
--- received. Each was kept and then told, and has a spelling, so that it can be read.
+-- received. Each was kept and then told, and has a spelling, which reads as an image again.
 pub record AreStored (job : Job) (every : Option ℕ) (received : List Snapshot) (before after : Option (List KeptImage)) (told : List Stored) (images : List Image) : Type 0 where
   pub kept : after ≡ with_images before images
   pub told_are : told ≡ map stored_of images
   pub collected : (base : Image) → IsStart job base → Linked (Collected job every) base images
   pub fit : AllByRecursion (Fits job) images
   pub spelled : AllByRecursion CanSpell images
+  pub readable : AllByRecursion IsReadable images
   pub made : AllByRecursion (IsMadeFrom job received) images

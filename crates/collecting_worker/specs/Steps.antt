@@ -9,6 +9,7 @@ use Rattle.flow_defs.specs.declared.job.Job.{Job}
 use Rattle.flow_defs.specs.declared.image.Image.{Image}
 use Rattle.flow_defs.specs.declared.image.Snapshot.{Snapshot}
 use Rattle.plain_machine.specs.Spelling.{spelling, CanSpell}
+use Rattle.channel_state.specs.ImageFaults.{IsReadable}
 use Rattle.collector.specs.declared.collector.Checkpoint.{Checkpoint}
 use Rattle.collector.specs.Faults.{IsFaultOf}
 use Rattle.snapshot_channel.specs.Passes.{IsCollecting, received_by}
@@ -60,11 +61,12 @@ pub record IsSameWorker (old new : Worker) : Type 0 where
   pub stop : new.stop ≡ old.stop
   pub stop_number : number new.stop_pass ≡ number old.stop_pass
 
--- The image of the checkpoint is complete, has no fault and can be spelled, and these bytes spell it.
+-- The image of the checkpoint is complete, has no fault and can be spelled and read again, and these bytes spell it.
 pub record IsReady (w : Worker) (checkpoint : Checkpoint) (image : Image) (bytes : Items ℕ) : Type 0 where
   pub complete : IsComplete w.job.now (received_by w.gathering.pass) checkpoint image
   pub sound : IsFaultOf w.job.now image None
   pub can : CanSpell image
+  pub readable : IsReadable image
   pub bytes_are : bytes.items ≡ spelling image
 
 -- The image was kept and then told, and is at hand as the last one.

@@ -1,6 +1,7 @@
 // Spells the image of a checkpoint, where nothing keeps it from being stored.
 ghost use Rattle.std.specs.Prelude.{◌≡◌, ℕ, ◌≤◌, List, None, IfOk, IfErr, OnOk};
 ghost use Rattle.plain_machine.specs.Spelling.{spelling, CanSpell};
+ghost use Rattle.channel_state.specs.ImageFaults.{IsReadable};
 ghost use Rattle.collector.specs.Faults.{IsFaultOf};
 ghost use Rattle.collector.specs.declared.collector.Checkpoint.{Checkpoint};
 ghost use Rattle.flow_defs.specs.declared.image.Snapshot.{Snapshot};
@@ -23,6 +24,7 @@ pub fn spell(alloc: Global, job: &Job, image: &Image) -> Result<Bytes, Cause>
     requires complete { (received : List Snapshot) × (checkpoint : Checkpoint) × IsComplete job.now received checkpoint image.now }
     ensures sound { IfOk result (λ _. IsFaultOf job.now image.now None) }
     ensures can { OnOk result (CanSpell image.now) }
+    ensures readable { OnOk result (IsReadable image.now) }
     ensures bytes { IfOk result (λ bytes. bytes.items ≡ spelling image.now) }
     ensures fault { IfErr result (λ cause. (received : List Snapshot) (checkpoint : Checkpoint) (fell rose : ℕ) (met : List (ℕ × StopEntry)) → IsComplete job.now received checkpoint image.now →
         BreaksFor job.now received checkpoint fell rose met cause) }

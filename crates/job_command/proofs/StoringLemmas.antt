@@ -24,6 +24,7 @@ none_stored job lines every held after same = record {
   chain = λ base start. tt;
   still = tt;
   spelled = tt;
+  readable = tt;
 }
 
 module _ (job other : Job) (same : work_of job ≡ work_of other) where
@@ -34,6 +35,7 @@ module _ (job other : Job) (same : work_of job ≡ work_of other) where
     chain = λ base start. chain_too job other same lines every base s.images (s.chain base (start_too other job (sym same) base start));
     still = still_too job other same s.images s.still;
     spelled = s.spelled;
+    readable = s.readable;
   }
 
   pub ends_too : (lines : ℕ → List (List ℕ)) (every : Option ℕ) (before after : Option (List KeptImage)) (table : Values) → EndsIn job lines every before after table → EndsIn other lines every before after table

@@ -165,6 +165,7 @@ module _ {S O I L N : Type 0} {left : S → Option (List ℕ)} {faults : S → �
             (interval_of every run.interval) start (job_ran base start);
         still = let first = starts job in still (job_ran first.0 first.1);
         spelled = account_of.stored.spelled;
+        readable = account_of.stored.readable;
       }
 
       -- The image that is next behind those that were stored is of the chain with them.

@@ -9,6 +9,7 @@ use Rattle.flow_defs.specs.Tables.{Values, join}
 use Rattle.plain_machine.specs.Images.{IsStart, saved}
 use Rattle.plain_machine.specs.Chains.{Chain, last_of}
 use Rattle.plain_machine.specs.Spelling.{CanSpell}
+use Rattle.channel_state.specs.ImageFaults.{IsReadable}
 use Rattle.outside.specs.Keepers.{KeptImage}
 use Rattle.collecting_worker.specs.Images.{with_images}
 
@@ -21,7 +22,7 @@ abbrev pub HasKept : Option (List KeptImage) → Option (List KeptImage) → Lis
 HasKept before after images = after ≡ with_images before images
 
 -- The images that the keeper got are a chain from the start on, each the successor of the one before it by the takes recorded in it. Nothing
--- is in flight at any of them, and each has a spelling, so that it can be read. Where the keeper doesn't tell its images nothing is said: HasKept holds of no images then, and those
+-- is in flight at any of them, and each has a spelling, which reads as an image again. Where the keeper doesn't tell its images nothing is said: HasKept holds of no images then, and those
 -- are a chain.
 pub record HasStored (job : Job) (lines : ℕ → List (List ℕ)) (every : Option ℕ) (before after : Option (List KeptImage)) : Type 0 where
   pub images : List Image
@@ -29,6 +30,7 @@ pub record HasStored (job : Job) (lines : ℕ → List (List ℕ)) (every : Opti
   pub chain : (base : Image) → IsStart job base → Chain job lines every base images
   pub still : AllByRecursion (HasNoneInFlight job) images
   pub spelled : AllByRecursion CanSpell images
+  pub readable : AllByRecursion IsReadable images
 
 -- The last of them is marked so, and this is the table of all its tasks' tables.
 pub record EndsIn (job : Job) (lines : ℕ → List (List ℕ)) (every : Option ℕ) (before after : Option (List KeptImage)) (table : Values) : Type 0 where

@@ -73,7 +73,7 @@ none_kept None = refl
 none_kept (Some images) = ap Some (sym (append-nil images))
 
 none_stored : (job : Job) (lines : ℕ → List (List ℕ)) (every : Option ℕ) (told : Option (List KeptImage)) → HasStored job lines every told told
-none_stored job lines every told = record { images = []; kept = none_kept told; chain = λ base start. tt; still = tt; spelled = tt }
+none_stored job lines every told = record { images = []; kept = none_kept told; chain = λ base start. tt; still = tt; spelled = tt; readable = tt }
 
 -- The last of some images is the last one behind any.
 last_behind : (images : List Image) (first last : Image) → last_or (Some first) images ≡ Some last → last_of first images ≡ last

@@ -3,8 +3,8 @@ use Rattle.std.specs.Int.{w32, w64, to_be_bytes}
 use Rattle.channel_state.proofs.Parts.{two_parts}
 use Rattle.channel_state.proofs.write.put_run.Goals as goal
 
-pub returns : goal.returns
-returns c =
+pub returns-clause-out : goal.returns-clause-out
+returns-clause-out c =
     let old = c.args.out.now.items in
     let run = c.args.run in
     two_parts old c.extend.new.self.items c.extend-2.new.self.items (to_be_bytes w32 run.from) (to_be_bytes w64 run.count)

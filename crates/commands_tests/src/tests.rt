@@ -5,7 +5,7 @@ use crate::held_files::HeldFiles;
 use commands::program::run_program;
 use commands::top::top;
 use flow_defs::{Bytes, ListOf, StageKind, Word};
-use outside::{MemoryFile, MemoryFiles, MemoryKeeper, MemorySink};
+use outside::{Files, Keeper, MemoryFile, MemoryFiles, MemoryKeeper, MemorySink, Sink};
 use stage_fns::{FnTable, StageFn, words};
 use std::alloc::{AllocError, Global};
 use std::sync::Wait;
@@ -72,6 +72,40 @@ fn no_images(alloc: Global) -> MemoryKeeper {
     MemoryKeeper::new(ListOf::new(alloc), ListOf::new(alloc), ListOf::new(alloc))
 }
 
+// Does a command. Over any files, keeper and outputs, and with no clause, so that what `run_program` says of them is
+// read once.
+fn status_over<R: Threads + Wait + Sync, F: Files, K: Keeper + Send, O: Sink, E: Sink>(
+    rt: &R,
+    alloc: Global,
+    words: &ListOf<Word>,
+    files: &mut F,
+    keeper: &mut K,
+    out: &mut O,
+    err: &mut E,
+) -> u8
+where
+    F::Input: Drop,
+{
+    run_program(rt, alloc, words, files, keeper, out, err)
+}
+
+// Does a command with these functions, likewise.
+fn status_with<R: Threads + Wait + Sync, F: Files, K: Keeper + Send, O: Sink, E: Sink>(
+    rt: &R,
+    alloc: Global,
+    words: &ListOf<Word>,
+    functions: &FnTable,
+    files: &mut F,
+    keeper: &mut K,
+    out: &mut O,
+    err: &mut E,
+) -> u8
+where
+    F::Input: Drop,
+{
+    top(rt, alloc, words, functions, files, keeper, out, err)
+}
+
 // What a command leaves: its status, and what both outputs got.
 #[derive(Drop)]
 pub struct Left {
@@ -93,7 +127,7 @@ pub fn left_over<R: Threads + Wait + Sync>(
     let words = words_of(alloc, command)?;
     let mut out = sink(alloc, room)?;
     let mut err = sink(alloc, spare)?;
-    let status = run_program(rt, alloc, &words, &mut files, keeper, &mut out, &mut err);
+    let status = status_over(rt, alloc, &words, &mut files, keeper, &mut out, &mut err);
     Ok(Left { status, out, err })
 }
 
@@ -169,7 +203,7 @@ fn two_tasks_overlap(rt: HostRuntime) -> Result<(), Fail> {
     let mut out = sink(alloc, 100)?;
     let mut err = sink(alloc, 100)?;
     let mut keeper = no_images(alloc);
-    let status = run_program(
+    let status = status_over(
         &rt,
         alloc,
         &words,
@@ -254,7 +288,7 @@ fn left_with<R: Threads + Wait + Sync>(
     let mut out = sink(alloc, 100)?;
     let mut err = sink(alloc, 100)?;
     let words = words_of(alloc, command)?;
-    let status = top(
+    let status = status_with(
         rt,
         alloc,
         &words,

@@ -18,7 +18,7 @@ use Rattle.input_channel.specs.Legal.{ReceivedByPasses}
 use Rattle.input_channel.specs.Theorems as receiving
 use Rattle.input_gate.specs.Turning.{given_in}
 use Rattle.task_output.specs.Outputs.{parcels_put}
-use Rattle.channel_cut.specs.Travelling.{GivenBeginsPut}
+use Rattle.job_chain.specs.Travelling.{GivenBeginsPut}
 use Rattle.job_chain.specs.Ends.{ReceivingEnd}
 use Rattle.job_chain.specs.Channels.{GivenFollowsPut}
 

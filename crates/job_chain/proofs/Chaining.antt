@@ -21,8 +21,8 @@ use Rattle.input_gate.specs.Turning.{InputPass, given_in}
 use Rattle.task_output.specs.Outputs.{parcels_put, parcels_to, place_to}
 use Rattle.task_taking.specs.Takings.{told_of, stop_if}
 use Rattle.task_taking.specs.Endings.{Gave}
-use Rattle.channel_cut.specs.Travelling.{PutIsInline}
-use Rattle.channel_cut.specs.Runs.{HasNoFlight, IsAlignedRun, AlignedIsChain, AlignedEndsInTally}
+use Rattle.job_chain.specs.Travelling.{PutIsInline}
+use Rattle.job_chain.specs.Runs.{HasNoFlight, IsAlignedRun, AlignedIsChain, AlignedEndsInTally}
 use Rattle.source_task.specs.Accounts.{SourceHasAccount}
 use Rattle.stage_task.specs.Accounts.{StageHasAccount}
 use Rattle.aggregate_task.specs.Accounts.{AggregateHasAccount}

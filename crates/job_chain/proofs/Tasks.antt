@@ -11,7 +11,7 @@ use Rattle.plain_machine.specs.Emitting.{count_after}
 use Rattle.checkpoint_laws.specs.Chapters.{applied}
 use Rattle.record_writer.specs.Writers.{ways, receiver_at}
 use Rattle.task_output.specs.Outputs.{place_to}
-use Rattle.channel_cut.specs.Runs.{HasNoFlight}
+use Rattle.job_chain.specs.Runs.{HasNoFlight}
 use Rattle.source_task.specs.Emitting as source
 use Rattle.stage_task.specs.Snapshots as stage
 use Rattle.aggregate_task.specs.Snapshots as aggregate

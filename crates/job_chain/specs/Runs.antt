@@ -15,7 +15,7 @@ use Rattle.checkpoint_laws.specs.Chapters.{Chapter}
 use Rattle.checkpoint_laws.specs.Runs.{IsInterval, AreWorkers, IsToldRun}
 use Rattle.input_gate.specs.Told.{told}
 use Rattle.task_taking.specs.Takings.{told_of, stop_if}
-use Rattle.channel_cut.specs.Travelling.{AreInline}
+use Rattle.job_chain.specs.Travelling.{AreInline}
 
 -- Of a channel from sender s these parcels were put, and the task behind it took these groups, with an aligned barrier behind each.
 pub record IsAligned (put : List Parcel) (s : ℕ) (groups : List (List (ℕ × List ℕ))) : Type 0 where

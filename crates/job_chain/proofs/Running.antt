@@ -13,8 +13,8 @@ use Rattle.checkpoint_laws.specs.Puts.{put_before}
 use Rattle.checkpoint_laws.specs.Runs.{took_before}
 use Rattle.checkpoint_laws.specs.Theorems.{StretchesAreRecords, SnapshotEndsChapter}
 use Rattle.checkpoint_laws.proofs.Told as chains
-use Rattle.channel_cut.specs.Cuts.{CutAtBarrier, taken_in}
-use Rattle.channel_cut.specs.Runs.{AlignedIsTold, AlignedIsChain, AlignedEndsInTally}
+use Rattle.job_chain.specs.Cuts.{CutAtBarrier, taken_in}
+use Rattle.job_chain.specs.Runs.{AlignedIsTold, AlignedIsChain, AlignedEndsInTally}
 
 -- what was taken in the first chapters
 taken_by : (s k : ℕ) (chapters : List Chapter) → taken_in s k (map (λ (c : Chapter). c.took) chapters) ≡ of_sender s (took_before k chapters)

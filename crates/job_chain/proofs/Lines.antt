@@ -12,7 +12,7 @@ use Rattle.input_channel.specs.declared.entry.ReceiveEntry.{ReceiveEntry}
 use Rattle.input_channel.specs.declared.entry.ReceiveEntry.TheVariants as receives
 use Rattle.input_channel.specs.Inboxes.{Inbox, Arrived, WasPolled, Waits, inbox, pushed, waiting, front_waits, due, first_parcel, first_barrier, poll_first, poll_barrier, poll_due, is_barrier, polled_one, received_from, empty_inbox}
 use Rattle.task_output.specs.Outputs.{parcels_put}
-use Rattle.channel_cut.specs.Travelling.{AreInline, PutIsInline, GivenBeginsPut}
+use Rattle.job_chain.specs.Travelling.{AreInline, PutIsInline, GivenBeginsPut}
 
 -- ---- lists
 

@@ -10,7 +10,7 @@ use Rattle.plain_machine.specs.Histories.{of_sender}
 use Rattle.checkpoint_laws.specs.Puts.{stretches, put_before}
 use Rattle.input_gate.specs.Told.{told}
 use Rattle.task_taking.specs.Takings.{told_of, stop_if}
-use Rattle.channel_cut.specs.Travelling.{AreInline}
+use Rattle.job_chain.specs.Travelling.{AreInline}
 
 -- The records of a sender in the first k groups.
 abbrev pub taken_in : ℕ → ℕ → List (List (ℕ × List ℕ)) → List (List ℕ)

@@ -7,7 +7,7 @@ use Rattle.input_gate.specs.Lanes.{told_by, left_of}
 use Rattle.input_gate.specs.Channels.{at_of, passes_in}
 use Rattle.input_gate.specs.Turning.{given_in}
 use Rattle.input_gate.specs.Told.{told}
-use Rattle.channel_cut.specs.Travelling.{GateTellsPolled}
+use Rattle.job_chain.specs.Travelling.{GateTellsPolled}
 
 tells_at : (lanes : List Lane) (c : ℕ) → at_of told_by [] lanes c ≡ told (given_in (seen_at c (passes_in lanes))) (at_of left_of [] lanes c)
 unfolding spans

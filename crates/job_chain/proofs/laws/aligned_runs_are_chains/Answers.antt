@@ -1,6 +1,6 @@
 use Rattle.checkpoint_laws.proofs.Told.{Laws}
-use Rattle.channel_cut.proofs.Running.{aligned_is_told, aligned_is_chain, aligned_ends_in_tally}
-use Rattle.channel_cut.proofs.laws.aligned_runs_are_chains.Goals as goal
+use Rattle.job_chain.proofs.Running.{aligned_is_told, aligned_is_chain, aligned_ends_in_tally}
+use Rattle.job_chain.proofs.laws.aligned_runs_are_chains.Goals as goal
 
 pub returns : goal.returns
 returns c =

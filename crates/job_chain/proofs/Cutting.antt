@@ -16,8 +16,8 @@ use Rattle.input_gate.specs.Told.{behind_spans, past, current, but}
 use Rattle.input_gate.proofs.Growing.{left-rest}
 use Rattle.task_taking.specs.Takings.{told_of, lines_of, stop_if}
 use Rattle.task_taking.proofs.Told.{stops-append}
-use Rattle.channel_cut.specs.Travelling.{AreInline}
-use Rattle.channel_cut.specs.Cuts.{CutAtBarrier, taken_in}
+use Rattle.job_chain.specs.Travelling.{AreInline}
+use Rattle.job_chain.specs.Cuts.{CutAtBarrier, taken_in}
 
 -- ---- stretches
 

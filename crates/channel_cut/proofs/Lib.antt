@@ -1,4 +1,0 @@
-pub mod Lines
-pub mod Polling
-pub mod Cutting
-pub mod Running

@@ -1,3 +1,0 @@
-pub mod Travelling
-pub mod Cuts
-pub mod Runs

@@ -1,5 +1,4 @@
 pub mod Acknowledging
-pub mod Keys
 pub mod Sending
 pub mod Snapshots
 pub mod Checkpoints

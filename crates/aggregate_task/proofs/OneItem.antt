@@ -28,7 +28,7 @@ use Rattle.aggregate_task.specs.declared.acks.Acks.{Acks}
 use Rattle.aggregate_task.specs.Snapshots.{all_taken}
 use Rattle.aggregate_task.specs.Acknowledging.{IsUnderWay, IsAtCheckpoint}
 use Rattle.aggregate_task.specs.Aggregates.{AggregateAccount}
-use Rattle.aggregate_task.proofs.Keys.{added_keys}
+use Rattle.checkpoint_laws.proofs.Keys.{added_keys}
 use Rattle.aggregate_task.proofs.Snapshots.{as_many, with_more}
 
 no_keys : HasShortKeys empty

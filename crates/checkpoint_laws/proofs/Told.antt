@@ -1,26 +1,20 @@
 -- From what the workers of a run say to the chain of its images.
 use Rattle.std.proofs.Common.{◌≡◌, ℕ, zero, suc, ◌+◌, ◌<◌, ◌≤◌, ◌&&◌, Bool, true, false, cond, eqb, leb, ltb, List, [], ◌∷◌, ◌++◌, map, length, get_or, take, Option, Some, None, refl, sym, ap, subst, ◌∙◌, arith, append-nil}
 use Rattle.std.specs.Prelude.{◌==◌, if◌then◌else◌, All, replicate, flat_map, slice_index, slice_get, slice_range, unwrap_or}
-use Rattle.std.specs.Option.{option_map_or}
 use Rattle.std.specs.List.{AllByRecursion}
-use Rattle.std.specs.FinMap.{empty, entries, insert, entries-insert}
-use Rattle.std.specs.declared.cmp.Ordering.TheVariants.{Less, Equal, Greater}
-use Rattle.std.specs.FinMap.Entries.{put as put_entry, by_order}
+use Rattle.std.specs.FinMap.{empty}
 use Rattle.std.proofs.lemmas.Bool.{and_parts, leb-true, ltb-true, lt-ltb, eqb-true}
-use Rattle.std.proofs.lemmas.Cmp.{nat_list_cmp_total}
 use Rattle.std.proofs.lemmas.List.Concat.{flat_map-append}
-use Rattle.std.proofs.lemmas.List.Elements.{All-get_or, All-from_get_or, All-from_recursion, recursion_from_All}
+use Rattle.std.proofs.lemmas.List.Elements.{All-get_or, All-from_get_or}
 use Rattle.flow_defs.specs.declared.parcel.Parcel.{Parcel}
 use Rattle.flow_defs.specs.declared.job.Job.{Job}
 use Rattle.flow_defs.specs.declared.job.AggKind.{AggKind}
-use Rattle.flow_defs.specs.declared.job.AggKind.TheVariants.{Count, Sum, Max}
 use Rattle.flow_defs.specs.declared.image.TakeRun.{TakeRun}
 use Rattle.flow_defs.specs.declared.image.Snapshot.{Snapshot}
 use Rattle.flow_defs.specs.declared.image.Image.{Image}
-use Rattle.flow_defs.specs.Aggregates.{parted, key_of}
 use Rattle.flow_defs.specs.Records.{IsShort, encoded, all_encoded}
 use Rattle.flow_defs.specs.Jobs.{last_edge, tasks, exchange, joins, is_channel}
-use Rattle.flow_defs.specs.Tables.{Values, key_cmp, add, add_all}
+use Rattle.flow_defs.specs.Tables.{Values, add, add_all}
 use Rattle.plain_machine.specs.Places.{channel_place}
 use Rattle.plain_machine.specs.Worth.{concat_below}
 use Rattle.plain_machine.specs.Images.{items_at, saved, cut_of, takes_of, AreSpans, AreRuns, HasShortKeys, AllEnded, Fits, IsStart}
@@ -33,6 +27,7 @@ use Rattle.checkpoint_laws.specs.Chapters.{Linked, GoesOn, Emits, Takes, applied
 use Rattle.checkpoint_laws.specs.Collecting.{piece, IsLast}
 use Rattle.checkpoint_laws.specs.Runs.{IsInterval, image_at, took_before, AreWorkers, IsToldRun}
 use Rattle.checkpoint_laws.specs.Theorems.{StretchesAreRecords, SnapshotEndsChapter, ToldIsChain, ToldEndsInWorth, ToldEndsInTally}
+use Rattle.checkpoint_laws.proofs.Keys.{added_keys}
 use Rattle.checkpoint_laws.proofs.Lists.{linked_at, flat_map-take, joined_take, of_sender-append, of_sender-short}
 
 -- The laws of the plain machine that are used.
@@ -111,48 +106,9 @@ or_at xs i d e low = sym (ap (λ o. unwrap_or o e) (get_at xs i d low))
 
 -- ---- keys of tables
 
-abbrev HasShortKey : List ℕ × ℕ → Type 0
-HasShortKey row = IsShort row.0
-
-put_short : (key : List ℕ) (value : ℕ) (rows : List (List ℕ × ℕ)) → IsShort key → AllByRecursion HasShortKey rows → AllByRecursion HasShortKey (put_entry key_cmp key value rows)
-put_short key value [] short all = (short, tt)
-put_short key value (row ∷ rows) short all =
-    elim (key_cmp key row.0) as (λ o. AllByRecursion HasShortKey (by_order o ((key, value) ∷ row ∷ rows) ((row.0, value) ∷ rows) (row ∷ put_entry key_cmp key value rows))) [
-      | Less ↦ (short, all)
-      | Equal ↦ (all.0, all.1)
-      | Greater ↦ (all.0, put_short key value rows short all.1)
-    ]
-
-insert_short : (table : Values) (key : List ℕ) (value : ℕ) → IsShort key → HasShortKeys table → HasShortKeys (insert table key value)
-insert_short table key value short keys =
-    subst (All HasShortKey) (sym (entries-insert nat_list_cmp_total table key value))
-    (All-from_recursion HasShortKey _ (put_short key value (entries table) short (recursion_from_All HasShortKey (entries table) keys)))
-
--- A key is no longer than its record.
-key_length : (r : List ℕ) → option_map_or (λ (parts : List ℕ × List ℕ). length parts.0) (parted r) 0 ≤ length r
-key_length [] = omega arith
-key_length (b ∷ r) = elim (parted r) as (λ p. option_map_or (λ (parts : List ℕ × List ℕ). length parts.0) p 0 ≤ length r → option_map_or (λ (parts : List ℕ × List ℕ). length parts.0) (option_map_or (λ (parts : List ℕ × List ℕ). Some (b ∷ parts.0, parts.1)) p (if b == 61 then Some ([], r) else None)) 0 ≤ suc (length r)) [
-  | Some parts ↦ λ rest. omega (arith, rest)
-  | None ↦ λ rest. elim (b == 61) as (λ t. option_map_or (λ (parts : List ℕ × List ℕ). length parts.0) (if t then Some ([], r) else None) 0 ≤ suc (length r)) [
-    | true ↦ omega arith
-    | false ↦ omega arith
-  ]
-] (key_length r)
-
-parted_short : (r : List ℕ) → IsShort r → IsShort (option_map_or (λ parts. parts.0) (parted r) r)
-parted_short r short = elim (parted r) as (λ p. option_map_or (λ (parts : List ℕ × List ℕ). length parts.0) p 0 ≤ length r → IsShort (option_map_or (λ (parts : List ℕ × List ℕ). parts.0) p r)) [
-  | Some parts ↦ λ within. omega (arith, within, short)
-  | None ↦ λ within. short
-] (key_length r)
-
-key_short : (agg : AggKind) (r : List ℕ) → IsShort r → IsShort (key_of agg r)
-key_short Count r short = short
-key_short Sum r short = parted_short r short
-key_short Max r short = parted_short r short
-
 added_short : (agg : AggKind) (table : Values) (rs : List (List ℕ)) → HasShortKeys table → AllByRecursion IsShort rs → HasShortKeys (add_all agg table rs)
 added_short agg table [] keys short = keys
-added_short agg table (r ∷ rs) keys short = added_short agg (add agg table r) rs (insert_short table (key_of agg r) _ (key_short agg r short.0) keys) short.1
+added_short agg table (r ∷ rs) keys short = added_short agg (add agg table r) rs (added_keys agg table r keys short.0) short.1
 
 -- ---- snapshots by number
 

@@ -1,15 +1,16 @@
 // The loop over links in memory: what it gives to the readers and the subpartitions, and why it ends.
-ghost use Rattle.std.specs.Prelude.{◌≡◌, ◌+◌, ◌<◌, ◌≤◌, [], length, take, Some, IfSome, true};
+ghost use Rattle.std.specs.Prelude.{◌≡◌, ◌+◌, ◌<◌, [], length, IfSome, true};
 ghost use Rattle.turn_cell.specs.Closing.{AreFresh, IsFresh};
 ghost use Rattle.turn_cell.specs.Passes.{IsPassOf, opened_with, number, mine};
 ghost use Rattle.credit_reader.specs.Senders.{AreDistinct};
 ghost use Rattle.reader_state.specs.Turning.{channels_in, IsReaderPass};
 ghost use Rattle.outside.specs.Stops.{is_fault};
 
+use crate::slow_links::SlowIn;
 use conn_grant::read_control;
 use conn_parts::{ConnShare, LoopEnd, SharePasses};
 use flow_defs::{Cause, ChannelId, Head, ListOf, PeerFault};
-use outside::{Failed, LinkIn, StopState, look_for_stop, tell_stop};
+use outside::{StopState, look_for_stop, tell_stop};
 use reader_state::{ReaderState, next_to_send, tell_ready};
 use std::alloc::{AllocError, Global};
 use std::process::Abort;
@@ -18,51 +19,6 @@ use std::test::Fail;
 use subpartition::Subpartition;
 use subpartition::laws::calls_add_entries;
 use turn_cell::{Pass, TurnCell, Turned};
-
-// A link of these bytes that gives at most `most` in a read, and fails from one read on.
-#[derive(Drop)]
-struct SlowIn {
-    bytes: Vec<u8>,
-    at: usize,
-    most: usize,
-    fails_from: u64,
-    reads: u64,
-    faults: u64,
-    ended: bool,
-    ghost within: { at ≤ length bytes.items },
-}
-
-impl LinkIn for SlowIn {
-    type Line = u64;
-
-    ghost line = { λ _. 0 };
-
-    ghost got = { λ s. Some (take s.at s.bytes.items) };
-
-    ghost ended = { λ s. Some s.ended };
-
-    ghost faults = { λ s. s.faults };
-
-    ghost never_fails = { λ _. ⊥ };
-
-    ghost is_faultless = { λ old new never. absurd never };
-
-    fn read<R: Wait>(&mut self, _rt: &R, room: &mut [u8]) -> Result<usize, Failed> {
-        self.reads = self.reads.saturating_add(1);
-        if self.reads >= self.fails_from {
-            self.faults = self.faults.saturating_add(1);
-            return Err(Failed);
-        }
-        let left = &self.bytes.as_slice()[self.at..];
-        let count = left.len().min(room.len()).min(self.most);
-        room[..count].copy_from_slice(&left[..count]);
-        self.at += count;
-        if count == 0 {
-            self.ended = true;
-        }
-        Ok(count)
-    }
-}
 
 // A frame with a number: its id, the index of the channel's sending task, and the number. A resumption
 // has none.

@@ -1,5 +1,5 @@
 // The loop over links in memory: what it gives to a channel, and why it ends.
-ghost use Rattle.std.specs.Prelude.{◌≡◌, ◌+◌, ◌<◌, ◌≤◌, ◌++◌, [], ◌∷◌, length, take, All, Some, IfSome, IfOk, true, false};
+ghost use Rattle.std.specs.Prelude.{◌≡◌, ◌+◌, ◌<◌, ◌++◌, [], ◌∷◌, length, All, IfSome, IfOk, true, false};
 ghost use Rattle.turn_cell.specs.Closing.{AreFresh, IsFresh};
 ghost use Rattle.turn_cell.specs.Passes.{IsPassOf, IsTurnOf, HasEntered, opened_with, number, seen};
 ghost use Rattle.segment_pool.specs.Passes.{out};
@@ -14,13 +14,14 @@ ghost use Rattle.outside.specs.Stops.{is_fault};
 ghost use Rattle.conn_parts.specs.Shares.{AreOf, AreOwn, HavePoolSize};
 ghost use Rattle.conn_receive.specs.Receiving.{MayReadItems};
 
+use crate::slow_links::SlowIn;
 use conn_parts::{ConnShare, LoopEnd, SharePasses};
 use conn_receive::read_items;
 use flow_defs::{BarrierKind, Cause, ChannelId, ListOf, PeerFault};
 use input_channel::laws::{answers_tell, channels_stand_for_histories};
 use input_channel::{InputChannel, Polled, ReceiveEntry};
 use local_pool::{HeldPool, LocalPool};
-use outside::{Failed, LinkIn, StopState, look_for_stop, tell_stop};
+use outside::{StopState, look_for_stop, tell_stop};
 use reader_state::ReaderState;
 use segment_pool::{Pool, PoolPass};
 use std::alloc::{AllocError, Global};
@@ -29,51 +30,6 @@ use std::process::Abort;
 use std::sync::Wait;
 use std::test::Fail;
 use turn_cell::{Named, Pass, Turn, TurnCell, Turned};
-
-// A link of these bytes that gives at most `most` in a read, and fails from one read on.
-#[derive(Drop)]
-struct SlowIn {
-    bytes: Vec<u8>,
-    at: usize,
-    most: usize,
-    fails_from: u64,
-    reads: u64,
-    faults: u64,
-    ended: bool,
-    ghost within: { at ≤ length bytes.items },
-}
-
-impl LinkIn for SlowIn {
-    type Line = u64;
-
-    ghost line = { λ _. 0 };
-
-    ghost got = { λ s. Some (take s.at s.bytes.items) };
-
-    ghost ended = { λ s. Some s.ended };
-
-    ghost faults = { λ s. s.faults };
-
-    ghost never_fails = { λ _. ⊥ };
-
-    ghost is_faultless = { λ old new never. absurd never };
-
-    fn read<R: Wait>(&mut self, _rt: &R, room: &mut [u8]) -> Result<usize, Failed> {
-        self.reads = self.reads.saturating_add(1);
-        if self.reads >= self.fails_from {
-            self.faults = self.faults.saturating_add(1);
-            return Err(Failed);
-        }
-        let left = &self.bytes.as_slice()[self.at..];
-        let count = left.len().min(room.len()).min(self.most);
-        room[..count].copy_from_slice(&left[..count]);
-        self.at += count;
-        if count == 0 {
-            self.ended = true;
-        }
-        Ok(count)
-    }
-}
 
 // A buffer response: the index of the channel's sending task, the sequence number, the kind of what
 // arrives, and the bytes behind the head. Its backlog is one buffer.

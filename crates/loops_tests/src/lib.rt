@@ -13,4 +13,6 @@ mod conn_send_tests;
 #[cfg(test)]
 mod connection_tests;
 #[cfg(test)]
+mod slow_links;
+#[cfg(test)]
 mod taps;

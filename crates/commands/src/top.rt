@@ -1,4 +1,6 @@
 // The program, over the world that it is handed.
+// The runtime has the bounds of threads for the sake of runs. A script takes the turns of its pool by it, on
+// one thread.
 ghost use Rattle.std.specs.Prelude.{◌≡◌, ◌≢◌, ◌<◌, ◌⊎◌, ⊤, List, ℕ, [], ◌∷◌, ◌++◌, length, Some, IfSome, Contains};
 ghost use Rattle.flow_defs.specs.Jobs.{segments_needed, tasks};
 ghost use Rattle.flow_defs.specs.Lines.{lines};

@@ -128,7 +128,8 @@ fn give_back<'p, R: Wait>(
     }
 }
 
-// Notes what the readers were told last of the channel at a place.
+// Notes what the readers were told last of the channel at a place. Else they would never be told of a queue
+// that is filled again to the same head and backlog.
 fn note_front(told: &mut ListOf<Front>, place: usize, front: Front)
     requires { place < length told.old.items }
     ensures { told.new.items ≡ set told.old.items place front }

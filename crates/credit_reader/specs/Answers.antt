@@ -1,4 +1,5 @@
 -- What the calls answer. The refusals are this project's own.
+-- One equation says what a call answers, with its refusals.
 use Rattle.std.specs.Prelude.{ℕ, ◌+◌, nat_lt, if◌then◌else◌, Option, None, Some, Result, Ok, Err, find}
 use Rattle.std.specs.Option.{option_map_or}
 use Rattle.credit_reader.specs.declared.reader.Reader.{Reader}

@@ -68,6 +68,7 @@ after r Announced = record r { told = r.backlog }
 
 -- What may happen to a reader: it is requested once, gets credit only after that, and sends data only
 -- where it has credit.
+-- What is sent need not be what stood first, since a front barrier may come between.
 abbrev pub May : Reader → Happening → Type 0
 May r (Asked n) = r.requested ≡ false
 May r (Granted n) = r.requested ≡ true

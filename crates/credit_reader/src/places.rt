@@ -115,7 +115,7 @@ fn join(able: &mut HeapCircularBuffer<usize>, place: usize)
     able.push_back(place);
 }
 
-// Takes a place out of the queue.
+// Takes a place out of the queue, by one round of the ring: the rarest case.
 fn leave(able: &mut HeapCircularBuffer<usize>, place: usize)
     requires { length able.old.items ≤ able.old.capacity }
     ensures { able.new ≡ buffer (places_after place true false able.old.items) able.old.capacity }

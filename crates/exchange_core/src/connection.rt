@@ -1,4 +1,5 @@
 // A connection, and which event goes where.
+// What a sound world rules out, as a frame that an end refuses, has no code: it is proved not to come.
 ghost use Rattle.std.specs.Prelude.{◌≡◌, ◌*◌, ◌≤◌, length, IfOk};
 ghost use Rattle.exchange_world.specs.Worlds.{opened};
 ghost use Rattle.exchange_world.specs.Steps.{step, bare};

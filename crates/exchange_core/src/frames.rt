@@ -1,4 +1,5 @@
 // What is on the way between the two ends.
+// The frames lie in queues that grow, so a step that sends can want memory.
 
 use flow_defs::Bytes;
 use input_channel::ArrivalKind;

@@ -24,7 +24,7 @@ use subpartition::{Filled, Item, Subpartition};
 #[derive(Drop)]
 pub struct Lane {
     pub(crate) queue: Subpartition,
-    // The number of the last barrier put, and whether the end was.
+    // The number of the last barrier put, and whether the end was. A subpartition doesn't tell them.
     pub(crate) barriers: u64,
     pub(crate) finished: bool,
     pub(crate) partition: LocalPool,

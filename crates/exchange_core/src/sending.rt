@@ -42,7 +42,8 @@ fn tell(readers: &mut Readers, lane: &Lane, c: u32)
     readers.ready(channel_id(c), lane.queue.head(), lane.queue.backlog());
 }
 
-// How many buffers of `size` bytes a record takes.
+// How many buffers of `size` bytes a record takes. By this it is known whether the record fits before its
+// first buffer is put.
 fn count_buffers(text: &[u8], size: u32) -> u32
     requires short { length text.now ≤ record_max }
     requires size { 1 ≤ size }

@@ -1,5 +1,8 @@
 -- What holds of both ends of a connection after any events: how the numbers that the two ends keep agree,
 -- with what is on the way between them.
+-- It is one record a channel, over its two ends and what is on the way. Its order is proved by what each
+-- event does to the parcels that wait, its credit as two accounts: of what is on the way, and of free
+-- buffers. It says nothing of refusals, since there are none.
 use Rattle.std.specs.Prelude.{◌≡◌, ◌⊎◌, ℕ, suc, ◌+◌, ◌%◌, ◌^◌, ◌≤◌, ◌==◌, true, false, List, [], ◌∷◌, ◌++◌, length, map, if◌then◌else◌, Some}
 use Rattle.std.specs.List.{range_with_len}
 use Rattle.flow_defs.specs.declared.task.BarrierKind.TheVariants.{Inline, Front}

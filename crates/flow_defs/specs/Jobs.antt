@@ -2,6 +2,7 @@
 -- here it is a chain of stages, and its limits are this project's own. Stage 0 is the sources, of one
 -- task each; stages 1 to S are the stateless ones, and stage S + 1 is the aggregate. Edge e leads from
 -- stage e to stage e + 1.
+-- A channel is one only where its edge is one of the job's.
 use Rattle.std.specs.Prelude.{◌≡◌, ℕ, zero, suc, ◌+◌, ◌*◌, ◌≤◌, Bool, true, ◌&&◌, ◌==◌, nat_le, nat_lt, List, length, slice_get, if◌then◌else◌}
 use Rattle.std.specs.Option.{option_map_or}
 use Rattle.std.specs.List.{AllByRecursion}

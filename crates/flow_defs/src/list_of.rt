@@ -1,4 +1,5 @@
 // A list of items of one type.
+// It grows by slices too, as contents of 32 KiB go in at once.
 ghost use Rattle.std.specs.Prelude.{◌≡◌, ◌+◌, ◌<◌, ◌≤◌, [], ◌∷◌, ◌++◌, length, IsOk, IsSome, OnOk, OnErr, ◌↔◌};
 ghost use Rattle.std.specs.Option.{option_to_list};
 

@@ -99,7 +99,8 @@ pub record Keeps (c : ChannelState) (es : List ReceiveEntry) : Type 0 where
   pub owed : c.owed + asks es ≡ inline_in (inbox es).given
   pub asked : c.asked + resumes es ≡ asks es
 
--- The history is legal, and the channel keeps what it tells.
+-- The history is legal, and the channel keeps what it tells. So it is known of each entry of a closed cell
+-- that it was allowed.
 pub record StandsFor (c : ChannelState) (pairs : List (ℕ × ReceiveEntry)) : Type 0 where
   pub legal : IsHistory (MayReceiveAs c.room) pairs
   pub keeps : Keeps c (entries_of pairs)

@@ -1,4 +1,6 @@
 // What waits in a channel, but for the end.
+// The data lie in a ring that is made at once, so only a barrier can want memory. The end, which is always
+// last, is a flag of the channel.
 ghost use Rattle.std.specs.Prelude.{◌≡◌, ◌<◌, ◌^◌, [], ◌∷◌, ◌++◌, length, count_by, not, true, false, Some, IfOk, OnOk, OnErr, MatchOption};
 ghost use Rattle.input_channel.specs.Lines.{kinds_of};
 ghost use Rattle.flow_defs.specs.declared.parcel.Parcel.TheVariants as parcels;

@@ -1,4 +1,5 @@
 // The segments of a channel that was ended.
+// A channel comes apart into them, since a pool is closed only with all of its segments.
 ghost use Rattle.std.specs.Prelude.{◌≡◌, ◌-◌, ◌<◌, ◌↔◌, length, IsSome, IfSome};
 
 use crate::held::HeldBuf;

@@ -1,4 +1,6 @@
 // A gate over cells.
+// The passes come as they were made. Of any other it isn't known before a turn that what it has seen is a
+// history.
 ghost use Rattle.std.specs.Prelude.{◌≡◌, ◌≢◌, ◌<◌, ◌≤◌, ◌^◌, suc, true, false, [], length, Err, All, IfOk, IfErr, OnOk, vec_capacity};
 ghost use Rattle.turn_cell.specs.History.{StartsWith};
 ghost use Rattle.turn_cell.specs.Passes.{IsPassOf, IsSamePass, opened_with, number, seen, mine};

@@ -43,6 +43,8 @@ pub record EndsIn (job : Job) (lines : ℕ → List (List ℕ)) (every : Option 
 -- Behind the images that the keeper got the chain from the start on over these lines goes on with one that is too large to be spelled: a
 -- number of keys or runs in it, or the length of a saved piece, is above 4,294,967,295. Where the keeper doesn't tell its images, such an
 -- image stands behind some.
+-- That an image is so large follows from settled edges, so it is said where links and inputs tell their
+-- bytes.
 pub record IsTooLarge (job : Job) (lines : ℕ → List (List ℕ)) (every : Option ℕ) (before after : Option (List KeptImage)) : Type 0 where
   pub images : List Image
   pub kept : HasKept before after images

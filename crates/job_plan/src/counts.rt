@@ -1,4 +1,6 @@
 // The running count of records, by the function of the aggregate.
+// It lies in std's hash map, which measured faster than the ordered one. Its keys are `Bytes`, which hash in
+// one piece.
 ghost use Rattle.std.specs.Prelude.{◌≡◌, ◌≤◌, true, false, length, take, None, IfOk, OnOk, OnErr};
 ghost use Rattle.std.specs.FinMap as map;
 ghost use Rattle.flow_defs.specs.Aggregates.{key_of, value_of, folded};

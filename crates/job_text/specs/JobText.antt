@@ -61,6 +61,7 @@ job_lines job = head_lines job.sources.items job.stages.items ++ aggregate_line 
 
 -- The text is of this job: it has the job's lines, the last of them with or without its newline; the
 -- job is one as its grammar allows it, each source is a file's name, and each kind has a function.
+-- Two jobs of one text differ in the room of their lists alone, so a clause may speak of any of them.
 pub record IsJobText (functions : Functions) (text : List ℕ) (job : Job) : Type 0 where
   pub lines_are : lines text ≡ job_lines job
   pub text_is : job.text.items ≡ text

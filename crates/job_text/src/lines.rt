@@ -1,4 +1,6 @@
 // The lines of a job's text, each checked where it stands. Nothing here takes memory.
+// A line's kind is found by the number of its words. Two spaces enclose an empty word, which counts, and an
+// empty line is one empty word: a bad line before the aggregate's, and one too many behind it.
 ghost use Rattle.std.specs.Prelude.{◌≡◌, ◌<◌, ◌^◌, ◌+◌, ◌∷◌, Some, [], length, IfOk, IfErr, IfSome, IfNone, MatchResult};
 ghost use Rattle.flow_defs.specs.Lines.{lines};
 
@@ -170,7 +172,8 @@ impl<'a> JobLines<'a> {
         Ok(Line::Aggregate { kind, tasks })
     }
 
-    // Reads the line of a stage by its words.
+    // Reads the line of a stage by its words. The width is tested last, so `forward` to a bad number of tasks
+    // is told as that number.
     fn read_stage<'t>(
         &self,
         first: &[u8],

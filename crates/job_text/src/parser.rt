@@ -2,6 +2,8 @@
 //
 // To clap each command is a simple one without subcommands: an operand is a positional, and an
 // option has one value. It is given the words behind the command's name.
+// The grammar alone refuses words: of accepted ones clap refuses none but for want of memory, and finds just
+// their values, as `Finds` says.
 ghost use Rattle.std.specs.Prelude.{◌≡◌, [], IfOk, false};
 ghost use Rattle.clap.specs.Words.{app_of, rule_of};
 ghost use Rattle.clap.specs.Walk.{texts};

@@ -1,4 +1,5 @@
 // All workers of a job at once.
+// Places stand in rows, one for a stage or a connection, which spares sums over stages.
 ghost use Rattle.std.specs.Prelude.{◌≡◌, length};
 ghost use Rattle.flow_defs.specs.Jobs.{IsJob};
 ghost use Rattle.stage_fns.specs.Kinds.{kinds};

@@ -1,4 +1,5 @@
 // Workers that run at once.
+// Functions are lent to `run` and lie in no worker, so that their type stands in no definition of workers.
 ghost use Rattle.std.specs.Prelude.{◌≡◌, length};
 ghost use denote.Param.Send.{IsSync, IsSend};
 ghost use Rattle.flow_defs.specs.declared.job.Job.{Job};

@@ -23,7 +23,8 @@ impl<'a> Turned for HeldPool<'a> {
 
     type Entry = PoolEntry;
 
-    // The global pool, the number of the pass, the limit, and how many were lent at first.
+    // The global pool, the number of the pass, the limit, and how many were lent at first. It has the pool
+    // and the pass, so that the local pool can be closed once its cell is.
     type Fixed = (Pool, u32, u32, u32);
 
     ghost stands = { StandsFor };

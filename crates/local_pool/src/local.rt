@@ -1,4 +1,6 @@
 // A local pool.
+// What holds of it alone are ghost fields; what needs its pool says `IsLocalOf`. `new` reserves places for
+// the need before its first claim, so with no memory for them it takes no turn.
 ghost use Rattle.std.specs.Prelude.{◌≡◌, ◌+◌, ◌-◌, ◌≤◌, length};
 ghost use Rattle.segment_pool.specs.Passes.{out};
 

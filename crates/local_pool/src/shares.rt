@@ -1,4 +1,5 @@
 // How the segments of a global pool are dealt out over local pools.
+// Wishes are summed in 128 bits, since there may be any number of them. The product of a share fits 64.
 ghost use Rattle.std.specs.Prelude.{◌≡◌, ◌+◌, ◌<◌, ◌≤◌, ◌^◌, ◌*◌, ℕ, All, EachIndex, sum, length, map, get_or};
 ghost use Rattle.local_pool.specs.Shares.{IsWant, needs, wishes, wish, dealt, beyond, share_of};
 

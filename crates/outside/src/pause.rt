@@ -1,4 +1,5 @@
 // How a loop that found nothing to do waits.
+// A pause sleeps by a `Parker` that nobody unparks, since a loop isn't handed a clock.
 
 use crossbeam_utils::Backoff;
 use std::sync::Wait;

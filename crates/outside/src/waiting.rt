@@ -1,4 +1,6 @@
 // Bytes in order, in memory that is taken once.
+// They lie in one row, so that no piece wraps and each is moved at once; the toolchain's circular buffer
+// takes bytes one by one.
 ghost use Rattle.std.specs.Prelude.{◌≡◌, ◌+◌, ◌-◌, ◌≤◌, ◌==◌, [], ◌++◌, min, length, take, drop, vec_capacity, IfOk};
 
 use crate::LINK_ROOM;

@@ -22,7 +22,8 @@ items_at {T} lists place = option_map_or (λ (l : Items T). l.items) (slice_get 
 abbrev pub saved : Job → Image → ℕ → ℕ → ℕ → List ℕ
 saved job image e a b = items_at image.saved_in.items (channel_place job e a b) ++ items_at image.saved_out.items (channel_place job e a b)
 
--- Where the job stands at an image.
+-- Where the job stands at an image. What is in flight is read off the saved bytes by `spans`, which is told
+-- of any bytes.
 abbrev pub cut_of : Job → Image → Cut
 cut_of job image = record {
   offsets = slice_index image.offsets.items;
@@ -57,6 +58,7 @@ AllEnded image = All (λ ended. ended ≡ true) image.ended.items
 
 -- An image fits a job: it has an item for each task and channel, its takes are runs, and what it saved
 -- are records. In a last image all sources are at their ends and nothing is saved.
+-- Whether its text is of a job's grammar and its numbers go into their bytes is not asked here.
 pub record Fits (job : Job) (image : Image) : Type 0 where
   pub offsets : length image.offsets.items ≡ tasks job 0
   pub ended : length image.ended.items ≡ tasks job 0

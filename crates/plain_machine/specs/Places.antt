@@ -1,5 +1,6 @@
 -- Where tasks and channels stand in the lists of an image: tasks by stage and then by index, channels
 -- by edge, then by sending task, then by receiving task. The order is this project's own choice.
+-- A task of a stateless stage both sends and receives, so it has a place in each of the two orders.
 use Rattle.std.specs.Prelude.{ℕ, suc, ◌+◌, ◌*◌, List, [], ◌∷◌, if◌then◌else◌}
 use Rattle.flow_defs.specs.declared.job.Job.{Job}
 use Rattle.flow_defs.specs.declared.job.Exchange.{Exchange}

@@ -20,6 +20,8 @@ put_on job old e a b emitted = emit (receiver_on job e a) ((cut_of job old).emit
 
 -- A new image is recorded: since the old one task a of stage i emitted put i a, task b behind edge e
 -- took took e b, and the image holds what came of it.
+-- It joins bytes and records since the old image. A cut that reckons from the base of a run is cut at that
+-- image first, by the law `CutBetween`.
 pub record Recorded (job : Job) (lines : ℕ → List (List ℕ)) (old new : Image) (took : ℕ → ℕ → List (ℕ × List ℕ)) (put : ℕ → ℕ → List (List ℕ)) : Type 0 where
   pub rise : Rises job (slice_index old.offsets.items) (slice_index new.offsets.items)
   pub within : (a : ℕ) → a < tasks job 0 → slice_index new.offsets.items a ≤ length (lines a)

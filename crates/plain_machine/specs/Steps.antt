@@ -11,7 +11,8 @@ use Rattle.plain_machine.specs.Cuts.{Cut}
 use Rattle.plain_machine.specs.Emitting.{receiver_on, count_after, emit, apply_behind}
 use Rattle.plain_machine.specs.Weaving.{woven, rests, CanWeave}
 
--- The records, where this is a channel.
+-- The records, where this is a channel. Elsewhere there are none, so that no law has to ask which channels
+-- takes name.
 abbrev pub on_channel : Job → ℕ → ℕ → ℕ → List (List ℕ) → List (List ℕ)
 on_channel job e a b records = if is_channel job e a b then records else []
 
@@ -47,7 +48,7 @@ module _ (job : Job) (lines : ℕ → List (List ℕ)) (cut : Cut) (takes : ℕ 
     pub within : (a : ℕ) → a < tasks job 0 → offsets a ≤ length (lines a)
     pub enough : (e b : ℕ) → e ≤ last_edge job → b < tasks job (suc e) → CanWeave (takes (suc e) b) (avail e b (sent e))
 
-  -- The cut after it, its successor.
+  -- The cut after it, its successor. There is one for any takes, also where the step is not defined.
   abbrev pub next : Cut
   next = record {
     offsets = offsets;

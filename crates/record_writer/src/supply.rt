@@ -1,4 +1,5 @@
 // Where a writer's segments come from, and what stops it while it waits.
+// The writer has its task's pass of the stop cell, and looks there only where it waits.
 ghost use Rattle.std.specs.Prelude.{◌≡◌, ◌≤◌, length, All, IfSome, IfOk, OnErr};
 ghost use Rattle.flow_defs.specs.Limits.{segment_min};
 ghost use Rattle.record_writer.specs.Channels.{IsPart, IsSupply, IsSameSupply, HasSeenFault};

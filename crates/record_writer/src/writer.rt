@@ -1,4 +1,6 @@
 // Writes a task's records to the channels of its edge.
+// The passes come as they were made. Of any other it isn't known before a turn that what it has seen is a
+// history.
 ghost use Rattle.std.specs.Prelude.{◌≡◌, ◌++◌, [], ◌∷◌, IfOk, IfErr, OnOk, OnErr};
 ghost use Rattle.turn_cell.specs.Passes.{IsPassOf};
 ghost use Rattle.flow_defs.specs.Records.{IsShort};

@@ -1,5 +1,6 @@
 -- What is wrong with a text that should be a script's: its first bad line. What is told of a faulty
 -- text is this project's own choice.
+-- A bad line is the first with which the lines begin no script, so nothing is said of how lines are read.
 use Rattle.std.specs.Prelude.{◌≡◌, ℕ, suc, List, [], ◌∷◌, ◌++◌, length}
 use Rattle.std.specs.List.{AllByRecursion}
 use Rattle.flow_defs.specs.Lines.{lines}

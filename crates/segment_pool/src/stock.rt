@@ -1,4 +1,6 @@
 // What lies in a pool's turn cell.
+// The segment that was given back last is claimed first, since the caches may still hold it. The limits of
+// passes are read by proofs alone.
 use crate::segment::Segment;
 use flow_defs::ListOf;
 use std::marker::Brand;

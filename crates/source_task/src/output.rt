@@ -1,4 +1,5 @@
 // What a source emits by, and where it stands.
+// A count that can't grow ends the source as want of memory does.
 ghost use Rattle.std.specs.Prelude.{suc, ◌≡◌, ◌++◌, [], ◌∷◌, ◌<◌, ℕ, List, Bool, true, false, OnOk, OnErr, IfOk, IfErr, MatchResult};
 ghost use Rattle.flow_defs.specs.declared.job.Job.{Job};
 ghost use Rattle.flow_defs.specs.Records.{IsShort};

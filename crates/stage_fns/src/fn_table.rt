@@ -1,4 +1,6 @@
 // The functions of stages and aggregates.
+// What a function does stands beside it in its entry, as a ghost field. A fault that hands a function back
+// shows nothing of it.
 ghost use Rattle.std.specs.Prelude.{◌≡◌, IfSome, IsSome, OnOk, OnErr, IfErr, ◌↔◌, ◌⊎◌};
 ghost use Rattle.stage_fns.specs.Meets.{MeetsStage, MeetsAgg};
 ghost use Rattle.stage_fns.specs.Functions.{no_functions, is_stage, is_agg, HasStage, HasAgg, with_stage, with_agg};

@@ -1,5 +1,7 @@
 // The functions of the stages that there are. One that is refused memory may have added some of what
 // it gives.
+// `field` reads its argument anew at each record. `words` splits byte by byte; with memchr it measured no
+// faster.
 ghost use Rattle.std.specs.Prelude.{◌≡◌, ◌≤◌, ◌++◌, OnOk};
 ghost use Rattle.std.specs.Str.Parse.{digits_value};
 ghost use Rattle.stage_fns.specs.Meets.{records};

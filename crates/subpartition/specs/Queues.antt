@@ -36,7 +36,8 @@ HasLength size (Buffer filled) = length filled.segment ≡ size
 HasLength size (BarrierItem k kind) = Unit {0}
 HasLength size EndItem = Unit {0}
 
--- The data of the last item; none where it is no buffer.
+-- The data of the last item; none where it is no buffer. The entry of a put has them, as the buffer that was
+-- put is the last item then.
 abbrev pub last_bytes : List Item → List ℕ
 last_bytes [] = []
 last_bytes (Buffer filled ∷ []) = bytes_of filled

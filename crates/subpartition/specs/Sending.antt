@@ -88,6 +88,7 @@ pub record MayPutBarrier (es : List SendEntry) (k : ℕ) : Type 0 where
   pub next : k ≡ suc (length (barriers_put es))
 
 -- Which entry may follow these, where segments have this size.
+-- What a task may put follows from what it has put before, so it need not look at the queue for this.
 abbrev pub MaySend : ℕ → List SendEntry → SendEntry → Type 0
 MaySend size es (Put bytes) = is_finished es ≡ false
 MaySend size es (PutInline k) = MayPutBarrier es k

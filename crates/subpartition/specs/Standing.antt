@@ -6,6 +6,7 @@ use Rattle.subpartition.specs.Sending.{outbox, barriers_put, is_finished, filled
 use Rattle.subpartition.specs.Queues.{Queue, parcel_of, HasLength}
 
 -- Every entry was allowed, and the queue is what the entries have made of an empty one. Its segments have the size that is told of them.
+-- So it is known of each entry of a closed cell that it was allowed.
 pub record StandsFor (queue : Queue) (history : List (ℕ × SendEntry)) : Type 0 where
   pub legal : IsHistory (MaySendAs queue.size) history
   pub items : map parcel_of queue.items ≡ (outbox (entries_of history)).items

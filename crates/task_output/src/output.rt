@@ -1,4 +1,5 @@
 // What a task sends.
+// A task with checkpoints has a half that sends, which is this, or one that takes (task_taking), or both.
 ghost use Rattle.std.specs.Prelude.{◌≡◌, ◌++◌, [], ◌∷◌, ℕ, List, suc, length, OnOk, OnErr, MatchResult};
 ghost use Rattle.std.specs.List.{AllByRecursion};
 ghost use Rattle.turn_cell.specs.Passes.{IsPassOf};

@@ -16,7 +16,8 @@ pub fn make_room(runs: &mut ListOf<TakeRun>) -> bool
     runs.reserve(1).is_ok() && can_grow(runs.as_slice())
 }
 
-// Whether the last run can take one record more.
+// Whether the last run can take one record more. A count that can't grow ends the task as want of memory
+// does.
 fn can_grow(runs: &[TakeRun]) -> bool
     ensures { result ≡ true → last_count runs.now + 1 < 2 ^ 64 }
 {

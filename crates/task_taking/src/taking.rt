@@ -1,4 +1,6 @@
 // What a task takes.
+// Runs are handed out when all channels are resumed, so that no record taken behind a barrier counts before
+// it. Those of a snapshot that comes back are handed out when the task ends.
 ghost use Rattle.std.specs.Prelude.{◌≡◌, ◌++◌, [], ◌∷◌, ◌<◌, ◌≤◌, ℕ, List, suc, Err, IfOk};
 ghost use Rattle.flow_defs.specs.declared.job.Job.{Job};
 ghost use Rattle.flow_defs.specs.Jobs.{IsJob, last_edge, tasks};

@@ -40,4 +40,5 @@ module _ {S E F : Type 0} where
       pub moments : List (ℕ × Option E)
       pub tells : told moments ≡ history
       pub saw : (k : ℕ) (pass : Pass S E F) → get_elem? ps k ≡ some pass → seen_by k moments ≡ sights pass
+      -- this follows from own and no_other, and spares each caller the proof
       pub weighs : (weight : E → ℕ) → sum_by (λ e. weight e.1) history ≡ sum_by (λ (pass : Pass S E F). sum_by weight (mine pass)) ps

@@ -1,4 +1,5 @@
 // How a cell is closed.
+// It takes the passes in order, since what it says would else have to speak of permutations.
 ghost use Rattle.std.specs.Prelude.{◌≡◌, ℕ};
 ghost use mathlib.Core.Option as may;
 ghost use lib.ListN.{get_elem?};

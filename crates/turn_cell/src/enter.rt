@@ -1,4 +1,6 @@
 // How a pass comes to its turn.
+// That a turn shows the very state that `new` got can't be said where it isn't `Clone`; it is said that it
+// stands for the history. So a caller that goes on from the opening state isn't proved.
 ghost use Rattle.std.specs.Prelude.{◌≡◌};
 ghost use Rattle.turn_cell.specs.History.{StartsWith};
 ghost use Rattle.turn_cell.specs.Passes.{IsPassOf, IsTurnOf, IsSamePass, IsStateOf, HasSighted, seen};

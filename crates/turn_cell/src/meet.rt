@@ -1,4 +1,5 @@
 // How two passes tell one another what they have seen.
+// One pass takes the other in, learns the history, and releases it.
 ghost use Rattle.std.specs.Prelude.{◌≡◌};
 ghost use Rattle.turn_cell.specs.History.{StartsWith};
 ghost use Rattle.turn_cell.specs.Passes.{IsPassOf, IsSamePass, seen, sights};

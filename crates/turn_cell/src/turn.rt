@@ -1,4 +1,5 @@
 // A turn at a cell.
+// A turn can't keep it as a ghost field that it is one of its cell, so `leave` asks for it.
 ghost use Rattle.std.specs.Prelude.{◌≡◌, [], ◌∷◌, ◌++◌};
 ghost use Rattle.std.specs.Borrow.{sem, follows};
 ghost use mir.Syntax.{named};

@@ -1,4 +1,6 @@
 // What a state stands for, and how a turn's entry is named.
+// Each state has an entry type of its own. With a bound on the trait's parameter a call of `leave` could no
+// longer pick its entry.
 ghost use Rattle.std.specs.Prelude.{ℕ, List};
 
 /// A value that can lie in a turn cell. Entries and the fixed part are plain data; no value of them is made.

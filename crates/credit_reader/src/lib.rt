@@ -10,8 +10,6 @@ pub mod laws;
 mod places;
 mod reader;
 mod readers;
-#[cfg(test)]
-mod tests;
 
 pub use fault::{CreditFault, RequestFault, ResumeFault};
 pub use reader::{CREDIT_MAX, Reader, SentKind, Told};

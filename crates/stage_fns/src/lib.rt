@@ -13,8 +13,6 @@ mod fn_table;
 mod laws;
 mod stage_fn;
 mod stages;
-#[cfg(test)]
-mod tests;
 
 pub use add_fault::AddFault;
 pub use agg_fn::AggFn;

@@ -3,6 +3,8 @@
 #![tactic(auto)]
 
 #[cfg(test)]
+mod credit_reader_tests;
+#[cfg(test)]
 mod flow_defs_tests;
 #[cfg(test)]
 mod job_plan_tests;
@@ -14,3 +16,5 @@ mod line_generator_tests;
 mod record_spans_tests;
 #[cfg(test)]
 mod script_text_tests;
+#[cfg(test)]
+mod stage_fns_tests;

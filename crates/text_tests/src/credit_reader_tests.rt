@@ -1,9 +1,12 @@
 // The readers of two channels, call by call.
-ghost use Rattle.std.specs.Prelude.{◌≤◌};
+ghost use Rattle.std.specs.Prelude.{◌≡◌, ◌≤◌, IsTrue};
+ghost use Rattle.std.specs.Option.{IsSomeAnd};
+ghost use Rattle.credit_reader.specs.Readers.{cost};
+ghost use Rattle.credit_reader.specs.Senders.{is_able, reader_of};
 ghost use Rattle.flow_defs.specs.Limits.{credit_max};
 
-use crate::SentKind::{Buffer, End, Front, Inline};
-use crate::{CREDIT_MAX, CreditFault, Readers, RequestFault, ResumeFault, SentKind, Told};
+use credit_reader::SentKind::{Buffer, End, Front, Inline};
+use credit_reader::{CREDIT_MAX, CreditFault, Readers, RequestFault, ResumeFault, SentKind, Told};
 use flow_defs::{ChannelId, Head};
 use std::test::Fail;
 
@@ -38,16 +41,8 @@ enum Step {
     Announce(Option<Told>),
 }
 
-static STEPS: [Step; 50] = [
-    // A channel is requested once, and nothing is taken for one that was not.
-    Step::Request(C, 2, Err(RequestFault::UnknownChannel)),
-    Step::AddCredit(A, 1, Err(CreditFault::UnknownChannel)),
-    Step::AddCredit(C, 1, Err(CreditFault::UnknownChannel)),
-    Step::Resume(A, Err(ResumeFault::UnknownChannel)),
-    Step::Resume(C, Err(ResumeFault::UnknownChannel)),
-    Step::Ready(A, Head::Buffer, 3),
-    Step::Send(Buffer, Head::Buffer, 2, None),
-    Step::Announce(None),
+static STEPS: [Step; 42] = [
+    // A channel is requested once.
     Step::Request(A, 0, Ok(())),
     Step::Request(A, 2, Err(RequestFault::Twice)),
     // With no credit its backlog is announced, once.
@@ -131,14 +126,18 @@ fn takes(readers: &mut Readers, step: Step) -> bool {
     }
 }
 
+// Tells a channel that was requested. That it was is looked at by asking for it again.
 fn tells(readers: &mut Readers, channel: ChannelId, head: Head, backlog: u32) -> bool
     requires { backlog ≤ credit_max }
 {
-    let is_known = readers.find(channel).is_some();
-    if is_known {
-        readers.ready(channel, head, backlog);
+    match readers.request(channel, 0) {
+        Err(RequestFault::Twice) => {
+            readers.ready(channel, head, backlog);
+            true
+        }
+        Err(RequestFault::UnknownChannel) => false,
+        Ok(()) => false,
     }
-    is_known
 }
 
 fn sends(
@@ -150,16 +149,48 @@ fn sends(
     requires { backlog ≤ credit_max }
 {
     let channel = readers.next()?;
-    let found = readers.find(channel)?;
-    if what == Buffer && found.reader.credit == 0 {
+    if !has_credit(readers, channel, what) {
         return None;
     }
     Some((channel, readers.sent(channel, what, head, backlog)))
 }
 
+// Whether a reader that can send has the credit for such an item. It is looked at by asking for too much.
+fn has_credit(readers: &mut Readers, channel: ChannelId, what: SentKind) -> bool
+    requires { IsTrue (is_able channel readers.old.readers) }
+    ensures same { IsTrue result → readers.new ≡ readers.old }
+    ensures may { IsTrue result → IsSomeAnd (reader_of channel readers.old.readers) (λ r. cost what ≤ r.credit) }
+{
+    match what {
+        SentKind::Buffer => match readers.add_credit(channel, CREDIT_MAX) {
+            Err(CreditFault::CreditOver { .. }) => true,
+            Err(CreditFault::UnknownChannel) => false,
+            Ok(()) => false,
+        },
+        SentKind::Inline => true,
+        SentKind::Front => true,
+        SentKind::End => true,
+    }
+}
+
 #[test]
 fn two_channels_send_in_turn_under_credit(rt: HostRuntime) -> Result<(), Fail> {
     let mut readers = Readers::new(rt.alloc(), &[A, B])?;
+    // Nothing is taken for a channel that was not requested, or that there is not.
+    let unknown = Err(CreditFault::UnknownChannel);
+    let asked = readers.request(C, 2);
+    assert_eq!(rt; asked, Err(RequestFault::UnknownChannel));
+    let granted = readers.add_credit(A, 1);
+    assert_eq!(rt; granted, unknown);
+    let granted = readers.add_credit(C, 1);
+    assert_eq!(rt; granted, unknown);
+    let resumed = readers.resume(A);
+    assert_eq!(rt; resumed, Err(ResumeFault::UnknownChannel));
+    let resumed = readers.resume(C);
+    assert_eq!(rt; resumed, Err(ResumeFault::UnknownChannel));
+    readers.ready(A, Head::Buffer, 3);
+    assert_eq!(rt; readers.next(), None);
+    assert_eq!(rt; readers.announce(), None);
     for (number, step) in STEPS.iter().enumerate() {
         assert!(rt; takes(&mut readers, *step), "step {number}");
     }

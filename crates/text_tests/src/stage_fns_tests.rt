@@ -7,8 +7,8 @@ ghost use Rattle.stage_fns.specs.Functions.{HasStage, HasAgg};
 ghost use Rattle.stage_fns.specs.Kinds.{kinds};
 ghost use Rattle.stage_fns.specs.Meets.{records};
 
-use crate::{AddFault, AggFn, FnTable, StageFn, count, field, keep, max, sum, upper, words};
 use flow_defs::{AggKind, Bytes, ListOf, StageKind};
+use stage_fns::{AddFault, AggFn, FnTable, StageFn, count, field, keep, max, sum, upper, words};
 use std::alloc::{AllocError, Global};
 use std::test::Fail;
 
@@ -116,15 +116,38 @@ fn field_counts_from_one(rt: HostRuntime) -> Result<(), Fail> {
 fn a_table_has_all_functions(rt: HostRuntime) -> Result<(), Fail> {
     let alloc = rt.alloc();
     let mut functions = FnTable::new(alloc);
-    let f: StageFn = Box::new(alloc, words)?;
+    let f: StageFn = Box::new(
+        alloc,
+        |alloc: Global, arg: &[u8], record: &[u8], list: &mut ListOf<Bytes>| words(
+            alloc, arg, record, list,
+        ),
+    )?;
     functions.add_stage(StageKind::Words, f)?;
-    let f: StageFn = Box::new(alloc, upper)?;
+    let f: StageFn = Box::new(
+        alloc,
+        |alloc: Global, arg: &[u8], record: &[u8], list: &mut ListOf<Bytes>| upper(
+            alloc, arg, record, list,
+        ),
+    )?;
     functions.add_stage(StageKind::Upper, f)?;
-    let f: StageFn = Box::new(alloc, keep)?;
+    let f: StageFn = Box::new(
+        alloc,
+        |alloc: Global, arg: &[u8], record: &[u8], list: &mut ListOf<Bytes>| keep(
+            alloc, arg, record, list,
+        ),
+    )?;
     functions.add_stage(StageKind::Keep, f)?;
-    let f: StageFn = Box::new(alloc, field)?;
+    let f: StageFn = Box::new(
+        alloc,
+        |alloc: Global, arg: &[u8], record: &[u8], list: &mut ListOf<Bytes>| -> Result<
+            (),
+            AllocError,
+        >
+            requires { IsArgument StageKind.Field arg.now }
+        { field(alloc, arg, record, list) },
+    )?;
     functions.add_stage(StageKind::Field, f)?;
-    let f: AggFn = Box::new(alloc, count)?;
+    let f: AggFn = Box::new(alloc, |record: &[u8], old: u64| count(record, old))?;
     functions.add_agg(AggKind::Count, f)?;
     let place = place_text(alloc, 2)?;
     let pieces = given_by(&functions, alloc, StageKind::Words, b"", b"to,be or")?;
@@ -161,9 +184,19 @@ fn a_table_has_all_functions(rt: HostRuntime) -> Result<(), Fail> {
 fn a_kind_takes_one_function(rt: HostRuntime) -> Result<(), Fail> {
     let alloc = rt.alloc();
     let mut functions = FnTable::new(alloc);
-    let f: StageFn = Box::new(alloc, words)?;
+    let f: StageFn = Box::new(
+        alloc,
+        |alloc: Global, arg: &[u8], record: &[u8], list: &mut ListOf<Bytes>| words(
+            alloc, arg, record, list,
+        ),
+    )?;
     functions.add_stage(StageKind::Words, f)?;
-    let f: StageFn = Box::new(alloc, words)?;
+    let f: StageFn = Box::new(
+        alloc,
+        |alloc: Global, arg: &[u8], record: &[u8], list: &mut ListOf<Bytes>| words(
+            alloc, arg, record, list,
+        ),
+    )?;
     let Err(AddFault::KindTaken { f }) = functions.add_stage(StageKind::Words, f) else {
         return Err(Fail::from("the second function was taken"));
     };
@@ -179,9 +212,9 @@ fn a_kind_takes_one_function(rt: HostRuntime) -> Result<(), Fail> {
 fn a_table_has_all_aggregates(rt: HostRuntime) -> Result<(), Fail> {
     let alloc = rt.alloc();
     let mut functions = FnTable::new(alloc);
-    let f: AggFn = Box::new(alloc, sum)?;
+    let f: AggFn = Box::new(alloc, |record: &[u8], old: u64| sum(record, old))?;
     functions.add_agg(AggKind::Sum, f)?;
-    let f: AggFn = Box::new(alloc, max)?;
+    let f: AggFn = Box::new(alloc, |record: &[u8], old: u64| max(record, old))?;
     functions.add_agg(AggKind::Max, f)?;
     assert_eq!(rt;
         answer_of(&functions, AggKind::Sum, b"k=2", u64::MAX),

@@ -3,6 +3,8 @@ use Rattle.std.proofs.Common.{◌≡◌, ℕ, zero, suc, ◌+◌, List, [], ◌�
 use mathlib.Core.Option.{some, some-injective, some-ne-none}
 use lib.ListN.{get_elem?}
 use Rattle.std.specs.List.{sum_by}
+use Rattle.std.proofs.lemmas.List.Elements.{All-head, All-tail}
+use Rattle.std.proofs.lemmas.List.Sums.{sum_by-cons}
 use Rattle.turn_cell.specs.declared.cell.TurnCell.{TurnCell}
 use Rattle.turn_cell.specs.declared.pass.Pass.{Pass}
 use Rattle.turn_cell.specs.Passes as cells
@@ -39,6 +41,12 @@ module _ {A : Type 0} where
   at_two Q a b qa qb zero p e = subst (Q 0) (some-injective a p e) qa
   at_two Q a b qa qb (suc zero) p e = subst (Q 1) (some-injective b p e) qb
   at_two Q a b qa qb (suc (suc k)) p e = absurd (some-ne-none p (sym e))
+
+-- what no item has does not add up
+module _ {A : Type 0} where
+  pub sum_none : (f : A → ℕ) (xs : List A) → All (λ x. f x ≡ 0) xs → sum_by f xs ≡ 0
+  sum_none f [] h = refl
+  sum_none f (x ∷ xs) h = let a = All-head (λ x. f x ≡ 0) x xs h in let r = sum_none f xs (All-tail (λ x. f x ≡ 0) x xs h) in let c = sum_by-cons f x xs in omega arith
 
 -- the only pass of a cell, as it was made and as it came back
 module _ {S E F : Type 0} (cell : TurnCell S E F) where

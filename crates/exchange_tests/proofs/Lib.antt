@@ -1,2 +1,3 @@
 mod Dealt
+mod InOrder
 mod SubpartitionDealt

@@ -1,5 +1,5 @@
-//! Tests of what an exchange is made of, over the built crates: net_frames, local_pool, subpartition,
-//! input_channel and exchange_core.
+//! Tests of what an exchange is made of, over the built crates: net_frames, segment_pool, local_pool,
+//! subpartition, input_channel and exchange_core.
 #![tactic(auto)]
 
 #[cfg(test)]
@@ -10,6 +10,8 @@ mod input_channel_tests;
 mod local_pool_tests;
 #[cfg(test)]
 mod net_frames_tests;
+#[cfg(test)]
+mod segment_pool_tests;
 #[cfg(test)]
 mod subpartition_tests;
 #[cfg(test)]

@@ -1,6 +1,5 @@
 mod Counting
 mod Dealings
 mod Dealt
-mod InOrder
 mod Sums
 mod Own

@@ -14,8 +14,6 @@ mod places;
 mod pool;
 mod segment;
 mod stock;
-#[cfg(test)]
-mod tests;
 mod turns;
 
 pub use calls::Counts;

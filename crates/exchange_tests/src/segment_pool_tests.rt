@@ -1,13 +1,12 @@
 // Pools that lend all they have, to one pass, to passes with limits, and to threads.
-ghost use Rattle.std.specs.Prelude.{◌≡◌, ◌+◌, ◌<◌, ◌≤◌, [], length, IfSome};
+ghost use Rattle.std.specs.Prelude.{◌≡◌, ◌+◌, ◌<◌, ◌≤◌, [], ◌∷◌, ◌++◌, length, IfSome};
 ghost use Rattle.std.specs.List.{sum_by};
 ghost use Rattle.segment_pool.specs.Counting.{claim_entries};
 ghost use Rattle.segment_pool.specs.Passes.{number, out};
 ghost use Rattle.segment_pool.specs.Pools.{AreInOrder, IsLimited, IsPassOf, limit_of, limits_of, size_of};
 
-use crate::places::add;
-use crate::{Counts, Pool, PoolPass, Segment, StillLent};
 use flow_defs::ListOf;
+use segment_pool::{Counts, Pool, PoolPass, Segment, StillLent};
 use std::alloc::Global;
 use std::sync::Wait;
 use std::test::Fail;
@@ -23,6 +22,17 @@ fn deal(pool: &Pool, passes: &mut ListOf<PoolPass>) -> PoolPass
     ensures out { sum_by out passes.old.items ≡ sum_by out passes.new.items + out result }
 {
     passes.pop().unwrap()
+}
+
+// Adds a pass at the end, where there is room.
+fn add(passes: &mut ListOf<PoolPass>, pass: PoolPass)
+    requires { 0 < passes.old.room }
+    ensures items { passes.new.items ≡ passes.old.items ++ pass ∷ [] }
+    ensures room { passes.old.room ≤ passes.new.room + 1 }
+{
+    let Ok(()) = passes.push(pass) else {
+        unreachable!()
+    };
 }
 
 // Takes a pass back in its place.

@@ -1,9 +1,9 @@
 use Rattle.std.proofs.Common.{[], ◌∷◌, refl, arith}
 use Rattle.segment_pool.specs.Passes.{number, out}
 use Rattle.segment_pool.specs.Pools.{limits_of}
-use Rattle.segment_pool.proofs.Dealt.{sum_none}
-use Rattle.segment_pool.proofs.InOrder.{below}
-use Rattle.segment_pool.proofs.tests.claim_limits.Goals as goal
+use Rattle.exchange_tests.proofs.Dealt.{sum_none}
+use Rattle.exchange_tests.proofs.InOrder.{below}
+use Rattle.exchange_tests.proofs.segment_pool_tests.claim_limits.Goals as goal
 
 pub claim_within-a-requires-clause-limit : goal.claim_within-a-requires-clause-limit
 claim_within-a-requires-clause-limit g c =

@@ -2,8 +2,8 @@ use Rattle.std.proofs.Common.{◌≡◌, ◌++◌, ◌∷◌, [], length, ap, �
 use Rattle.std.specs.Option.{option_to_list}
 use Rattle.segment_pool.specs.Passes.{number}
 use Rattle.segment_pool.specs.Pools.{IsPassOf}
-use Rattle.segment_pool.proofs.InOrder.{last_fits, rest_fits}
-use Rattle.segment_pool.proofs.tests.deal.Goals as goal
+use Rattle.exchange_tests.proofs.InOrder.{last_fits, rest_fits}
+use Rattle.exchange_tests.proofs.segment_pool_tests.deal.Goals as goal
 
 pub returns-clause-pass : goal.returns-clause-pass
 returns-clause-pass c = let rest = c.pop.new.self.items in let pool = c.args.pool.now in

@@ -5,8 +5,8 @@ use Rattle.segment_pool.specs.declared.pool.Pool.{Pool}
 use Rattle.segment_pool.specs.declared.pass.PoolPass.{PoolPass}
 use Rattle.segment_pool.specs.Passes.{out}
 use Rattle.segment_pool.specs.Pools.{AreInOrder}
-use Rattle.segment_pool.proofs.Dealt.{sum_none}
-use Rattle.segment_pool.proofs.tests.claim_thrice.Goals as goal
+use Rattle.exchange_tests.proofs.Dealt.{sum_none}
+use Rattle.exchange_tests.proofs.segment_pool_tests.claim_thrice.Goals as goal
 
 pub deal-pass-requires-2 : goal.deal-pass-requires-2
 deal-pass-requires-2 g c = let still = c.in-Err.ensures.still_lent in let count = ap (λ (l : Items PoolPass). length l.items) still.1 in (

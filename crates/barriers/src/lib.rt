@@ -6,7 +6,5 @@
 
 mod aligner;
 pub mod laws;
-#[cfg(test)]
-mod tests;
 
 pub use aligner::{Action, Aligner};

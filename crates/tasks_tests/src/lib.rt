@@ -5,6 +5,8 @@
 #[cfg(test)]
 mod aggregate_task_tests;
 #[cfg(test)]
+mod barriers_tests;
+#[cfg(test)]
 mod input_gate_tests;
 #[cfg(test)]
 mod record_writer_tests;

@@ -2,8 +2,8 @@
 ghost use Rattle.std.specs.Prelude.{◌≡◌, ◌≤◌, All, IsTrue};
 ghost use Rattle.barriers.specs.Alignments.{MayGive, barrier};
 
-use crate::Action::{Block, SnapshotInline};
-use crate::{Action, Aligner};
+use barriers::Action::{Block, SnapshotInline};
+use barriers::{Action, Aligner};
 use std::test::Fail;
 
 struct Case {

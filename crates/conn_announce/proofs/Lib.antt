@@ -6,4 +6,3 @@ mod Ends
 mod Opening
 mod Account
 mod Both
-mod Dealt

@@ -11,7 +11,7 @@ use Rattle.input_channel.specs.declared.entry.ReceiveEntry.TheVariants.{Credit, 
 use Rattle.input_channel.specs.Inboxes.{pushed}
 use Rattle.input_channel.specs.Counts.{told}
 use Rattle.input_channel.specs.Legal.{may_receive, credit_of, credit_told, is_resume, resumes}
-use Rattle.input_channel.specs.States.{ChannelState, after, StandsFor, Allows}
+use Rattle.input_channel.specs.States.{ChannelState, after, StandsFor}
 use Rattle.input_channel.specs.Theorems.{CallsAreLegal, CallsAddEntries}
 use Rattle.input_channel.proofs.CountLemmas.{count-snoc}
 use Rattle.input_channel.proofs.HistoryLemmas.{entries_of-append}
@@ -81,10 +81,3 @@ still_ended seen now (rest, is) e =
 
 pub end_told : (c : ChannelState) (h now : List (ℕ × ReceiveEntry)) (ended : Bool) → StandsFor c h → ended ≡ c.ended → StartsWith now h → ended ≡ true → HasSeenEnd now
 end_told c h now ended stands is more e = still_ended h now more (sym stands.keeps.ended ∙ sym is ∙ e)
-
--- An entry of any pass, as the tests add them.
-pub entry_stands : CallsAreLegal → CallsAddEntries → (entered c now : ChannelState) (h : List (ℕ × ReceiveEntry)) (n : ℕ) (e : ReceiveEntry) → StandsFor entered h → c ≡ entered →
-    may_receive n e ≡ true → Allows c (entries_of h) e → now ≡ after c e → StandsFor now (h ++ (n, e) ∷ [])
-entry_stands legal adds entered c now h n e stands same own allowed now_is =
-    let before = subst (λ s. StandsFor s h) (sym same) stands in
-    subst (λ s. StandsFor s (h ++ (n, e) ∷ [])) (sym now_is) (adds c h n e before (own, legal c h e before allowed))

@@ -8,8 +8,6 @@ mod closing;
 mod requests;
 mod rounds;
 mod step;
-#[cfg(test)]
-mod tests;
 mod turns;
 
 pub use announce::send_control;

@@ -1,3 +1,3 @@
 mod Dealt
-mod ConnGrantDealt
-mod ConnReceiveDealt
+mod LastDealt
+mod ReceiveEntries

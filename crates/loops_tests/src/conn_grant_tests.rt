@@ -87,8 +87,8 @@ const CHANNEL: ChannelId = ChannelId {
     to: 0,
 };
 
-// Readers of the one channel, with the passes of the writer and of the reader of control frames.
-fn open_readers<R: Abort>(
+// Readers of these channels, with the passes of the writer and of the reader of control frames.
+pub(crate) fn open_readers<R: Abort>(
     rt: &R,
     alloc: Global,
     channels: &[ChannelId],

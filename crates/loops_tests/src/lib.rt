@@ -1,7 +1,10 @@
-//! Tests of the loops of a connection, over the built crates: conn_parts, conn_send, conn_grant and
-//! conn_receive each alone, and all four with a source and a sink, as conn_harness runs them.
+//! Tests of the loops of a connection, over the built crates: reader_state, conn_parts, conn_send, conn_grant,
+//! conn_receive and conn_announce each alone, and all four with a source and a sink, as conn_harness
+//! runs them.
 #![tactic(auto)]
 
+#[cfg(test)]
+mod conn_announce_tests;
 #[cfg(test)]
 mod conn_grant_tests;
 #[cfg(test)]
@@ -12,6 +15,8 @@ mod conn_receive_tests;
 mod conn_send_tests;
 #[cfg(test)]
 mod connection_tests;
+#[cfg(test)]
+mod reader_state_tests;
 #[cfg(test)]
 mod slow_links;
 #[cfg(test)]

@@ -10,7 +10,6 @@ mod Numbering
 mod Standing
 mod Overdue
 mod Opening
-mod Dealt
 mod Queueing
 mod Parts
 mod Covering

@@ -1,12 +1,11 @@
 -- What the calls of the readers of a connection do and answer. That a refused message changes nothing is this project's own choice.
 use Rattle.std.specs.Prelude.{◌≡◌, ℕ, ◌-◌, ◌<◌, ◌≤◌, ◌⊎◌, ◌==◌, nat_lt, Bool, true, false, List, [], ◌∷◌, length, slice_index_or, slice_set, AllPairs, ◌≢◌, if◌then◌else◌, Option, Some, None, Result, Ok, Err}
-use Rattle.std.specs.Option.{option_map_or, IsSomeAnd}
+use Rattle.std.specs.Option.{option_map_or}
 use Rattle.flow_defs.specs.declared.task.ChannelId.{ChannelId}
 use Rattle.flow_defs.specs.declared.cause.PeerFault.{PeerFault}
 use Rattle.flow_defs.specs.declared.cause.PeerFault.TheVariants as peer
-use Rattle.credit_reader.specs.declared.reader.SentKind.{SentKind}
 use Rattle.flow_defs.specs.Limits.{credit_max}
-use Rattle.credit_reader.specs.Readers.{Granted, cost}
+use Rattle.credit_reader.specs.Readers.{Granted}
 use Rattle.credit_reader.specs.Senders.{Sender, reader_of, happened}
 use Rattle.reader_state.specs.declared.state.Early.{Early}
 use Rattle.reader_state.specs.declared.state.Kept.{Kept}
@@ -40,10 +39,6 @@ IsAsked s e = (1 ≤ e.credit) ⊎ (1 ≤ e.resumptions) → asked e.channel s �
 -- Nothing changes, since the channel was not requested.
 abbrev pub StaysUnasked : ChannelId → Sender → Sender → Type 0
 StaysUnasked c old new = (new ≡ old) × (asked c old ≡ false)
-
--- The reader of a channel has the credit that such an item costs.
-abbrev pub HasCredit : ChannelId → SentKind → Ledger → Type 0
-HasCredit c what l = IsSomeAnd (reader_of c l.sender.readers) (λ r. cost what ≤ r.credit)
 
 -- The early part of a channel stands at this place, and no two are of one channel.
 pub record IsKept (early : List Early) (c : ChannelId) (kept : Kept) : Type 0 where

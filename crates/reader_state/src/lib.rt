@@ -10,8 +10,6 @@ mod entry;
 pub mod laws;
 mod settle;
 mod state;
-#[cfg(test)]
-mod tests;
 mod turned;
 mod turns;
 

@@ -1,6 +1,6 @@
 use Rattle.std.proofs.Common.{ap, ◌∙◌}
 use Rattle.reader_state.specs.Ledgers.{Ledger, channels_of}
-use Rattle.loops_tests.proofs.ConnGrantDealt.{names_of}
+use Rattle.loops_tests.proofs.LastDealt.{names_of}
 use Rattle.loops_tests.proofs.conn_grant_tests.open_readers.Goals as goal
 
 pub returns-clause-channels : goal.returns-clause-channels

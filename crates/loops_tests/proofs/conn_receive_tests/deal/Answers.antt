@@ -1,5 +1,5 @@
 use Rattle.std.proofs.Common.{rules, ◌≡◌, [], ◌∷◌, ◌++◌}
-use Rattle.loops_tests.proofs.ConnReceiveDealt.{still_fresh, last_fresh}
+use Rattle.loops_tests.proofs.LastDealt.{still_fresh, last_fresh}
 use Rattle.loops_tests.proofs.conn_receive_tests.deal.Goals as goal
 
 pub returns-clause-fresh : goal.returns-clause-fresh

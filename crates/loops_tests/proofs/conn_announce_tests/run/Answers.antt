@@ -1,5 +1,5 @@
-use Rattle.conn_announce.proofs.Dealt.{last_place}
-use Rattle.conn_announce.proofs.tests.run.Goals as goal
+use Rattle.loops_tests.proofs.LastDealt.{last_place}
+use Rattle.loops_tests.proofs.conn_announce_tests.run.Goals as goal
 
 pub open_channel-first-requires : goal.open_channel-first-requires
 open_channel-first-requires g c =

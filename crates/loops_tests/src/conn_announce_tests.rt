@@ -11,7 +11,7 @@ ghost use Rattle.credit_reader.specs.Senders.{AreDistinct};
 ghost use Rattle.conn_parts.specs.Shares.{AreOwn};
 ghost use Rattle.outside.specs.Stops.{is_fault};
 
-use crate::send_control;
+use conn_announce::send_control;
 use conn_parts::{ConnShare, LoopEnd, SharePasses};
 use flow_defs::{Cause, ChannelId, ListOf};
 use input_channel::laws::{answers_tell, channels_stand_for_histories};

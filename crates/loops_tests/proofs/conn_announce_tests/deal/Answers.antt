@@ -1,6 +1,6 @@
 use Rattle.std.proofs.Common.{rules, ◌≡◌, [], ◌∷◌, ◌++◌}
-use Rattle.conn_announce.proofs.Dealt.{still_fresh, last_fresh}
-use Rattle.conn_announce.proofs.tests.deal.Goals as goal
+use Rattle.loops_tests.proofs.LastDealt.{still_fresh, last_fresh}
+use Rattle.loops_tests.proofs.conn_announce_tests.deal.Goals as goal
 
 pub returns-clause-fresh : goal.returns-clause-fresh
 returns-clause-fresh g c =

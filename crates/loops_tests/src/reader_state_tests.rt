@@ -1,20 +1,20 @@
-// The readers of two channels, call by call and turn by turn.
+// The readers of two channels, turn by turn.
 ghost use Rattle.std.specs.Prelude.{◌≡◌, ◌+◌, ◌<◌, ◌≤◌, [], ◌∷◌, ◌++◌, length, IsTrue};
-ghost use Rattle.credit_reader.specs.Senders.{is_able};
+ghost use Rattle.credit_reader.specs.Readers.{cost};
 ghost use Rattle.flow_defs.specs.Limits.{credit_max};
 ghost use Rattle.turn_cell.specs.Passes.{passes_of};
 ghost use Rattle.turn_cell.specs.Closing.{AreFresh};
 ghost use Rattle.reader_state.specs.Turning.{channels_in, IsOneOf, IsReaderPass};
-ghost use Rattle.reader_state.specs.declared.tests.TheConstants.{A};
-ghost use Rattle.reader_state.specs.Settling.{HasCredit};
+ghost use Rattle.loops_tests.specs.declared.reader_state_tests.TheConstants.{A, B};
 
-use crate::{
+use crate::conn_grant_tests::open_readers;
+use credit_reader::SentKind::{Buffer, End, Front, Inline};
+use credit_reader::{CREDIT_MAX, SentKind, Told};
+use flow_defs::{ChannelId, Head, ListOf, PeerFault};
+use reader_state::{
     ReaderState, look_for_overdue, next_to_announce, next_to_send, take_credit, take_request,
     take_resumption, tell_ready, tell_sent,
 };
-use credit_reader::SentKind::{Buffer, End, Front, Inline};
-use credit_reader::{CREDIT_MAX, CreditFault, SentKind, Told};
-use flow_defs::{ChannelId, Head, ListOf, PeerFault};
 use std::alloc::{AllocError, Global};
 use std::process::Abort;
 use std::sync::Wait;
@@ -50,9 +50,9 @@ enum Step {
     // What goes, what stands first then and the backlog that is left; who sent, and the item's number.
     Send(SentKind, Head, u32, Option<(ChannelId, u32)>),
     Announce(Option<Told>),
-    // What a channel keeps, by its place: credit and resumptions.
-    Keeps(usize, u64, u64),
-    Overdue(Option<PeerFault>),
+    // What a channel keeps: credit and resumptions.
+    Keeps(ChannelId, u32, u32),
+    Overdue(Result<(), PeerFault>),
 }
 
 const UNKNOWN: Result<(), PeerFault> = Err(PeerFault::Channel);
@@ -64,29 +64,29 @@ static STEPS: [Step; 40] = [
     Step::Grant(C, 1, UNKNOWN),
     Step::Resume(A, UNKNOWN),
     Step::Resume(C, UNKNOWN),
-    Step::Keeps(0, 0, 0),
+    Step::Keeps(A, 0, 0),
     Step::Request(A, CREDIT_MAX, Ok(())),
     Step::Request(A, 1, UNKNOWN),
     // One credit too much is kept, and given once a buffer was sent.
     Step::Grant(A, 1, Ok(())),
-    Step::Keeps(0, 1, 0),
+    Step::Keeps(A, 1, 0),
     Step::Ready(A, Head::Buffer, 2),
     Step::Send(Buffer, Head::Event, 1, Some((A, 0))),
-    Step::Keeps(0, 0, 0),
+    Step::Keeps(A, 0, 0),
     Step::Grant(A, 3, Ok(())),
-    Step::Keeps(0, 3, 0),
+    Step::Keeps(A, 3, 0),
     // A resumption before the barrier is kept, and given when the barrier is sent.
     Step::Resume(A, Ok(())),
-    Step::Keeps(0, 3, 1),
+    Step::Keeps(A, 3, 1),
     Step::Send(Inline, Head::Buffer, 1, Some((A, 1))),
-    Step::Keeps(0, 3, 0),
+    Step::Keeps(A, 3, 0),
     Step::Send(Buffer, Head::Event, 0, Some((A, 2))),
-    Step::Keeps(0, 2, 0),
+    Step::Keeps(A, 2, 0),
     // A barrier that came first blocks its channel, and the resumption is given at once.
     Step::Send(Inline, Head::Buffer, 1, Some((A, 3))),
     Step::Send(Buffer, Head::Event, 0, None),
     Step::Resume(A, Ok(())),
-    Step::Keeps(0, 2, 0),
+    Step::Keeps(A, 2, 0),
     // Two channels send in turn, and one with no credit has its backlog announced.
     Step::Request(B, 0, Ok(())),
     Step::Ready(B, Head::Buffer, 7),
@@ -103,89 +103,216 @@ static STEPS: [Step; 40] = [
     // What is kept of a channel whose end was sent is overdue.
     Step::Resume(A, Ok(())),
     Step::Grant(A, 1, Ok(())),
-    Step::Overdue(None),
+    Step::Overdue(Ok(())),
     Step::Send(End, Head::Nothing, 0, Some((A, 6))),
-    Step::Overdue(Some(PeerFault::Credit)),
-    Step::Keeps(0, 1, 1),
+    Step::Overdue(Err(PeerFault::Credit)),
+    Step::Keeps(A, 1, 1),
 ];
 
-// Takes the step, and says whether the answer is that of the table.
-fn takes(state: &mut ReaderState, step: Step) -> bool {
+// The readers of two channels, with the passes of the loop that writes items and of the loop that reads
+// control frames.
+#[derive(Drop)]
+struct Ends {
+    cell: TurnCell<ReaderState>,
+    writer: Pass<ReaderState>,
+    reader: Pass<ReaderState>,
+    ghost passes: { IsReaderPass cell 0 writer × IsReaderPass cell 1 reader },
+    ghost channels: { channels_in cell ≡ A ∷ B ∷ [] },
+}
+
+fn open<R: Abort>(rt: &R, alloc: Global) -> Ends {
+    let (cell, writer, reader) = open_readers(rt, alloc, &[A, B]);
+    Ends {
+        cell,
+        writer,
+        reader,
+    }
+}
+
+// Takes the step in turns, and says whether the answer is that of the table. What a channel keeps is looked
+// at elsewhere.
+fn takes<R: Wait>(rt: &R, ends: &mut Ends, step: Step) -> bool {
     match step {
         Step::Request(channel, credit, answer) => {
-            credit <= CREDIT_MAX && state.request(channel, credit) == answer
+            credit <= CREDIT_MAX && request(rt, ends, channel, credit) == answer
         }
         Step::Grant(channel, credit, answer) => {
-            1 <= credit && credit <= CREDIT_MAX && state.grant(channel, credit) == answer
+            1 <= credit && credit <= CREDIT_MAX && grant(rt, ends, channel, credit) == answer
         }
-        Step::Resume(channel, answer) => state.resume(channel) == answer,
+        Step::Resume(channel, answer) => {
+            take_resumption(rt, &ends.cell, &mut ends.reader, channel) == answer
+        }
         Step::Ready(channel, head, backlog) => {
-            backlog <= CREDIT_MAX && tells(state, channel, head, backlog)
+            backlog <= CREDIT_MAX && tells(rt, ends, channel, head, backlog)
         }
         Step::Send(what, head, backlog, answer) => {
-            backlog <= CREDIT_MAX && sends(state, what, head, backlog) == answer
+            backlog <= CREDIT_MAX && sends(rt, ends, what, head, backlog) == answer
         }
-        Step::Announce(answer) => state.announce() == answer,
-        Step::Keeps(place, credit, resumptions) => keeps(state, place, credit, resumptions),
-        Step::Overdue(answer) => state.overdue() == answer,
+        Step::Announce(answer) => { next_to_announce(rt, &ends.cell, &mut ends.writer) == answer }
+        Step::Keeps(_, _, _) => true,
+        Step::Overdue(answer) => overdue(rt, ends) == answer,
     }
 }
 
-fn keeps(state: &ReaderState, place: usize, credit: u64, resumptions: u64) -> bool {
-    match state.early.as_slice().get(place) {
-        Some(early) => early.credit == credit && early.resumptions == resumptions,
-        None => false,
-    }
+fn request<R: Wait>(
+    rt: &R,
+    ends: &mut Ends,
+    channel: ChannelId,
+    credit: u32,
+) -> Result<(), PeerFault>
+    requires { credit ≤ credit_max }
+{
+    take_request(rt, &ends.cell, &mut ends.reader, channel, credit)
 }
 
-fn tells(state: &mut ReaderState, channel: ChannelId, head: Head, backlog: u32) -> bool
+fn grant<R: Wait>(rt: &R, ends: &mut Ends, channel: ChannelId, credit: u32) -> Result<(), PeerFault>
+    requires { (1 ≤ credit) × (credit ≤ credit_max) }
+{
+    take_credit(rt, &ends.cell, &mut ends.reader, channel, credit)
+}
+
+fn overdue<R: Wait>(rt: &R, ends: &mut Ends) -> Result<(), PeerFault> {
+    look_for_overdue(rt, &ends.cell, &mut ends.reader)
+}
+
+fn tells<R: Wait>(rt: &R, ends: &mut Ends, channel: ChannelId, head: Head, backlog: u32) -> bool
     requires { backlog ≤ credit_max }
 {
-    let is_known = state.find(channel).is_some();
-    if is_known {
-        state.ready(channel, head, backlog);
+    if channel == A {
+        tell_ready(rt, &ends.cell, &mut ends.writer, A, head, backlog);
+        return true;
     }
-    is_known
+    if channel == B {
+        tell_ready(rt, &ends.cell, &mut ends.writer, B, head, backlog);
+        return true;
+    }
+    false
 }
 
-fn sends(
-    state: &mut ReaderState,
+fn sends<R: Wait>(
+    rt: &R,
+    ends: &mut Ends,
     what: SentKind,
     head: Head,
     backlog: u32,
 ) -> Option<(ChannelId, u32)>
     requires { backlog ≤ credit_max }
 {
-    let channel = state.next()?;
-    if !has_credit(state, channel, what) {
-        return None;
+    match what {
+        Buffer => send_data(rt, ends, head, backlog),
+        Inline => send_event(rt, ends, Inline, head, backlog),
+        Front => send_event(rt, ends, Front, head, backlog),
+        End => send_event(rt, ends, End, head, backlog),
     }
-    Some((channel, state.sent(channel, what, head, backlog)))
 }
 
-// Whether a reader that can send has the credit for such an item. It is looked at by asking for too much.
-fn has_credit(state: &mut ReaderState, channel: ChannelId, what: SentKind) -> bool
-    requires { IsTrue (is_able channel state.old.sender.readers) }
-    ensures same { IsTrue result → state.new ≡ state.old }
-    ensures may { IsTrue result → HasCredit channel what state.old }
+fn send_event<R: Wait>(
+    rt: &R,
+    ends: &mut Ends,
+    what: SentKind,
+    head: Head,
+    backlog: u32,
+) -> Option<(ChannelId, u32)>
+    requires { (cost what ≡ 0) × (backlog ≤ credit_max) }
 {
-    match what {
-        SentKind::Buffer => match state.readers.add_credit(channel, CREDIT_MAX) {
-            Err(CreditFault::CreditOver { .. }) => true,
-            Err(CreditFault::UnknownChannel) => false,
-            Ok(()) => false,
-        },
-        SentKind::Inline => true,
-        SentKind::Front => true,
-        SentKind::End => true,
+    let channel = next_to_send(rt, &ends.cell, &mut ends.writer)?;
+    let number = tell_sent(
+        rt,
+        &ends.cell,
+        &mut ends.writer,
+        channel,
+        what,
+        head,
+        backlog,
+    );
+    Some((channel, number))
+}
+
+// Sends data on the channel whose turn it is. That there is credit is looked at by telling that data stand
+// first: it is then still the turn of that channel.
+fn send_data<R: Wait>(rt: &R, ends: &mut Ends, head: Head, backlog: u32) -> Option<(ChannelId, u32)>
+    requires { backlog ≤ credit_max }
+{
+    let channel = next_to_send(rt, &ends.cell, &mut ends.writer)?;
+    tell_ready(
+        rt,
+        &ends.cell,
+        &mut ends.writer,
+        channel,
+        Head::Buffer,
+        backlog,
+    );
+    let first = next_to_send(rt, &ends.cell, &mut ends.writer)?;
+    if !is_same(first, channel) {
+        return None;
+    }
+    let number = tell_sent(
+        rt,
+        &ends.cell,
+        &mut ends.writer,
+        first,
+        Buffer,
+        head,
+        backlog,
+    );
+    Some((first, number))
+}
+
+fn is_same(channel: ChannelId, other: ChannelId) -> bool
+    ensures { IsTrue result → channel ≡ other }
+{
+    channel == other
+}
+
+// Whether a channel keeps so much credit and so many resumptions after these steps: when nothing else is
+// sent and its end is, that many buffers and that many barriers use up what is overdue, and no fewer. A
+// channel that was not requested is so then, with all credit that fits.
+fn keeps<R: Wait + Abort>(
+    rt: &R,
+    alloc: Global,
+    steps: &[Step],
+    channel: ChannelId,
+    credit: u32,
+    resumptions: u32,
+) -> bool {
+    let mut ends = open(rt, alloc);
+    for step in steps {
+        let _taken = takes(rt, &mut ends, *step);
+    }
+    let _asked = request(rt, &mut ends, channel, CREDIT_MAX);
+    let _told = tells(rt, &mut ends, A, Head::Nothing, 0);
+    let _told = tells(rt, &mut ends, B, Head::Nothing, 0);
+    let mut is_so = tells(rt, &mut ends, channel, Head::Event, 0)
+        && goes(rt, &mut ends, End, channel);
+    for _buffer in 0..credit {
+        let fault = overdue(rt, &mut ends);
+        is_so = is_so && fault == Err(PeerFault::Credit) && goes(rt, &mut ends, Buffer, channel);
+    }
+    for _barrier in 0..resumptions {
+        let fault = overdue(rt, &mut ends);
+        is_so = is_so && fault == Err(PeerFault::Resume) && goes(rt, &mut ends, Inline, channel);
+    }
+    is_so && overdue(rt, &mut ends) == Ok(())
+}
+
+// Whether such an item goes, and on this channel.
+fn goes<R: Wait>(rt: &R, ends: &mut Ends, what: SentKind, channel: ChannelId) -> bool {
+    match sends(rt, ends, what, Head::Event, 0) {
+        Some((sent_on, _)) => sent_on == channel,
+        None => false,
     }
 }
 
 #[test]
 fn what_comes_too_early_is_kept_and_given_when_it_fits(rt: HostRuntime) -> Result<(), Fail> {
-    let mut state = ReaderState::new(rt.alloc(), &[A, B])?;
+    let alloc = rt.alloc();
+    let mut ends = open(&rt, alloc);
     for (number, step) in STEPS.iter().enumerate() {
-        assert!(rt; takes(&mut state, *step), "step {number}");
+        assert!(rt; takes(&rt, &mut ends, *step), "step {number}");
+        if let Step::Keeps(channel, credit, resumptions) = *step {
+            let is_kept = keeps(&rt, alloc, &STEPS[..number], channel, credit, resumptions);
+            assert!(rt; is_kept, "step {number}");
+        }
     }
     Ok(())
 }

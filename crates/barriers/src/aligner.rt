@@ -18,11 +18,11 @@ pub enum Action {
 #[derive(Debug, Drop)]
 pub struct Aligner {
     // The number of checkpoints closed.
-    pub(crate) closed: u64,
+    closed: u64,
     // How many channels have not given the barrier of the next one.
     missing: u32,
     // The number of the barrier that each channel gave last.
-    pub(crate) given: Vec<u64>,
+    given: Vec<u64>,
 }
 
 impl Model for Aligner {

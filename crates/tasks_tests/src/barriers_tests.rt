@@ -1,9 +1,9 @@
 // Barriers of tasks with one, two and three channels, and what the tasks do about them.
-ghost use Rattle.std.specs.Prelude.{◌≡◌, ◌≤◌, All, IsTrue};
-ghost use Rattle.barriers.specs.Alignments.{MayGive, barrier};
+ghost use Rattle.std.specs.Prelude.{◌≡◌, ◌≤◌};
 
 use barriers::Action::{Block, SnapshotInline};
 use barriers::{Action, Aligner};
+use std::alloc::{AllocError, Global};
 use std::test::Fail;
 
 struct Case {
@@ -55,24 +55,50 @@ static CASES: [Case; 4] = [
     },
 ];
 
-// Whether a channel may give this barrier now.
-fn may_give(aligner: &Aligner, channel: u32, k: u64) -> bool
-    ensures { IsTrue result → MayGive aligner.now (barrier channel k) }
+// An aligner, with what a task knows of it: how many checkpoints are closed, and which channels have given the
+// barrier of the next one.
+#[derive(Drop)]
+struct Watched {
+    aligner: Aligner,
+    closed: u64,
+    gave: Vec<bool>,
+    ghost same: { aligner ≡ record { closed = closed; gave = gave.items } },
+}
+
+fn watch(alloc: Global, channels: u32) -> Result<Watched, AllocError>
+    requires { 1 ≤ channels }
 {
-    let Some(last) = aligner.given.get(channel as usize) else {
-        return false;
-    };
-    *last == aligner.closed && k > 0 && k - 1 == aligner.closed
+    Ok(Watched {
+        aligner: Aligner::new(alloc, channels)?,
+        closed: 0,
+        gave: vec![in alloc; false; channels as usize]?,
+    })
+}
+
+// Gives this barrier, where the channel may give it now.
+fn give(watched: &mut Watched, channel: u32, k: u64) -> Option<Action> {
+    let gave = *watched.gave.get(channel as usize)?;
+    if gave || k == 0 || k - 1 != watched.closed {
+        return None;
+    }
+    let action = watched.aligner.on_barrier(channel, k);
+    match action {
+        Block => watched.gave[channel as usize] = true,
+        SnapshotInline { k } => {
+            watched.closed = k;
+            watched.gave.fill(false);
+        }
+    }
+    Some(action)
 }
 
 #[test]
 fn a_task_snapshots_at_the_last_barrier(rt: HostRuntime) -> Result<(), Fail> {
     for case in &CASES {
         assert!(rt; case.channels > 0);
-        let mut aligner = Aligner::new(rt.alloc(), case.channels)?;
+        let mut watched = watch(rt.alloc(), case.channels)?;
         for (channel, k, action) in case.rows {
-            assert!(rt; may_give(&aligner, *channel, *k));
-            assert_eq!(rt; aligner.on_barrier(*channel, *k), *action);
+            assert_eq!(rt; give(&mut watched, *channel, *k), Some(*action));
         }
     }
     Ok(())

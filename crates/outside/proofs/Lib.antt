@@ -1,6 +1,6 @@
 pub mod Stops
 mod Rings
-mod Dealt
+pub mod Dealt
 pub mod Lasts
 pub mod Keepers
 pub mod LastImages

@@ -13,11 +13,7 @@ mod bells;
 mod dir_files;
 mod files;
 mod keeper;
-#[cfg(test)]
-mod keeper_tests;
 mod last_image;
-#[cfg(test)]
-mod link_tests;
 mod link_turns;
 mod links;
 mod memory_files;
@@ -33,8 +29,6 @@ mod sink;
 mod source;
 mod std_sink;
 mod stop;
-#[cfg(test)]
-mod tests;
 mod waiting;
 mod wires;
 

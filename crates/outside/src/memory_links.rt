@@ -81,7 +81,7 @@ fn new_link(
 }
 
 // The ends of two new links, of which these reads and writes fail.
-pub(crate) fn new_wire(
+fn new_wire(
     alloc: Global,
     reads: &[u64],
     writes: &[u64],
@@ -130,13 +130,6 @@ impl MemoryLinks {
         ensures { result.now ≡ self.now.wires }
     {
         self.wires.as_slice()
-    }
-
-    #[cfg(test)]
-    pub(crate) fn faults(&self) -> u64
-        ensures { result ≡ self.now.faults }
-    {
-        self.faults
     }
 }
 

@@ -129,6 +129,9 @@ impl LinkOut for MemoryOut {
         ensures finished { self.new.finished ≡ true }
         ensures line { (self.new.cell ≡ self.old.cell) × (self.new.fails ≡ self.old.fails) }
         ensures never_falls { out_faults self.old ≤ out_faults self.new }
+
+        // It never fails.
+        ensures same { self.new.faults ≡ self.old.faults }
     {
         finish_ring(rt, &self.cell, &mut self.pass, &self.bells);
     }

@@ -3,11 +3,11 @@ ghost use Rattle.std.specs.Prelude.{◌≡◌, ◌<◌, ◌++◌, [], ◌∷◌,
 ghost use Rattle.turn_cell.specs.Passes.{IsPassOf, number};
 ghost use Rattle.outside.specs.Keepers.{IsAboveLast};
 
-use crate::tests::numbers;
-use crate::{
+use crate::forms_tests::numbers;
+use flow_defs::{Bytes, ListOf};
+use outside::{
     KeepFault, Keeper, Kept, LastImage, MemoryKeeper, Stored, look_for_stored, tell_stored,
 };
-use flow_defs::{Bytes, ListOf};
 use std::alloc::{AllocError, Global};
 use std::sync::Wait;
 use std::test::Fail;

@@ -1,5 +1,5 @@
 use Rattle.outside.proofs.Dealt.{two_made}
-use Rattle.outside.proofs.keeper_tests.new_workers.Goals as goal
+use Rattle.outside_tests.proofs.keeper_tests.new_workers.Goals as goal
 
 pub invariant_of-result-clause-own : goal.invariant_of-result-clause-own
 invariant_of-result-clause-own c =

@@ -1,19 +1,19 @@
 // The forms in memory at the calls that are to fail, and the real ones once each.
 ghost use Rattle.std.specs.Prelude.{◌≡◌, IfOk};
 
-use crate::{
+use flow_defs::{Bytes, ListOf, Word};
+use outside::{
     DirFiles, Failed, Files, FindFault, MemoryFile, MemoryFiles, MemorySink, MemorySource, Sink,
     Source, StdSink,
 };
-use flow_defs::{Bytes, ListOf, Word};
 use std::alloc::{AllocError, Global};
 use std::test::Fail;
 
-pub(crate) fn numbers(alloc: Global, items: &[u64]) -> Result<ListOf<u64>, AllocError> {
+pub(crate) fn numbers(alloc: Global, items: &[u64]) -> Result<ListOf<u64>, AllocError>
+    ensures { IfOk result (λ list. list.items ≡ items.now) }
+{
     let mut list = ListOf::new(alloc);
-    for item in items {
-        list.push(*item)?;
-    }
+    list.extend(items)?;
     Ok(list)
 }
 

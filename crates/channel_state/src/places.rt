@@ -1,6 +1,6 @@
 // Which tasks and channels a job has, by its shape.
 ghost use Rattle.std.specs.Prelude.{◌≡◌, ◌≤◌, ◌*◌, length};
-ghost use Rattle.flow_defs.specs.Jobs.{IsJob, last_edge, is_channel, joins, edge_width};
+ghost use Rattle.flow_defs.specs.Jobs.{IsJob, last_edge, is_channel, edge_width};
 ghost use Rattle.plain_machine.specs.Places.{sending_tasks, channels};
 ghost use Rattle.job_text.specs.Shapes.{job_of};
 
@@ -16,16 +16,7 @@ pub(crate) fn is_channel(shape: &JobShape, edge: usize, from: usize, to: usize) 
     let senders = shape.tasks(edge);
     let receivers = shape.tasks(edge + 1);
     let exchange = shape.exchange(edge);
-    from < senders && to < receivers && joins(exchange, from, to)
-}
-
-fn joins(exchange: Exchange, from: usize, to: usize) -> bool
-    ensures { result ≡ joins exchange from to }
-{
-    match exchange {
-        Exchange::Hash | Exchange::Rebalance => true,
-        Exchange::Forward => from == to,
-    }
+    from < senders && to < receivers && exchange.joins(from, to)
 }
 
 // How many tasks send.

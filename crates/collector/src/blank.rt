@@ -19,7 +19,7 @@ pub fn no_snapshots(alloc: Global, job: &Job) -> Result<ListOf<Option<Snapshot>>
     ensures none { IfOk result (λ slots. (place : ℕ) → kept_at slots.items place ≡ None) }
 {
     let mut slots = ListOf::new(alloc);
-    for _task in 0..tasks_before(job, job.stages.as_slice().len() + 2) {
+    for _task in 0..tasks_before(job, job.edges() + 1) {
         slots.push(None)?;
     }
     Ok(slots)
@@ -65,7 +65,7 @@ pub fn blank_image(alloc: Global, job: &Job, checkpoint: Checkpoint) -> Result<I
     ensures { IfOk result (IsBlank job.now checkpoint) }
 {
     laws::places_are_in_order();
-    let edges = job.stages.as_slice().len() + 1;
+    let edges = job.edges();
     let sources = job.sources.as_slice().len();
     let senders = tasks_before(job, edges);
     let tasks = tasks_before(job, edges + 1);

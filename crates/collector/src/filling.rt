@@ -35,7 +35,7 @@ fn put_snapshot(image: &mut Image, job: &Job, place: usize, snapshot: Snapshot)
     requires pieces_out { AllByRecursion (IsOfJob job.now) snapshot.saved_out.items }
     ensures { IsPutInto job.now place snapshot image.old image.new }
 {
-    let senders = tasks_before(job, job.stages.as_slice().len() + 1);
+    let senders = tasks_before(job, job.edges());
     let sources = job.sources.as_slice().len();
     put_from(&mut image.offsets, 0, place, snapshot.offset);
     put_from(&mut image.ended, 0, place, snapshot.ended);

@@ -1,26 +1,12 @@
 // Where tasks and channels stand in the lists of an image.
-ghost use Rattle.std.specs.Prelude.{◌≡◌, suc, ◌+◌, ◌*◌, ◌<◌, ◌≤◌, true, length};
-ghost use Rattle.flow_defs.specs.Jobs.{IsJob, last_edge, tasks, exchange, is_channel, edge_width, sum_below};
+ghost use Rattle.std.specs.Prelude.{◌≡◌, suc, ◌*◌, ◌<◌, ◌≤◌, true, length};
+ghost use Rattle.flow_defs.specs.Jobs.{IsJob, last_edge, tasks, is_channel, edge_width, sum_below};
 ghost use Rattle.plain_machine.specs.Places.{sender_place, channel_place, channels};
 ghost use Rattle.collector.specs.Fitting.{IsTask};
 ghost use Rattle.collector.specs.Collecting.{task_count};
 
 use flow_defs::{ChannelId, Exchange, Job, TaskId};
 use plain_machine::laws;
-
-// How many tasks a stage has.
-fn tasks_of(job: &Job, stage: usize) -> usize
-    requires { stage ≤ suc (last_edge job.now) }
-    ensures { result ≡ tasks job.now stage }
-{
-    let Some(before) = stage.checked_sub(1) else {
-        return job.sources.as_slice().len();
-    };
-    match job.stages.as_slice().get(before) {
-        Some(stage) => stage.tasks as usize,
-        None => job.agg_tasks as usize,
-    }
-}
 
 /// How many tasks the stages before this one have.
 pub fn tasks_before(job: &Job, stage: usize) -> usize
@@ -31,7 +17,7 @@ pub fn tasks_before(job: &Job, stage: usize) -> usize
 {
     let mut before = 0;
     for i in 0..stage {
-        before += tasks_of(job, i);
+        before += job.tasks(i) as usize;
     }
     before
 }
@@ -46,20 +32,6 @@ pub fn task_place(job: &Job, task: TaskId) -> usize
     tasks_before(job, task.stage as usize) + task.index as usize
 }
 
-// How many channels an edge has.
-fn width_of(job: &Job, edge: usize) -> usize
-    requires job { IsJob job.now }
-    requires edge { edge ≤ last_edge job.now }
-    ensures is { result ≡ edge_width job.now edge }
-    ensures few { result ≤ 64 }
-{
-    let senders = tasks_of(job, edge);
-    match exchange_of(job, edge) {
-        Exchange::Forward => senders,
-        _ => senders * tasks_of(job, edge + 1),
-    }
-}
-
 /// How many channels the edges before this one have.
 pub fn channels_before(job: &Job, edge: usize) -> usize
     requires job { IsJob job.now }
@@ -69,7 +41,7 @@ pub fn channels_before(job: &Job, edge: usize) -> usize
 {
     let mut before = 0;
     for i in 0..edge {
-        before += width_of(job, i);
+        before += job.width(i) as usize;
     }
     before
 }
@@ -84,19 +56,8 @@ pub fn place_of(job: &Job, channel: ChannelId) -> usize
     laws::places_are_in_order();
     let edge = channel.edge as usize;
     let before = channels_before(job, edge);
-    match exchange_of(job, edge) {
+    match job.exchange(edge) {
         Exchange::Forward => before + channel.from as usize,
-        _ => before + channel.from as usize * tasks_of(job, edge + 1) + channel.to as usize,
-    }
-}
-
-// How records go over an edge.
-fn exchange_of(job: &Job, edge: usize) -> Exchange
-    requires { edge ≤ last_edge job.now }
-    ensures { result ≡ exchange job.now edge }
-{
-    match job.stages.as_slice().get(edge) {
-        Some(stage) => stage.exchange,
-        None => Exchange::Hash,
+        _ => before + channel.from as usize * job.tasks(edge + 1) as usize + channel.to as usize,
     }
 }

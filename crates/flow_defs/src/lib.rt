@@ -10,6 +10,7 @@
 mod aggregates;
 mod bytes;
 mod cause;
+mod geometry;
 mod image;
 mod job;
 mod lines;

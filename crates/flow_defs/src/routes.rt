@@ -1,8 +1,7 @@
 // Where records go, and what the segments of a job's channels come to.
-ghost use Rattle.std.specs.Prelude.{◌≡◌, ◌+◌, ◌*◌, ◌%◌, ◌<◌, ◌≤◌};
-ghost use Rattle.flow_defs.specs.Jobs.{IsJob, segments_needed, width};
+ghost use Rattle.std.specs.Prelude.{◌≡◌, ◌%◌, ◌<◌, ◌≤◌};
+ghost use Rattle.flow_defs.specs.Jobs.{IsJob, segments_needed};
 ghost use Rattle.flow_defs.specs.Routes.{fnv, receiver};
-ghost use Rattle.flow_defs.specs.Limits.{tasks_max};
 
 use crate::{Exchange, Job};
 
@@ -53,25 +52,9 @@ pub fn needed(job: &Job) -> u32
     requires { IsJob job.now }
     ensures { result ≡ segments_needed job.now }
 {
-    let mut senders = job.sources.as_slice().len() as u32;
     let mut segments = 0;
-    for stage in job.stages.as_slice() {
-        segments += segments_of(stage.exchange, senders, stage.tasks);
-        senders = stage.tasks;
+    for edge in 0..job.edges() {
+        segments += 3 * job.width(edge) + job.tasks(edge);
     }
-    segments + segments_of(Exchange::Hash, senders, job.agg_tasks)
-}
-
-// The segments of an edge between so many tasks and so many.
-fn segments_of(exchange: Exchange, senders: u32, receivers: u32) -> u32
-    requires senders { senders ≤ tasks_max }
-    requires receivers { receivers ≤ tasks_max }
-    ensures is { result ≡ 3 * width exchange senders receivers + senders }
-    ensures few { result ≤ 200 }
-{
-    let channels = match exchange {
-        Exchange::Forward => senders,
-        _ => senders * receivers,
-    };
-    3 * channels + senders
+    segments
 }

@@ -3,13 +3,13 @@ ghost use Rattle.std.specs.Option.{option_map_or};
 ghost use Rattle.std.specs.FinMap.{entries};
 ghost use Rattle.flow_defs.specs.Tables.{Values};
 ghost use Rattle.std.specs.Prelude.{◌≡◌, ℕ, suc, false, slice_get, unwrap_or, ◌+◌, ◌<◌, ◌≤◌, ◌++◌, true, length, IfOk, OnOk};
-ghost use Rattle.flow_defs.specs.Jobs.{IsJob, last_edge, tasks, exchange, is_channel};
+ghost use Rattle.flow_defs.specs.Jobs.{IsJob, last_edge, tasks, is_channel};
 ghost use Rattle.plain_machine.specs.Worth.{concat_below};
 ghost use Rattle.plain_machine.specs.Images.{items_at, takes_of};
 ghost use Rattle.image_lines.specs.Shown.{named, answer, head_lines, source_line, task_line, table_line, count_of, take_line, channel_line, channel_lines, shown};
 
 use collector::{place_of, task_place};
-use flow_defs::{Bytes, ChannelId, Exchange, Image, Job, ListOf, TakeRun, TaskId};
+use flow_defs::{Bytes, ChannelId, Image, Job, ListOf, TakeRun, TaskId};
 use itoa::Buffer;
 use std::alloc::{AllocError, Global};
 
@@ -111,7 +111,7 @@ fn add_stage(text: &mut Bytes, job: &Job, image: &Image, stage: u32) -> Result<(
     requires stage { stage ≤ last_edge job.now }
     ensures { OnOk result (text.new.items ≡ text.old.items ++ concat_below (tasks job.now stage) (task_line job.now image.now stage)) }
 {
-    for index in 0..tasks_of(job, stage) {
+    for index in 0..job.tasks(stage as usize) {
         add_task(text, job, image, stage, index)?;
     }
     Ok(())
@@ -121,7 +121,7 @@ fn add_tasks(text: &mut Bytes, job: &Job, image: &Image) -> Result<(), AllocErro
     requires { IsJob job.now }
     ensures { OnOk result (text.new.items ≡ text.old.items ++ concat_below (suc (last_edge job.now)) (λ i. concat_below (tasks job.now i) (task_line job.now image.now i))) }
 {
-    for stage in 0..job.stages.as_slice().len() as u32 + 1 {
+    for stage in 0..job.edges() as u32 {
         add_stage(text, job, image, stage)?;
     }
     Ok(())
@@ -208,7 +208,7 @@ fn add_takers(text: &mut Bytes, job: &Job, image: &Image, edge: u32) -> Result<(
     requires edge { edge ≤ last_edge job.now }
     ensures { OnOk result (text.new.items ≡ text.old.items ++ concat_below (tasks job.now (suc edge)) (take_line job.now image.now edge)) }
 {
-    for b in 0..tasks_of(job, edge + 1) {
+    for b in 0..job.tasks(edge as usize + 1) {
         add_take(text, job, image, edge, b)?;
     }
     Ok(())
@@ -218,7 +218,7 @@ fn add_takes(text: &mut Bytes, job: &Job, image: &Image) -> Result<(), AllocErro
     requires { IsJob job.now }
     ensures { OnOk result (text.new.items ≡ text.old.items ++ concat_below (suc (last_edge job.now)) (λ e. concat_below (tasks job.now (suc e)) (take_line job.now image.now e))) }
 {
-    for edge in 0..job.stages.as_slice().len() as u32 + 1 {
+    for edge in 0..job.edges() as u32 {
         add_takers(text, job, image, edge)?;
     }
     Ok(())
@@ -267,8 +267,8 @@ fn add_channels_from(
     requires task { (edge ≤ last_edge job.now) × (from < tasks job.now edge) }
     ensures { OnOk result (text.new.items ≡ text.old.items ++ channel_lines job.now image.now edge from) }
 {
-    for to in 0..tasks_of(job, edge + 1) {
-        if joins(job, edge, from, to) {
+    for to in 0..job.tasks(edge as usize + 1) {
+        if job.joins(edge as usize, from, to) {
             add_channel(text, job, image, ChannelId { edge, from, to })?;
         }
     }
@@ -281,7 +281,7 @@ fn add_edge(text: &mut Bytes, job: &Job, image: &Image, edge: u32) -> Result<(),
     requires edge { edge ≤ last_edge job.now }
     ensures { OnOk result (text.new.items ≡ text.old.items ++ concat_below (tasks job.now edge) (channel_lines job.now image.now edge)) }
 {
-    for from in 0..tasks_of(job, edge) {
+    for from in 0..job.tasks(edge as usize) {
         add_channels_from(text, job, image, edge, from)?;
     }
     Ok(())
@@ -291,46 +291,8 @@ fn add_channels(text: &mut Bytes, job: &Job, image: &Image) -> Result<(), AllocE
     requires { IsJob job.now }
     ensures { OnOk result (text.new.items ≡ text.old.items ++ concat_below (suc (last_edge job.now)) (λ e. concat_below (tasks job.now e) (channel_lines job.now image.now e))) }
 {
-    for edge in 0..job.stages.as_slice().len() as u32 + 1 {
+    for edge in 0..job.edges() as u32 {
         add_edge(text, job, image, edge)?;
     }
     Ok(())
-}
-
-// How many tasks a stage has.
-fn tasks_of(job: &Job, stage: u32) -> u32
-    requires job { IsJob job.now }
-    requires stage { stage ≤ suc (last_edge job.now) }
-    ensures { result ≡ tasks job.now stage }
-{
-    if stage == 0 {
-        return job.sources.as_slice().len() as u32;
-    }
-    match job.stages.as_slice().get(stage as usize - 1) {
-        Some(stage) => stage.tasks,
-        None => job.agg_tasks,
-    }
-}
-
-// Whether an edge has a channel from one of its tasks to another.
-fn joins(job: &Job, edge: u32, from: u32, to: u32) -> bool
-    requires edge { edge ≤ last_edge job.now }
-    requires ends { (from < tasks job.now edge) × (to < tasks job.now (suc edge)) }
-    ensures { result ≡ is_channel job.now edge from to }
-{
-    match exchange_of(job, edge) {
-        Exchange::Hash => true,
-        Exchange::Rebalance => true,
-        Exchange::Forward => from == to,
-    }
-}
-
-// How records go over an edge.
-fn exchange_of(job: &Job, edge: u32) -> Exchange
-    ensures { result ≡ exchange job.now edge }
-{
-    match job.stages.as_slice().get(edge as usize) {
-        Some(stage) => stage.exchange,
-        None => Exchange::Hash,
-    }
 }

@@ -20,30 +20,19 @@ pub(crate) struct Router<'a> {
     pub(crate) ghost receivers_are: { receivers ≡ tasks_of job.now (suc edge) },
 }
 
-// How records go over an edge, and to how many tasks.
-fn behind(job: &Job, edge: u32) -> (Exchange, u32)
-    ensures exchange { result.0 ≡ exchange_on job.now edge }
-    ensures receivers { result.1 ≡ tasks_of job.now (suc edge) }
-{
-    match job.stages.as_slice().get(edge as usize) {
-        Some(stage) => (stage.exchange, stage.tasks),
-        None => (Exchange::Hash, job.agg_tasks),
-    }
-}
-
 impl<'a> Router<'a> {
     /// For the task of this index that sends on this edge.
     pub(crate) fn new(job: &'a Job, edge: u32, index: u32) -> Self
         requires { IsSender job.now edge index }
         ensures { (result.job.now ≡ job.now) × (result.edge ≡ edge) × (result.index ≡ index) }
     {
-        let (exchange, receivers) = behind(job, edge);
+        let place = edge as usize;
         Router {
             job,
             edge,
             index,
-            exchange,
-            receivers,
+            exchange: job.exchange(place),
+            receivers: job.tasks(place + 1),
         }
     }
 

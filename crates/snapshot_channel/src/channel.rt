@@ -43,21 +43,6 @@ fn deal_to<B: Whose>(line: &Line, pass: &mut LinePass, whose: TaskId) -> LinePas
     line.another::<Deal<B>>(pass)
 }
 
-// How many tasks a stage has.
-fn tasks_of(job: &Job, stage: u32) -> u32
-    requires is_job { IsJob job.now }
-    requires stages { stage ≤ suc (last_edge job.now) }
-    ensures { result ≡ tasks job.now stage }
-{
-    if stage == 0 {
-        return job.sources.as_slice().len() as u32;
-    }
-    match job.stages.as_slice().get(stage as usize - 1) {
-        Some(stage) => stage.tasks,
-        None => job.agg_tasks,
-    }
-}
-
 impl SnapshotChannel {
     /// A channel for this job: the number of the checkpoint before the first one, and the lines that a
     /// source reads between two checkpoints, or None where it reads to its end. It has room for one
@@ -73,8 +58,9 @@ impl SnapshotChannel {
     {
         let mut passes = ListOf::new(alloc);
         let (channel, mut collecting) = SnapshotChannel::line(alloc, job, base, every)?;
-        for stage in 0..job.stages.as_slice().len() as u32 + 2 {
-            channel.deal_stage(&mut collecting, &mut passes, stage, tasks_of(job, stage))?;
+        for stage in 0..job.edges() + 1 {
+            let count = job.tasks(stage);
+            channel.deal_stage(&mut collecting, &mut passes, stage as u32, count)?;
         }
         Ok(Opened {
             channel,

@@ -7,7 +7,7 @@ use Rattle.collector.proofs.blank.blank_image.Goals as goal
 pub overflow_sub-tasks-2 : goal.overflow_sub-tasks-2
 overflow_sub-tasks-2 c =
     let job = c.args.job.now in
-    let edges : length c.as_slice.result.now + 1 + 1 ≡ suc (suc (last_edge job)) = (let e = ap length c.as_slice.ensures in omega (arith, e)) in
+    let edges : c.edges-edges.result + 1 ≡ suc (suc (last_edge job)) = (let e = c.edges-edges.ensures in omega (arith, e)) in
     let all : c.tasks_before-tasks.result ≡ task_count job = c.tasks_before-tasks.ensures.is ∙ ap (λ k. sum_below k (tasks job)) edges in
     let shift = sum_shift (suc (last_edge job)) (tasks job) in
     let sources = ap length c.as_slice-sources.ensures in
@@ -16,9 +16,8 @@ overflow_sub-tasks-2 c =
 pub returns : goal.returns
 returns c =
     let job = c.args.job.now in
-    let e = ap length c.as_slice.ensures in
-    let edge : length c.as_slice.result.now + 1 ≡ suc (last_edge job) = omega (arith, e) in
-    let edges : length c.as_slice.result.now + 1 + 1 ≡ suc (suc (last_edge job)) = omega (arith, e) in
+    let edge = c.edges-edges.ensures in
+    let edges : c.edges-edges.result + 1 ≡ suc (suc (last_edge job)) = omega (arith, edge) in
     let senders : c.tasks_before-senders.result ≡ sum_below (suc (last_edge job)) (tasks job) = c.tasks_before-senders.ensures.is ∙ ap (λ k. sum_below k (tasks job)) edge in
     let all : c.tasks_before-tasks.result ≡ task_count job = c.tasks_before-tasks.ensures.is ∙ ap (λ k. sum_below k (tasks job)) edges in
     let channels = c.channels_before-channels.ensures.is ∙ ap (λ k. sum_below k (edge_width job)) edge ∙ sym (c.places_are_in_order.ensures.width job c.requires) in
@@ -27,7 +26,7 @@ returns c =
     record {
       number = refl;
       last = refl;
-      text = c.in_ok-text.ensures ∙ c.as_slice-2.ensures;
+      text = c.in_ok-text.ensures ∙ c.as_slice.ensures;
       shape = record {
         offsets = c.in_ok-offsets.ensures ∙ sources;
         ended = c.in_ok-ended.ensures ∙ sources;

@@ -1,4 +1,4 @@
-use Rattle.std.proofs.Common.{◌≡◌, ◌+◌, suc, length, refl, ap, ◌∙◌, subst, arith}
+use Rattle.std.proofs.Common.{◌≡◌, suc, length, refl, ap, ◌∙◌, subst}
 use Rattle.flow_defs.specs.Jobs.{last_edge, tasks, sum_below}
 use Rattle.collector.specs.Filling.{IsPut}
 use Rattle.collector.proofs.filling.put_snapshot.Goals as goal
@@ -8,8 +8,7 @@ returns c =
     let job = c.args.job.now in
     let place = c.args.place in
     let snapshot = c.args.snapshot in
-    let edges : length c.as_slice.result.now + 1 ≡ suc (last_edge job) = (let e = ap length c.as_slice.ensures in omega (arith, e)) in
-    let senders : c.tasks_before-senders.result ≡ sum_below (suc (last_edge job)) (tasks job) = c.tasks_before-senders.ensures.is ∙ ap (λ k. sum_below k (tasks job)) edges in
+    let senders : c.tasks_before-senders.result ≡ sum_below (suc (last_edge job)) (tasks job) = c.tasks_before-senders.ensures.is ∙ ap (λ k. sum_below k (tasks job)) c.edges.ensures in
     record {
       head = record { number = refl; last = refl; text = refl };
       offsets = c.put_from.ensures;

@@ -1,4 +1,4 @@
-use Rattle.std.proofs.Common.{◌≡◌, suc, length, ap, arith}
+use Rattle.std.proofs.Common.{◌≡◌, suc, length, arith}
 use Rattle.image_lines.proofs.Below.{one_more, all_below}
 use Rattle.image_lines.proofs.lines.add_takes.Goals as goal
 
@@ -8,4 +8,4 @@ loop-edge-preserved c = one_more _ _ _ c.loop-edge.edge _ c.loop-edge.invariant 
 pub returns : goal.returns
 returns c =
     all_below _ _ c.loop-edge.edge (suc (length c.args.job.now.stages.items)) _ c.loop-edge.invariant
-    (omega (arith, c.loop-edge-test.false, c.loop-edge.auto.edge-end, ap length c.as_slice.ensures))
+    (omega arith)

@@ -1,4 +1,4 @@
-use Rattle.std.proofs.Common.{◌≡◌, suc, length, ap, arith}
+use Rattle.std.proofs.Common.{◌≡◌, suc, length, arith}
 use Rattle.image_lines.proofs.Below.{one_more, all_below}
 use Rattle.image_lines.proofs.lines.add_tasks.Goals as goal
 
@@ -8,4 +8,4 @@ loop-stage-preserved c = one_more _ _ _ c.loop-stage.stage _ c.loop-stage.invari
 pub returns : goal.returns
 returns c =
     all_below _ _ c.loop-stage.stage (suc (length c.args.job.now.stages.items)) _ c.loop-stage.invariant
-    (omega (arith, c.loop-stage-test.false, c.loop-stage.auto.stage-end, ap length c.as_slice.ensures))
+    (omega arith)

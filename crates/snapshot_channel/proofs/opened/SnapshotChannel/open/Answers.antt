@@ -1,5 +1,4 @@
-use Rattle.std.proofs.Common.{◌≡◌, ℕ, ◌+◌, List, length, ap, arith}
-use Rattle.flow_defs.specs.declared.job.Stage.{Stage}
+use Rattle.std.proofs.Common.{arith}
 use Rattle.snapshot_channel.proofs.Loops.{opening_begins, opening_ends}
 use Rattle.snapshot_channel.proofs.opened.SnapshotChannel.open.Goals as goal
 
@@ -14,5 +13,4 @@ loop-stage-preserved c = record { opening_is = c.loop-stage.invariant.opening_is
 
 pub returns : goal.returns
 returns c =
-    let len : length c.as_slice.result.now ≡ length c.args.job.now.stages.items = ap (λ (l : List Stage). length l) c.as_slice.ensures in
     opening_ends c.args.job.now c.args.base c.args.every (record { channel = c.in_ok-channel.channel; collecting = c.loop-stage.collecting; passes = c.loop-stage.passes }) c.loop-stage.stage (omega arith) c.loop-stage.invariant

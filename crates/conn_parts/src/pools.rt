@@ -61,10 +61,7 @@ fn take_out<T: Drop>(list: &mut ListOf<T>, place: usize) -> T
 {
     let last = list.as_slice().len() - 1;
     list.as_mut_slice().swap(place, last);
-    let Some(item) = list.pop() else {
-        unreachable!()
-    };
-    item
+    list.take_last()
 }
 
 // Puts an item back into its place.

@@ -81,6 +81,18 @@ impl<T> ListOf<T> {
         self.list.pop()
     }
 
+    /// Takes the last item out of a list that has one. Its place is room again.
+    pub fn take_last(&mut self) -> T
+        requires { 0 < length self.old.items }
+        ensures items { self.old.items ≡ self.new.items ++ result ∷ [] }
+        ensures room { self.new.room ≡ self.old.room + 1 }
+    {
+        match self.list.pop() {
+            Some(item) => item,
+            None => unreachable!(),
+        }
+    }
+
     /// Takes all items out and drops them. Their places are room again.
     pub fn clear(&mut self)
     where

@@ -78,9 +78,7 @@ fn deal_lanes<'a>(
     let mut lanes = lanes;
     passes.as_mut_slice().reverse();
     for cell in cells {
-        let Some(pass) = passes.pop() else {
-            unreachable!()
-        };
+        let pass = passes.take_last();
         let lane = Lane {
             cell,
             pass,

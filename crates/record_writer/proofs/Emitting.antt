@@ -17,6 +17,7 @@ use Rattle.record_writer.specs.declared.part.Part.{Part}
 use Rattle.record_writer.specs.declared.channels.Channels.{Channels}
 use Rattle.record_writer.specs.declared.supply.Supply.{Supply}
 use Rattle.record_writer.specs.Writers.{Writer, ways, ways_on, receiver_at, bytes_in, AreCut, last_put, GrewByData, PutSome, IsOpen, IsNew, HasEmitted, HasPutData, WasStopped}
+use Rattle.record_writer.specs.Segments.{all_held, lending_of}
 use Rattle.record_writer.specs.Routers.{IsSelected}
 use Rattle.record_writer.specs.Channels.{IsOpenAt, LaidSome}
 use Rattle.record_writer.specs.Lists.{IsSameAt, own_of, held_of, laid_of}
@@ -38,6 +39,8 @@ writer_of job e a channels supply emitted = record {
   passes = channels.passes.items;
   stop_pass = supply.stop_pass;
   filling = map bytes_in channels.parts.items;
+  lending = lending_of supply;
+  held = all_held channels.parts.items;
   emitted = emitted;
 }
 
@@ -144,12 +147,13 @@ none_held parts empty c = none parts empty c
 open_none : (size : ℕ) → IsOpenAt size []
 open_none size = record { unfinished = refl; buffers = tt; full = tt }
 
-pub is_new : (job : Job) (e a : ℕ) (channels : Channels) (supply : Supply) → AreNew channels.passes.items → All (λ (part : Part). bytes_in part ≡ []) channels.parts.items →
+pub is_new : (job : Job) (e a : ℕ) (channels : Channels) (supply : Supply) → AreNew channels.passes.items → All (λ (part : Part). bytes_in part ≡ []) channels.parts.items → all_held channels.parts.items ≡ 0 →
     IsNew (writer_of job e a channels supply 0) × IsOpen (writer_of job e a channels supply 0)
-is_new job e a channels supply new empty = (
+is_new job e a channels supply new empty unheld = (
   record {
     own = none;
     laid = λ c. ap (λ es. put es ++ held_of channels c) (none c) ∙ none_held channels.parts.items empty c;
+    held = unheld;
     emitted = refl;
   },
   record {

@@ -59,10 +59,10 @@ module _ (passes lent : List SendPass) (parts lent_parts : List Part) (k : ℕ) 
     abbrev pub parts_now : List Part
     parts_now = refill (length parts) parts (set lent_parts k part)
 
-    passes_set : passes_now ≡ set passes k pass
+    pub passes_set : passes_now ≡ set passes k pass
     passes_set = refilled_set passes lent k pass is
 
-    parts_set : parts_now ≡ set parts k part
+    pub parts_set : parts_now ≡ set parts k part
     parts_set = refilled_set parts lent_parts k part is_parts
 
     pub own_now : mine_at k passes_now ≡ mine pass

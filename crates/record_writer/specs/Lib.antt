@@ -1,4 +1,5 @@
 pub mod Writers
+pub mod Segments
 pub mod Routers
 pub mod Channels
 pub mod Lists

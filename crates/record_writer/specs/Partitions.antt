@@ -1,6 +1,6 @@
 -- What a task is lent to write its records: its result partition. As in Flink a result partition has a subpartition for each channel.
 use Rattle.std.specs.Prelude.{◌≡◌, ℕ, ◌<◌, ◌≤◌, ◌^◌, length}
-use Rattle.turn_cell.specs.Passes.{IsPassOf, opened_with}
+use Rattle.turn_cell.specs.Passes.{IsPassOf, opened_with, mine}
 use Rattle.flow_defs.specs.declared.job.Job.{Job}
 use Rattle.flow_defs.specs.Jobs.{IsJob, last_edge, tasks}
 use Rattle.local_pool.specs.Helds.{pool_of}
@@ -36,3 +36,4 @@ pub record IsWriterOf (job : Job) (e a : ℕ) (partition : Partition) (w : Write
   pub stride : w.stride ≡ partition.stride
   pub size : w.size ≡ partition.size
   pub pool : w.pool ≡ partition.pool.now
+  pub lending : w.lending ≡ mine partition.passes.pool

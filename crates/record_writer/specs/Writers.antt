@@ -13,6 +13,7 @@ use Rattle.flow_defs.specs.declared.job.Exchange.TheVariants.{Hash, Rebalance, F
 use Rattle.flow_defs.specs.Jobs.{tasks, exchange}
 use Rattle.flow_defs.specs.Records.{all_encoded}
 pub use Rattle.local_pool.specs.Lending.{PoolCell}
+use Rattle.local_pool.specs.declared.entry.PoolEntry.{PoolEntry}
 use Rattle.flow_defs.specs.Limits.{segment_min}
 use Rattle.subpartition.specs.declared.entry.SendEntry.{SendEntry}
 use Rattle.subpartition.specs.declared.entry.SendEntry.TheVariants.{Put, PutInline, Finish, Take, Size}
@@ -120,7 +121,8 @@ GrewTowards last own own' = GrewByData own own' ⊎ GrewUpTo last own own'
 -- ---- a writer
 
 -- Its job, and the edge and the index of its task; the cells of the edge and the places of its own among them; the size of segments; the
--- cells of its pool and of what stops the job; its passes; of each channel the bytes in the buffer that is being filled; and the count of the records emitted.
+-- cells of its pool and of what stops the job; its passes; of each channel the bytes in the buffer that is being filled; the own entries of its
+-- pass of the pool, and how many segments its channels are filling; and the count of the records emitted.
 pub record Writer : Type 0 where
   pub job : Job
   pub edge : ℕ
@@ -134,6 +136,8 @@ pub record Writer : Type 0 where
   pub passes : List SendPass
   pub stop_pass : StopPass
   pub filling : List (List ℕ)
+  pub lending : List PoolEntry
+  pub held : ℕ
   pub emitted : ℕ
 
 -- The own entries at channel c, and all the bytes that were laid down for it.
@@ -165,6 +169,8 @@ pub record IsStill (w w' : Writer) : Type 0 where
   pub same : IsSame w w'
   pub passes : w'.passes ≡ w.passes
   pub filling : w'.filling ≡ w.filling
+  pub lending : w'.lending ≡ w.lending
+  pub held : w'.held ≡ w.held
   pub emitted : w'.emitted ≡ w.emitted
 
 -- Its pass of the stop cell has seen a fault.
@@ -194,10 +200,11 @@ HasPutUpTo last w w' = (c : ℕ) → c < ways_on w.job w.edge → GrewUpTo last 
 abbrev pub HasPutTowards : SendEntry → Writer → Writer → Type 0
 HasPutTowards last w w' = (c : ℕ) → c < ways_on w.job w.edge → GrewTowards last (own_at w c) (own_at w' c)
 
--- A new one has put and laid down nothing.
+-- A new one has put and laid down nothing, and is filling no segment.
 pub record IsNew (w : Writer) : Type 0 where
   pub own : (c : ℕ) → own_at w c ≡ []
   pub laid : (c : ℕ) → laid_at w c ≡ []
+  pub held : w.held ≡ 0
   pub emitted : w.emitted ≡ 0
 
 -- It has laid down these records, one after another.

@@ -6,6 +6,7 @@ ghost use Rattle.subpartition.specs.declared.entry.SendEntry.TheVariants.{Put, P
 ghost use Rattle.subpartition.specs.Queues.{bytes_of};
 ghost use Rattle.subpartition.specs.Sending.{is_finished};
 ghost use Rattle.record_writer.specs.Writers.{bytes_in, GrewByData};
+ghost use Rattle.record_writer.specs.Segments.{NoneLost, NoneLostAt, holds, lending_of};
 ghost use Rattle.record_writer.specs.Channels.{IsTaskPass, IsPart, IsOpenAt, IsNextAt, WasEndedAt, WasMarkedAt, WasStoppedAt, IsSupply, IsSameSupply, HasSeenFault, PutIfSome, LaidSome, laid};
 
 use crate::part::{Part, write_behind};
@@ -34,6 +35,7 @@ fn put_waiting<R: Wait>(
     ensures pass { IsTaskPass cell.now pass.new }
     ensures entered { OnOk result (mine pass.new ≡ mine pass.old ++ Put (bytes_of filled) ∷ []) }
     ensures stopped { IfErr result (λ back. (back ≡ filled) × (mine pass.new ≡ mine pass.old)) × OnErr result (HasSeenFault supply.new) }
+    ensures lending { lending_of supply.new ≡ lending_of supply.old }
 {
     let mut waiting = filled;
     let mut watch = Watch::new();
@@ -69,6 +71,7 @@ pub(crate) fn put_part<R: Wait>(
     ensures part { IsPart supply.old.size part.new }
     ensures entered { OnOk result (PutIfSome (bytes_in part.old) (mine pass.old) (mine pass.new) × (bytes_in part.new ≡ [])) }
     ensures stopped { OnErr result ((mine pass.new ≡ mine pass.old) × (bytes_in part.new ≡ bytes_in part.old) × HasSeenFault supply.new) }
+    ensures none_lost { NoneLostAt supply.old supply.new (mine pass.old) (mine pass.new) part.old part.new }
 {
     let len = part.len;
     if len == 0 {
@@ -106,6 +109,7 @@ fn fill<R: Wait>(
     ensures copied { IfOk result (λ count. bytes_in part.new ≡ bytes_in part.old ++ take count (drop done (encoded line.now))) }
     ensures count { IfOk result (λ count. done + count ≤ length line.now + 4) }
     ensures stopped { OnErr result ((bytes_in part.new ≡ bytes_in part.old) × HasSeenFault supply.new) }
+    ensures none_lost { NoneLost (lending_of supply.old) (lending_of supply.new) 0 0 (holds part.old) (holds part.new) }
 {
     let mut segment = match part.segment.take() {
         Some(segment) => segment,
@@ -137,6 +141,7 @@ fn put_if_full<R: Wait>(
     ensures laid { laid (mine pass.new) part.new ≡ laid (mine pass.old) part.old }
     ensures entries { GrewByData (mine pass.old) (mine pass.new) }
     ensures stopped { OnErr result (HasSeenFault supply.new) }
+    ensures none_lost { NoneLostAt supply.old supply.new (mine pass.old) (mine pass.new) part.old part.new }
 {
     if part.len < supply.size {
         return Ok(());
@@ -166,6 +171,7 @@ pub(crate) fn lay_down<R: Wait>(
     ensures laid { OnOk result (laid (mine pass.new) part.new ≡ laid (mine pass.old) part.old ++ encoded line.now) }
     ensures entries { GrewByData (mine pass.old) (mine pass.new) }
     ensures stopped { OnErr result (LaidSome (laid (mine pass.old) part.old ++ encoded line.now) (laid (mine pass.new) part.new) × HasSeenFault supply.new) }
+    ensures none_lost { NoneLostAt supply.old supply.new (mine pass.old) (mine pass.new) part.old part.new }
 {
     let all = line.len() + 4;
     let mut done = 0;
@@ -193,6 +199,7 @@ fn finish_waiting<R: Wait>(
     ensures pass { IsTaskPass cell.now pass.new }
     ensures entered { OnOk result (mine pass.new ≡ mine pass.old ++ Finish ∷ []) }
     ensures stopped { OnErr result ((mine pass.new ≡ mine pass.old) × HasSeenFault supply.new) }
+    ensures lending { lending_of supply.new ≡ lending_of supply.old }
 {
     let mut watch = Watch::new();
     let mut pause = Pause::new();
@@ -226,6 +233,7 @@ pub(crate) fn close<R: Wait>(
     ensures part { IsPart supply.old.size part.new }
     ensures finished { OnOk result (WasEndedAt supply.old.size (mine pass.old) (mine pass.new) (laid (mine pass.old) part.old)) }
     ensures stopped { OnErr result (WasStoppedAt supply.old.size Finish (mine pass.old) (mine pass.new) (laid (mine pass.old) part.old) × HasSeenFault supply.new) }
+    ensures none_lost { NoneLostAt supply.old supply.new (mine pass.old) (mine pass.new) part.old part.new }
 {
     put_part(rt, supply, cell, pass, part)?;
     finish_waiting(rt, supply, cell, pass)
@@ -247,6 +255,7 @@ fn put_barrier_waiting<R: Wait>(
     ensures pass { IsTaskPass cell.now pass.new }
     ensures entered { OnOk result (mine pass.new ≡ mine pass.old ++ PutInline k ∷ []) }
     ensures stopped { OnErr result ((mine pass.new ≡ mine pass.old) × HasSeenFault supply.new) }
+    ensures lending { lending_of supply.new ≡ lending_of supply.old }
 {
     let mut watch = Watch::new();
     let mut pause = Pause::new();
@@ -282,6 +291,7 @@ pub(crate) fn mark<R: Wait>(
     ensures part { IsPart supply.old.size part.new }
     ensures marked { OnOk result (WasMarkedAt supply.old.size k (mine pass.old) (mine pass.new) (laid (mine pass.old) part.old) × (bytes_in part.new ≡ [])) }
     ensures stopped { OnErr result (WasStoppedAt supply.old.size (PutInline k) (mine pass.old) (mine pass.new) (laid (mine pass.old) part.old) × HasSeenFault supply.new) }
+    ensures none_lost { NoneLostAt supply.old supply.new (mine pass.old) (mine pass.new) part.old part.new }
 {
     put_part(rt, supply, cell, pass, part)?;
     put_barrier_waiting(rt, supply, cell, pass, k)

@@ -3,6 +3,7 @@ ghost use Rattle.std.specs.Prelude.{◌≡◌, ◌≢◌, ◌<◌, ◌++◌, ℕ
 ghost use Rattle.flow_defs.specs.Records.{encoded, IsShort};
 ghost use Rattle.subpartition.specs.declared.entry.SendEntry.TheVariants.{PutInline, Finish};
 ghost use Rattle.record_writer.specs.Writers.{GrewByData};
+ghost use Rattle.record_writer.specs.Segments.{NoneLostOn};
 ghost use Rattle.record_writer.specs.Channels.{IsSupply, IsSameSupply, HasSeenFault, IsOpenAt, IsNextAt, WasEndedAt, WasMarkedAt, WasStoppedAt, LaidSome};
 ghost use Rattle.record_writer.specs.Lists.{AreChannels, AreSame, IsSameAt, own_of, held_of, laid_of};
 
@@ -47,6 +48,7 @@ impl<'a> Channels<'a> {
         ensures laid { OnOk result (laid_of self.new number ≡ laid_of self.old number ++ encoded line.now) }
         ensures entries { GrewByData (own_of self.old number) (own_of self.new number) }
         ensures stopped { OnErr result (LaidSome (laid_of self.old number ++ encoded line.now) (laid_of self.new number) × HasSeenFault supply.new) }
+        ensures none_lost { NoneLostOn supply.old supply.new self.old self.new }
     {
         let cell = &self.subpartitions[self.first + number * self.stride];
         let pass = &mut self.passes.as_mut_slice()[number];
@@ -70,6 +72,7 @@ impl<'a> Channels<'a> {
         ensures others { (d : ℕ) → d ≢ number → IsSameAt d self.old self.new }
         ensures finished { OnOk result (WasEndedAt supply.old.size (own_of self.old number) (own_of self.new number) (laid_of self.old number)) }
         ensures stopped { OnErr result (WasStoppedAt supply.old.size Finish (own_of self.old number) (own_of self.new number) (laid_of self.old number) × HasSeenFault supply.new) }
+        ensures none_lost { NoneLostOn supply.old supply.new self.old self.new }
     {
         let cell = &self.subpartitions[self.first + number * self.stride];
         let pass = &mut self.passes.as_mut_slice()[number];
@@ -90,6 +93,7 @@ impl<'a> Channels<'a> {
         ensures channels { AreChannels supply.old.size (length self.old.passes.items) self.new × AreSame self.old self.new }
         ensures finished { OnOk result ((c : ℕ) → c < length self.old.passes.items → WasEndedAt supply.old.size (own_of self.old c) (own_of self.new c) (laid_of self.old c)) }
         ensures stopped { OnErr result (((c : ℕ) → c < length self.old.passes.items → WasStoppedAt supply.old.size Finish (own_of self.old c) (own_of self.new c) (laid_of self.old c)) × HasSeenFault supply.new) }
+        ensures none_lost { NoneLostOn supply.old supply.new self.old self.new }
     {
         let many = self.passes.as_slice().len();
         for number in 0..many {
@@ -116,6 +120,7 @@ impl<'a> Channels<'a> {
         ensures others { (d : ℕ) → d ≢ number → IsSameAt d self.old self.new }
         ensures marked { OnOk result (WasMarkedAt supply.old.size k (own_of self.old number) (own_of self.new number) (laid_of self.old number) × (held_of self.new number ≡ [])) }
         ensures stopped { OnErr result (WasStoppedAt supply.old.size (PutInline k) (own_of self.old number) (own_of self.new number) (laid_of self.old number) × HasSeenFault supply.new) }
+        ensures none_lost { NoneLostOn supply.old supply.new self.old self.new }
     {
         let cell = &self.subpartitions[self.first + number * self.stride];
         let pass = &mut self.passes.as_mut_slice()[number];
@@ -138,6 +143,7 @@ impl<'a> Channels<'a> {
         ensures channels { AreChannels supply.old.size (length self.old.passes.items) self.new × AreSame self.old self.new }
         ensures marked { OnOk result ((c : ℕ) → c < length self.old.passes.items → WasMarkedAt supply.old.size k (own_of self.old c) (own_of self.new c) (laid_of self.old c) × (held_of self.new c ≡ [])) }
         ensures stopped { OnErr result (((c : ℕ) → c < length self.old.passes.items → WasStoppedAt supply.old.size (PutInline k) (own_of self.old c) (own_of self.new c) (laid_of self.old c)) × HasSeenFault supply.new) }
+        ensures none_lost { NoneLostOn supply.old supply.new self.old self.new }
     {
         for number in 0..self.passes.as_slice().len() {
             self.mark(rt, supply, number, k)?;

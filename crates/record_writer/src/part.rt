@@ -2,6 +2,7 @@
 ghost use Rattle.std.specs.Prelude.{◌≡◌, ℕ, ◌+◌, ◌≤◌, ◌++◌, [], length, take, drop, All, IfOk};
 ghost use Rattle.flow_defs.specs.Records.{encoded, IsShort};
 ghost use Rattle.record_writer.specs.Writers.{bytes_in};
+ghost use Rattle.record_writer.specs.Segments.{all_held, holds};
 ghost use Rattle.record_writer.specs.Channels.{IsPart};
 
 use flow_defs::ListOf;
@@ -19,7 +20,8 @@ pub(crate) struct Part {
 impl Part {
     /// One that has no segment yet.
     pub(crate) fn new() -> Self
-        ensures { (bytes_in result ≡ []) × ((size : ℕ) → IsPart size result) }
+        ensures empty { (bytes_in result ≡ []) × ((size : ℕ) → IsPart size result) }
+        ensures held { holds result ≡ 0 }
     {
         Part {
             segment: None,
@@ -32,6 +34,7 @@ impl Part {
 pub(crate) fn new_parts(alloc: Global, many: usize) -> Result<ListOf<Part>, AllocError>
     ensures many { IfOk result (λ parts. length parts.items ≡ many) }
     ensures empty { IfOk result (λ parts. All (λ part. bytes_in part ≡ []) parts.items) }
+    ensures held { IfOk result (λ parts. all_held parts.items ≡ 0) }
     ensures parts { (size : ℕ) → IfOk result (λ parts. All (IsPart size) parts.items) }
 {
     let mut parts = ListOf::new(alloc);

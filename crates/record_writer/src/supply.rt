@@ -1,7 +1,10 @@
 // Where a writer's segments come from, and what stops it while it waits.
 // The writer has its task's pass of the stop cell, and looks there only where it waits.
-ghost use Rattle.std.specs.Prelude.{◌≡◌, ◌≤◌, length, All, IfSome, IfOk, OnErr};
+ghost use Rattle.std.specs.Prelude.{◌≡◌, ◌≤◌, [], ◌∷◌, ◌++◌, length, All, IfSome, IfOk, OnOk, OnErr};
 ghost use Rattle.flow_defs.specs.Limits.{segment_min};
+ghost use Rattle.local_pool.specs.declared.entry.PoolEntry.TheVariants.{Lent, Returned};
+ghost use Rattle.local_pool.specs.Lending.{lent_in_turn};
+ghost use Rattle.record_writer.specs.Segments.{NoneLost, all_held, lending_of};
 ghost use Rattle.record_writer.specs.Channels.{IsPart, IsSupply, IsSameSupply, HasSeenFault};
 
 use crate::part::Part;
@@ -33,6 +36,7 @@ impl<'a, 'p> Supply<'a, 'p> {
         ensures supply { IsSupply self.new × IsSameSupply self.old self.new }
         ensures stop_pass { self.new.stop_pass ≡ self.old.stop_pass }
         ensures size { IfSome result (λ segment. (length segment ≡ self.new.size) × (segment_min ≤ self.new.size)) }
+        ensures lent { lending_of self.new ≡ lending_of self.old ++ lent_in_turn result }
     {
         let Some(pass) = self.pool_pass.take() else {
             unreachable!()
@@ -51,7 +55,9 @@ impl<'a, 'p> Supply<'a, 'p> {
         requires { IsSupply self.old }
         ensures supply { IsSupply self.new × IsSameSupply self.old self.new }
         ensures size { IfOk result (λ segment. (length segment ≡ self.new.size) × (segment_min ≤ self.new.size)) }
+        ensures lent { OnOk result (lending_of self.new ≡ lending_of self.old ++ Lent ∷ []) }
         ensures stopped { OnErr result (HasSeenFault self.new) }
+        ensures not_lent { OnErr result (lending_of self.new ≡ lending_of self.old) }
     {
         let mut watch = Watch::new();
         let mut pause = Pause::new();
@@ -73,6 +79,7 @@ impl<'a, 'p> Supply<'a, 'p> {
         requires size { length segment ≡ self.old.size }
         ensures supply { IsSupply self.new × IsSameSupply self.old self.new }
         ensures stop_pass { self.new.stop_pass ≡ self.old.stop_pass }
+        ensures returned { lending_of self.new ≡ lending_of self.old ++ Returned ∷ [] }
     {
         let Some(pass) = self.pool_pass.take() else {
             unreachable!()
@@ -86,6 +93,7 @@ impl<'a, 'p> Supply<'a, 'p> {
         requires parts { All (IsPart self.old.size) parts.items }
         ensures supply { IsSupply self.new × IsSameSupply self.old self.new }
         ensures stop_pass { self.new.stop_pass ≡ self.old.stop_pass }
+        ensures none_lost { NoneLost (lending_of self.old) (lending_of self.new) 0 0 (all_held parts.items) 0 }
     {
         let mut parts = parts;
         while let Some(part) = parts.pop() {

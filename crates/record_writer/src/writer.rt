@@ -2,10 +2,11 @@
 // The passes come as they were made. Of any other it isn't known before a turn that what it has seen is a
 // history.
 ghost use Rattle.std.specs.Prelude.{◌≡◌, ◌++◌, [], ◌∷◌, IfOk, IfErr, OnOk, OnErr};
-ghost use Rattle.turn_cell.specs.Passes.{IsPassOf};
+ghost use Rattle.turn_cell.specs.Passes.{IsPassOf, mine};
 ghost use Rattle.flow_defs.specs.Records.{IsShort};
 ghost use Rattle.record_writer.specs.Partitions.{IsPartitionOf, IsWriterOf};
 ghost use Rattle.subpartition.specs.declared.entry.SendEntry.TheVariants.{PutInline, Finish};
+ghost use Rattle.record_writer.specs.Segments.{HasLostNone, NoneLost, all_put};
 ghost use Rattle.record_writer.specs.Writers.{IsSame, IsStill, IsOpen, IsNew, HasSeenFault, IsNextBarrier, HasEmitted, WasStopped, HasFinished, HasMarked, HasPutData, HasPutTowards, AreOwnAt, ways_on};
 
 use crate::channels::Channels;
@@ -51,11 +52,12 @@ pub struct RecordWriter<'a, 'p> {
 impl<'a, 'p> Model for RecordWriter<'a, 'p> {
     ghost use Rattle.std.specs.Prelude.{map};
     ghost use Rattle.record_writer.specs.Writers.{Writer, bytes_in};
+    ghost use Rattle.record_writer.specs.Segments.{all_held, lending_of};
     ghost use Rattle.record_writer.specs.Lists.{IsWhole};
 
     ghost Value = { Writer };
 
-    ghost view = { λ w. record { job = w.router.job.now; edge = w.router.edge; index = w.router.index; cells = w.channels.subpartitions.now; first = w.channels.first; stride = w.channels.stride; size = w.supply.size; pool = w.supply.pool.now; stop = w.supply.stop.now; passes = w.channels.passes.items; stop_pass = w.supply.stop_pass; filling = map bytes_in w.channels.parts.items; emitted = w.emitted } };
+    ghost view = { λ w. record { job = w.router.job.now; edge = w.router.edge; index = w.router.index; cells = w.channels.subpartitions.now; first = w.channels.first; stride = w.channels.stride; size = w.supply.size; pool = w.supply.pool.now; stop = w.supply.stop.now; passes = w.channels.passes.items; stop_pass = w.supply.stop_pass; filling = map bytes_in w.channels.parts.items; lending = lending_of w.supply; held = all_held w.channels.parts.items; emitted = w.emitted } };
 
     ghost invariant = { λ w. IsWhole w.router.job.now w.router.edge w.channels w.supply };
 }
@@ -120,6 +122,7 @@ impl<'a, 'p> RecordWriter<'a, 'p> {
         ensures emitted { OnOk result (IsOpen self.new × HasEmitted self.old self.new («record».now ∷ [])) }
         ensures stopped { OnErr result (WasStopped self.old self.new («record».now ∷ [])) }
         ensures entries { HasPutData self.old self.new }
+        ensures none_lost { HasLostNone self.old self.new }
     {
         let number = self.router.select(record, self.emitted);
         self.channels
@@ -137,6 +140,7 @@ impl<'a, 'p> RecordWriter<'a, 'p> {
         ensures marked { OnOk result (IsOpen self.new × HasMarked self.old self.new k) }
         ensures stopped { OnErr result (WasStopped self.old self.new []) }
         ensures entries { OnErr result (HasPutTowards (PutInline k) self.old self.new) }
+        ensures none_lost { HasLostNone self.old self.new }
     {
         self.channels.mark_all(rt, &mut self.supply, k)
     }
@@ -148,6 +152,7 @@ impl<'a, 'p> RecordWriter<'a, 'p> {
         ensures finished { OnOk result (HasFinished self.old self.new) }
         ensures stopped { OnErr result (WasStopped self.old self.new []) }
         ensures entries { OnErr result (HasPutTowards Finish self.old self.new) }
+        ensures none_lost { HasLostNone self.old self.new }
     {
         self.channels.close_all(rt, &mut self.supply)
     }
@@ -175,6 +180,7 @@ impl<'a, 'p> RecordWriter<'a, 'p> {
         ensures passes { AreOwnAt self.entry.cells self.entry.first self.entry.stride (ways_on self.entry.job self.entry.edge) result.0.subpartitions.items }
         ensures own { result.0.subpartitions.items ≡ self.entry.passes }
         ensures pool { IsPassOf self.entry.pool result.0.pool }
+        ensures none_lost { NoneLost self.entry.lending (mine result.0.pool) (all_put self.entry.passes) (all_put result.0.subpartitions.items) self.entry.held 0 }
         ensures stop { IsPassOf self.entry.stop result.1 × (result.1 ≡ self.entry.stop_pass) }
     {
         let RecordWriter {

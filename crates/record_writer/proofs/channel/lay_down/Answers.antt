@@ -4,6 +4,7 @@ use Rattle.flow_defs.specs.Records.{encoded}
 use Rattle.record_writer.specs.Channels.{laid}
 use Rattle.record_writer.proofs.Entries.{grew_on}
 use Rattle.record_writer.proofs.Putting.{on_err, laid_same, laid_more, laid_some, laid_all, encoded_length, same_on}
+use Rattle.record_writer.proofs.Segments.{lost_none_at, lost_none_filling}
 use Rattle.record_writer.proofs.channel.lay_down.Goals as goal
 
 pub returns-in_err-put_if_full-clause-stopped : goal.returns-in_err-put_if_full-clause-stopped
@@ -38,6 +39,7 @@ loop-round-preserved g c =
       laid_is = laid_more (mine c.put_if_full.new.pass) c.put_if_full.new.part c.fill.new.part was before (encoded c.args.line.now) c.loop-round.done c.in_ok-done.field-0
           c.in_ok-put_if_full.ensures.laid c.loop-round.invariant.laid_is c.in_ok-done.ensures.copied;
       entries = grew_on (mine c.args.pass.now) (mine c.loop-round.pass) (mine c.put_if_full.new.pass) c.loop-round.invariant.entries c.put_if_full.ensures.entries;
+      none_lost = lost_none_filling c.args.supply.now c.put_if_full.new.supply c.fill.new.supply (mine c.args.pass.now) (mine c.put_if_full.new.pass) c.args.part.now c.put_if_full.new.part c.fill.new.part (lost_none_at c.args.supply.now c.loop-round.supply c.put_if_full.new.supply (mine c.args.pass.now) (mine c.loop-round.pass) (mine c.put_if_full.new.pass) c.args.part.now c.loop-round.part c.put_if_full.new.part c.loop-round.invariant.none_lost c.put_if_full.ensures.none_lost) c.fill.ensures.none_lost;
     }
 
 pub returns-in_err-put_if_full-clause-entries : goal.returns-in_err-put_if_full-clause-entries
@@ -48,3 +50,13 @@ returns-then-done-all-clause-entries g c = grew_on (mine c.args.pass.now) (mine 
 
 pub returns-in_err-done-clause-entries : goal.returns-in_err-done-clause-entries
 returns-in_err-done-clause-entries g c = grew_on (mine c.args.pass.now) (mine c.loop-round.pass) (mine c.put_if_full.new.pass) c.loop-round.invariant.entries c.put_if_full.ensures.entries
+
+pub returns-in_err-put_if_full-clause-none_lost : goal.returns-in_err-put_if_full-clause-none_lost
+returns-in_err-put_if_full-clause-none_lost g c = lost_none_at c.args.supply.now c.loop-round.supply c.put_if_full.new.supply (mine c.args.pass.now) (mine c.loop-round.pass) (mine c.put_if_full.new.pass) c.args.part.now c.loop-round.part c.put_if_full.new.part c.loop-round.invariant.none_lost c.put_if_full.ensures.none_lost
+
+pub returns-then-done-all-clause-none_lost : goal.returns-then-done-all-clause-none_lost
+returns-then-done-all-clause-none_lost g c = lost_none_at c.args.supply.now c.loop-round.supply c.put_if_full.new.supply (mine c.args.pass.now) (mine c.loop-round.pass) (mine c.put_if_full.new.pass) c.args.part.now c.loop-round.part c.put_if_full.new.part c.loop-round.invariant.none_lost c.put_if_full.ensures.none_lost
+
+pub returns-in_err-done-clause-none_lost : goal.returns-in_err-done-clause-none_lost
+returns-in_err-done-clause-none_lost g c =
+    lost_none_filling c.args.supply.now c.put_if_full.new.supply c.fill.new.supply (mine c.args.pass.now) (mine c.put_if_full.new.pass) c.args.part.now c.put_if_full.new.part c.fill.new.part (lost_none_at c.args.supply.now c.loop-round.supply c.put_if_full.new.supply (mine c.args.pass.now) (mine c.loop-round.pass) (mine c.put_if_full.new.pass) c.args.part.now c.loop-round.part c.put_if_full.new.part c.loop-round.invariant.none_lost c.put_if_full.ensures.none_lost) c.fill.ensures.none_lost

@@ -1,10 +1,13 @@
+use Rattle.std.proofs.Common.{refl, ap}
 use Rattle.std.proofs.lemmas.Result.{on_ok_weaker, on_err_weaker}
 use Rattle.turn_cell.specs.Passes.{mine}
 use Rattle.subpartition.specs.declared.entry.SendEntry.TheVariants.{PutInline}
 use Rattle.record_writer.specs.Writers.{bytes_in}
+use Rattle.record_writer.specs.Segments.{buffers_put}
 use Rattle.record_writer.proofs.Entries.{grew_one, data_keeps_next}
-use Rattle.record_writer.proofs.Putting.{on_err, put_keeps_unfinished}
+use Rattle.record_writer.proofs.Putting.{either_way, on_err, put_keeps_unfinished}
 use Rattle.record_writer.proofs.Ending.{stopped_before, stopped_at, marked_at}
+use Rattle.record_writer.proofs.Segments.{no_more, lost_none_then}
 use Rattle.record_writer.proofs.channel.mark.Goals as goal
 
 pub put_barrier_waiting-requires-clause-open_end : goal.put_barrier_waiting-requires-clause-open_end
@@ -35,3 +38,11 @@ returns-clause-stopped g c =
       stopped.1,
     ))
     c.put_barrier_waiting.ensures.stopped
+
+pub returns-clause-none_lost : goal.returns-clause-none_lost
+returns-clause-none_lost g c =
+    let mid = mine c.put_part.new.pass in let own' = mine c.put_barrier_waiting.new.pass in
+    lost_none_then c.args.supply.now c.put_part.new.supply c.put_barrier_waiting.new.supply (mine c.args.pass.now) mid own' c.args.part.now c.put_part.new.part c.put_part.ensures.none_lost c.put_barrier_waiting.ensures.lending
+    (either_way c.put_barrier_waiting.result c.put_barrier_waiting.ensures.entered c.put_barrier_waiting.ensures.stopped
+    (λ is. no_more mid own' (PutInline c.args.k) refl is)
+    (λ stopped. ap (λ es. buffers_put es) stopped.0))

@@ -5,6 +5,7 @@ use Rattle.record_writer.specs.Lists.{own_of, laid_of}
 use Rattle.record_writer.proofs.Putting.{on_err}
 use Rattle.record_writer.proofs.Ending.{ended_or_stopped}
 use Rattle.record_writer.proofs.InOrder.{stopped_here}
+use Rattle.record_writer.proofs.Segments.{lost_none_on}
 use Rattle.record_writer.proofs.channels.Channels.close_all.Goals as goal
 
 pub returns-in_err-close-clause-stopped : goal.returns-in_err-close-clause-stopped
@@ -20,3 +21,6 @@ returns-in_err-close-clause-stopped g c =
 
 pub returns-clause-finished : goal.returns-clause-finished
 returns-clause-finished g c = λ d low. c.loop-number.invariant.closed d (omega (arith, low, c.loop-number-test.false, c.loop-number.auto.number-end, ap length c.as_slice-many.ensures))
+
+pub returns-in_err-close-clause-none_lost : goal.returns-in_err-close-clause-none_lost
+returns-in_err-close-clause-none_lost g c = lost_none_on c.args.supply.now c.loop-number.supply c.close.new.supply c.args.self.now c.loop-number.self c.close.new.self c.loop-number.invariant.none_lost c.close.ensures.none_lost

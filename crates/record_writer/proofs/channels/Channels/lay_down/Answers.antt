@@ -6,6 +6,8 @@ use Rattle.record_writer.specs.Lists.{own_of}
 use Rattle.record_writer.specs.Channels.{IsOpenAt}
 use Rattle.record_writer.specs.Writers.{place_of, GrewByData}
 use Rattle.record_writer.proofs.Lending.{some_there, own_was, own_now, laid_was, laid_now, own_else, held_elsewhere, parts_many, parts_fit, own_lent, cell_there}
+use Rattle.record_writer.specs.Segments.{lending_of}
+use Rattle.record_writer.proofs.Segments.{none_lost_here}
 use Rattle.record_writer.proofs.channels.Channels.lay_down.Goals as goal
 
 pub returns-clause-channels : goal.returns-clause-channels
@@ -62,3 +64,9 @@ returns-clause-entries g c =
     let was = own_was old.passes.items c.as_mut_slice.result.now old.parts.items c.as_mut_slice-2.result.now c.args.number c.index-as_mut_slice-number.result c.index-as_mut_slice-number-2.result c.as_mut_slice.ensures.value c.as_mut_slice-2.ensures.value c.requires.within many c.index-as_mut_slice-number.is c.index-as_mut_slice-number-2.is in
     let now = own_now old.passes.items c.as_mut_slice.result.now old.parts.items c.as_mut_slice-2.result.now c.args.number c.index-as_mut_slice-number.result c.index-as_mut_slice-number-2.result c.as_mut_slice.ensures.value c.as_mut_slice-2.ensures.value c.requires.within many c.index-as_mut_slice-number.is c.index-as_mut_slice-number-2.is c.lay_down.new.pass c.lay_down.new.part in
     subst (λ es. GrewByData (own_of old c.args.number) es) (sym now) (subst (λ es. GrewByData es (mine c.lay_down.new.pass)) (sym was) c.lay_down.ensures.entries)
+
+pub returns-clause-none_lost : goal.returns-clause-none_lost
+returns-clause-none_lost g c =
+    let old = c.args.self.now in
+    let many : c.args.number < length old.parts.items = omega (arith, c.requires.channels.parts_are, c.requires.within) in
+    none_lost_here old.passes.items c.as_mut_slice.result.now old.parts.items c.as_mut_slice-2.result.now c.args.number c.index-as_mut_slice-number.result c.index-as_mut_slice-number-2.result c.as_mut_slice.ensures.value c.as_mut_slice-2.ensures.value c.requires.within many c.index-as_mut_slice-number.is c.index-as_mut_slice-number-2.is c.lay_down.new.pass c.lay_down.new.part (lending_of c.args.supply.now) (lending_of c.lay_down.new.supply) c.lay_down.ensures.none_lost

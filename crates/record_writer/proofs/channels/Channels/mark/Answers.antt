@@ -4,6 +4,8 @@ use Rattle.subpartition.specs.declared.entry.SendEntry.TheVariants.{PutInline}
 use Rattle.record_writer.specs.Writers.{place_of}
 use Rattle.record_writer.specs.Channels.{WasMarkedAt, WasStoppedAt}
 use Rattle.record_writer.proofs.Lending.{said_there, own_was, own_now, held_now, laid_was, own_else, held_elsewhere, parts_many, parts_fit, own_lent, cell_there}
+use Rattle.record_writer.specs.Segments.{lending_of}
+use Rattle.record_writer.proofs.Segments.{none_lost_here}
 use Rattle.record_writer.proofs.channels.Channels.mark.Goals as goal
 
 pub returns-clause-channels : goal.returns-clause-channels
@@ -48,3 +50,9 @@ returns-clause-stopped g c =
     let now = own_now old.passes.items c.as_mut_slice.result.now old.parts.items c.as_mut_slice-2.result.now c.args.number c.index-as_mut_slice-number.result c.index-as_mut_slice-number-2.result c.as_mut_slice.ensures.value c.as_mut_slice-2.ensures.value c.requires.within many c.index-as_mut_slice-number.is c.index-as_mut_slice-number-2.is c.mark.new.pass c.mark.new.part in
     let laid = laid_was old.passes.items c.as_mut_slice.result.now old.parts.items c.as_mut_slice-2.result.now c.args.number c.index-as_mut_slice-number.result c.index-as_mut_slice-number-2.result c.as_mut_slice.ensures.value c.as_mut_slice-2.ensures.value c.requires.within many c.index-as_mut_slice-number.is c.index-as_mut_slice-number-2.is in
     on_err_weaker c.mark.result (λ h. (said_there (WasStoppedAt c.args.supply.now.size (PutInline c.args.k)) _ _ _ _ _ _ was now laid h.0, h.1)) c.mark.ensures.stopped
+
+pub returns-clause-none_lost : goal.returns-clause-none_lost
+returns-clause-none_lost g c =
+    let old = c.args.self.now in
+    let many : c.args.number < length old.parts.items = omega (arith, c.requires.channels.parts_are, c.requires.within) in
+    none_lost_here old.passes.items c.as_mut_slice.result.now old.parts.items c.as_mut_slice-2.result.now c.args.number c.index-as_mut_slice-number.result c.index-as_mut_slice-number-2.result c.as_mut_slice.ensures.value c.as_mut_slice-2.ensures.value c.requires.within many c.index-as_mut_slice-number.is c.index-as_mut_slice-number-2.is c.mark.new.pass c.mark.new.part (lending_of c.args.supply.now) (lending_of c.mark.new.supply) c.mark.ensures.none_lost

@@ -5,6 +5,7 @@ use Rattle.record_writer.specs.Lists.{own_of, laid_of}
 use Rattle.record_writer.proofs.Putting.{on_err}
 use Rattle.record_writer.proofs.Ending.{marked_or_stopped}
 use Rattle.record_writer.proofs.InOrder.{stopped_here}
+use Rattle.record_writer.proofs.Segments.{lost_none_on}
 use Rattle.record_writer.proofs.channels.Channels.mark_all.Goals as goal
 
 pub returns-in_err-mark-clause-stopped : goal.returns-in_err-mark-clause-stopped
@@ -20,3 +21,6 @@ returns-in_err-mark-clause-stopped g c =
 
 pub returns-clause-marked : goal.returns-clause-marked
 returns-clause-marked g c = λ d low. c.loop-number.invariant.marked d (omega (arith, low, c.loop-number-test.false, c.loop-number.auto.number-end, ap length c.as_slice-number-end.ensures))
+
+pub returns-in_err-mark-clause-none_lost : goal.returns-in_err-mark-clause-none_lost
+returns-in_err-mark-clause-none_lost g c = lost_none_on c.args.supply.now c.loop-number.supply c.mark.new.supply c.args.self.now c.loop-number.self c.mark.new.self c.loop-number.invariant.none_lost c.mark.ensures.none_lost

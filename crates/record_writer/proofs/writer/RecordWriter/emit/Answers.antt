@@ -35,3 +35,9 @@ returns-in_err-lay_down-clause-entries g c =
     (has_put_data w.router.job.now w.router.edge w.router.index w.emitted c.select-number.result c.args.record.now c.select-number.ensures
     w.channels c.lay_down.new.self w.supply c.lay_down.new.supply w.emitted c.in_err-lay_down.ensures.supply.1.size c.in_err-lay_down.ensures.others c.in_err-lay_down.ensures.is_open
     c.in_err-lay_down.ensures.entries)
+
+pub returns-clause-none_lost : goal.returns-clause-none_lost
+returns-clause-none_lost g c = rw (← c.self.view_is) c.lay_down.ensures.none_lost
+
+pub returns-in_err-lay_down-clause-none_lost : goal.returns-in_err-lay_down-clause-none_lost
+returns-in_err-lay_down-clause-none_lost g c = rw (← c.self.view_is) c.lay_down.ensures.none_lost

@@ -20,3 +20,6 @@ returns-clause-entries g c =
     let w = c.self.inside in
     rw (← c.self.view_is)
     (on_err_weaker c.close_all.result (λ h. (has_stopped w.router.job.now w.router.edge w.router.index w.channels c.close_all.new.self w.supply c.close_all.new.supply w.emitted c.self.invariant.channels_are.own.many_are Finish h.0 h.1).1) c.close_all.ensures.stopped)
+
+pub returns-clause-none_lost : goal.returns-clause-none_lost
+returns-clause-none_lost g c = rw (← c.self.view_is) c.close_all.ensures.none_lost

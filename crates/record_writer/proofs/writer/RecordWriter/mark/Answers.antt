@@ -29,3 +29,6 @@ returns-clause-entries g c =
     let w = c.self.inside in
     rw (← c.self.view_is)
     (on_err_weaker c.mark_all.result (λ h. (has_stopped w.router.job.now w.router.edge w.router.index w.channels c.mark_all.new.self w.supply c.mark_all.new.supply w.emitted c.self.invariant.channels_are.own.many_are (PutInline c.args.k) h.0 h.1).1) c.mark_all.ensures.stopped)
+
+pub returns-clause-none_lost : goal.returns-clause-none_lost
+returns-clause-none_lost g c = rw (← c.self.view_is) c.mark_all.ensures.none_lost

@@ -1,22 +1,16 @@
 -- What is read of an image, part by part.
-use Rattle.std.specs.Prelude.{◌≡◌, ℕ, suc, ◌+◌, ◌<◌, ◌≤◌, ◌^◌, Bool, true, List, [], ◌++◌, length, take, drop, flat_map, zip, slice_index, Option, Some, None, All}
+use Rattle.std.specs.Prelude.{◌≡◌, ℕ, suc, ◌<◌, ◌^◌, Bool, true, List, [], ◌++◌, length, flat_map, zip, slice_index, All}
 use Rattle.std.specs.FinMap.{entries}
 use Rattle.flow_defs.specs.declared.job.Job.{Job}
 use Rattle.flow_defs.specs.declared.image.TakeRun.{TakeRun}
 use Rattle.flow_defs.specs.Items.{Items}
 use Rattle.flow_defs.specs.Tables.{Values}
-use Rattle.flow_defs.specs.Records.{first_record}
 use Rattle.flow_defs.specs.Jobs.{tasks}
 use Rattle.plain_machine.specs.Places.{receiver_place}
 use Rattle.plain_machine.specs.Images.{items_at, AreRuns, AreSpans, HasShortKeys}
 use Rattle.plain_machine.specs.Spelling.{counted, source_part, row_part, run_part, channel_part, spelling, CanSpell}
 use Rattle.flow_defs.specs.declared.image.Image.{Image}
 use Rattle.channel_state.specs.Contents.{FitsItsText}
-
--- The bytes begin with the record of this length, if with one.
-abbrev pub IsRecordAt : List ℕ → Option ℕ → Type 0
-IsRecordAt bytes None = first_record bytes ≡ None
-IsRecordAt bytes (Some len) = (first_record bytes ≡ Some (take len (drop 4 bytes), drop len (drop 4 bytes))) × (4 + len ≤ length bytes)
 
 -- Each is below 256.
 abbrev pub IsBytes : List ℕ → Type 0

@@ -9,7 +9,6 @@ ghost use Rattle.channel_state.specs.Outcomes.{Gives, Passes};
 
 use crate::TEXT_MOST;
 use crate::places::is_channel;
-use crate::records::are_records;
 use flow_defs::RECORD_MAX;
 use job_text::{JobShape, read_shape};
 
@@ -252,4 +251,11 @@ fn is_key(before: Option<&[u8]>, key: &[u8]) -> bool
         None => true,
         Some(other) => other.cmp(key).is_lt(),
     }
+}
+
+// Whether two pieces, laid end to end, are records, as the format tests it.
+fn are_records(first: &[u8], second: &[u8]) -> bool
+    ensures { result ≡ are_records (first.now ++ second.now) }
+{
+    record_spans::are_records(first, second)
 }

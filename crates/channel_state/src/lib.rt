@@ -1,8 +1,8 @@
 //! The bytes in which a checkpoint's image is kept: `write_image` spells an image, and `read_image` reads it
 //! again.
 //!
-//! It stands on plain_machine, whose definitions say what an image means and how it is spelled, and on
-//! job_text, since an image holds the text of its job. Contracts see an image by what it holds.
+//! It stands on plain_machine, whose definitions say what an image means and how it is spelled, on job_text,
+//! since an image holds the text of its job, and on record_spans, as what it saves are records. Contracts see an image by what it holds.
 #![tactic(auto)]
 
 mod check;
@@ -10,7 +10,6 @@ mod cursor;
 mod fault;
 mod places;
 mod read;
-mod records;
 mod write;
 
 pub use fault::{ImageFault, WriteFault};

@@ -1,13 +1,12 @@
 -- What keeps an image from being stored. That the pieces are looked at once more before an image is
 -- stored is this project's own choice.
-use Rattle.std.specs.Prelude.{◌≡◌, ℕ, ◌+◌, ◌≤◌, true, List, [], length, take, drop, Option, Some, None}
+use Rattle.std.specs.Prelude.{◌≡◌, ℕ, true, [], Option, Some, None}
 use Rattle.flow_defs.specs.declared.job.Job.{Job}
 use Rattle.flow_defs.specs.declared.image.Image.{Image}
 use Rattle.flow_defs.specs.declared.cause.PeerFault.{PeerFault}
 use Rattle.flow_defs.specs.declared.cause.PeerFault.TheVariants.{Left, Barrier}
 use Rattle.flow_defs.specs.Jobs.{is_channel}
 use Rattle.plain_machine.specs.Images.{saved, AreSpans}
-use Rattle.record_spans.specs.Spans.{BeginsWith}
 
 -- What is saved of each channel encodes records.
 abbrev pub AreAllRecords : Job → Image → Type 0
@@ -23,8 +22,3 @@ IsFaultOf job image None = AreAllRecords job image × (image.final_one ≡ true 
 IsFaultOf job image (Some Left) = AreAllRecords job image → ⊥
 IsFaultOf job image (Some Barrier) = AreAllRecords job image × (image.final_one ≡ true) × (IsNothingSaved job image → ⊥)
 IsFaultOf job image (Some fault) = ⊥
-
--- A record is encoded at the front of the bytes, of this length, and these follow it; or else no records span them.
-abbrev pub IsRecordAt : List ℕ → Option ℕ → Type 0
-IsRecordAt rest None = AreSpans rest → ⊥
-IsRecordAt rest (Some len) = BeginsWith rest (take len (drop 4 rest)) (drop (4 + len) rest) × (4 + len ≤ length rest)

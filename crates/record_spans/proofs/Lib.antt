@@ -1,3 +1,4 @@
 pub mod Lengths
 pub mod Parts
 pub mod SpanLemmas
+pub mod PieceLemmas

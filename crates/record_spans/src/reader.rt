@@ -119,7 +119,8 @@ impl Reader {
 }
 
 // What bytes begin with: less than a whole record, a length that is no record's, or a record of `len` bytes.
-enum Front {
+#[derive(Drop)]
+pub(crate) enum Front {
     Cut,
     TooLong { len: u32 },
     Record { len: usize },
@@ -143,7 +144,7 @@ fn front_of(bytes: &[u8]) -> Front
 
 // The length at the front of an encoding.
 #[tactic(auto, unfolding(flow_defs::specs::Records::length_bytes))]
-fn front_length(bytes: &[u8]) -> u32
+pub(crate) fn front_length(bytes: &[u8]) -> u32
     requires { 4 ≤ length bytes.now }
     ensures { length_bytes result ≡ take 4 bytes.now }
 {

@@ -11,11 +11,12 @@ use Rattle.input_channel.specs.declared.entry.ReceiveEntry.{ReceiveEntry}
 use Rattle.input_channel.specs.declared.entry.ReceiveEntry.TheVariants.{Added, Shut}
 use Rattle.local_pool.specs.declared.entry.PoolEntry.{PoolEntry}
 use Rattle.local_pool.specs.declared.entry.PoolEntry.TheVariants as pool
-use Rattle.local_pool.specs.Lending.{PoolPass}
+use Rattle.local_pool.specs.Lending.{PoolPass, is_lent, is_returned}
+use Rattle.input_channel.specs.Legal.{is_added}
 use Rattle.conn_parts.specs.declared.share.SharePasses.{SharePasses}
 use Rattle.conn_parts.specs.Shares.{mine_at, GrewAt}
 use Rattle.conn_receive.specs.Turning.{InputPass, WasRefusedWith}
-use Rattle.conn_receive.specs.Asking.{is_added, is_lent, is_returned, counts_to, added_at, added_to, Asked, AskedAt, AskedFor}
+use Rattle.conn_receive.specs.Asking.{counts_to, added_at, added_to, Asked, AskedAt, AskedFor}
 
 -- ---- counts of entries
 

@@ -1,28 +1,14 @@
 -- Which pools the loop that reads items asks for floating segments, and what becomes of them. That each gate has a pool of floating
 -- buffers for its channels is as in Flink's network stack; the loop is this project's own choice.
-use Rattle.std.specs.Prelude.{◌≡◌, ◌≢◌, ℕ, suc, ◌+◌, ◌==◌, if◌then◌else◌, Bool, true, false, List, [], ◌∷◌, ◌++◌, count_by}
+use Rattle.std.specs.Prelude.{◌≡◌, ◌≢◌, ℕ, suc, ◌+◌, ◌==◌, if◌then◌else◌, List, [], ◌∷◌, ◌++◌, count_by}
 use Rattle.flow_defs.specs.declared.task.ChannelId.{ChannelId}
 use Rattle.input_channel.specs.declared.entry.ReceiveEntry.{ReceiveEntry}
-use Rattle.input_channel.specs.declared.entry.ReceiveEntry.TheVariants.{Added}
+use Rattle.input_channel.specs.Legal.{is_added}
 use Rattle.local_pool.specs.declared.entry.PoolEntry.{PoolEntry}
-use Rattle.local_pool.specs.declared.entry.PoolEntry.TheVariants.{Lent, Returned}
-use Rattle.local_pool.specs.Lending.{PoolPass}
+use Rattle.local_pool.specs.Lending.{PoolPass, is_lent, is_returned}
 use Rattle.conn_parts.specs.declared.share.SharePasses.{SharePasses}
 use Rattle.conn_parts.specs.Shares.{mine_at, GrewAt}
 use Rattle.conn_receive.specs.Turning.{InputPass}
-
--- Whether a floating segment came to a channel; whether a pool lent one, or got one back.
-abbrev pub is_added : ReceiveEntry → Bool
-is_added Added = true
-is_added e = false
-
-abbrev pub is_lent : PoolEntry → Bool
-is_lent Lent = true
-is_lent Returned = false
-
-abbrev pub is_returned : PoolEntry → Bool
-is_returned Lent = false
-is_returned Returned = true
 
 -- What counts for a receiving task of what counts on a channel: all, where the channel leads to it.
 abbrev pub counts_to : ℕ → ChannelId → ℕ → ℕ

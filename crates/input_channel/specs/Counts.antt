@@ -116,3 +116,20 @@ numbers_from n (e ∷ es) = numbers_from (numbers_one n e) es
 
 abbrev pub numbers : List ReceiveEntry → Numbers
 numbers es = numbers_from at_opening es
+
+-- ---- the segments that are set free
+
+-- A buffer that comes back sets one free, for the pool: a floating buffer its own, and an exclusive one that of a floating buffer, where
+-- that is let go. Nothing else does.
+abbrev pub frees : Counts → ReceiveEntry → ℕ
+frees c (Returned true) = if lets_go c then 1 else 0
+frees c (Returned false) = 1
+frees c e = 0
+
+-- How many these entries set free, behind these numbers and from the opening on.
+abbrev pub freed_from : Numbers → List ReceiveEntry → ℕ
+freed_from n [] = 0
+freed_from n (e ∷ es) = frees n.counts e + freed_from (numbers_one n e) es
+
+abbrev pub freed : List ReceiveEntry → ℕ
+freed es = freed_from at_opening es

@@ -62,6 +62,14 @@ asks es = count_by is_ask es
 abbrev pub resumes : List ReceiveEntry → ℕ
 resumes es = count_by is_resume es
 
+-- Whether a floating buffer came, and how many did.
+abbrev pub is_added : ReceiveEntry → Bool
+is_added Added = true
+is_added e = false
+
+abbrev pub adds : List ReceiveEntry → ℕ
+adds es = count_by is_added es
+
 -- The credit that was told to the sender, beside the 2 of the partition request.
 abbrev pub credit_of : ReceiveEntry → ℕ
 credit_of (Credit given) = given

@@ -1,6 +1,7 @@
 -- What a gate tells of the passes that it has, and what a gate is when it is made.
 use Rattle.std.proofs.Common.{◌≡◌, ◌≢◌, ℕ, zero, suc, ◌+◌, ◌<◌, Bool, true, false, List, [], ◌∷◌, ◌++◌, map, length, get_or, take, drop, reverse, refl, sym, ap, subst, ◌∙◌, arith, Result, Ok, Err, Option, Some, None, true≢false, append-nil}
 use Rattle.std.specs.Prelude.{slice_get, All, IfSome, IfOk, OnOk, is_some, is_err}
+use Rattle.input_channel.specs.Counts.{freed}
 use Rattle.input_gate.specs.declared.gate.GateEnd.{GateEnd}
 use Rattle.input_gate.specs.States.{GateState, LookedFirst, AllCameBack}
 use Rattle.std.specs.List.{AllByRecursion}
@@ -11,7 +12,7 @@ use Rattle.flow_defs.specs.Parcels.{data_of, has_end, barriers_of}
 use Rattle.flow_defs.specs.Records.{all_encoded, IsShort}
 use Rattle.flow_defs.specs.declared.cause.Cause.{Cause}
 use Rattle.conn_parts.specs.Shares.{AreOwn, AreNew, seen_at, mine_at}
-use Rattle.input_channel.specs.Legal.{polled_with, returned, asks, inline_in}
+use Rattle.input_channel.specs.Legal.{polled_with, returned, asks, inline_in, adds}
 use Rattle.outside.specs.declared.stop.StopEntry.{StopEntry}
 use Rattle.outside.specs.Stops.{first_met}
 use Rattle.input_gate.specs.declared.gate.GateItem.{GateItem}
@@ -23,6 +24,10 @@ use Rattle.input_gate.specs.Told.{told, IsRead}
 use Rattle.input_gate.specs.Lanes.{IsLane, polled, left_of, told_by, barriers_by, resumed_by, ready_bytes, spare_bytes, weight, due_back}
 use Rattle.input_gate.specs.Channels.{AreLanes, AreQuiet, HaveNoSpare, account_of, at_of, cells_in, passes_in, looks_in, LookedIn}
 use Rattle.input_gate.specs.Making.{IsFreshLane, AreFreshLanes}
+use Rattle.turn_cell.specs.History.{entries_of}
+use Rattle.local_pool.specs.declared.entry.PoolEntry.{PoolEntry}
+use Rattle.std.proofs.lemmas.List.Sums.{sum_by-cons}
+use Rattle.input_gate.specs.Segments.{freed_by, added_by, freed_in, added_in, LoseNone}
 use Rattle.input_gate.proofs.Growing.{gives-all, all-short, spans-all}
 use Rattle.input_gate.proofs.RoundLaws.{looked_through}
 
@@ -249,3 +254,24 @@ all_came_back size b (Err end) h none = tt
 pub none_left : {A E : Type 0} (result : Result A E) (is : Bool) (ls : List Lane) → is ≡ is_err result → OnOk result (HaveNoSpare ls) → is ≡ false → HaveNoSpare ls
 none_left (Ok x) is ls e none off = none
 none_left (Err end) is ls e none off = absurd (true≢false (sym e ∙ off))
+
+-- ---- no segment was lost yet
+
+none_moved : (size : ℕ) (cells : List InputCell) (passes : List InputPass) (ls : List Lane) → AreFreshLanes cells passes ls → AreFirst size cells passes → (freed_in ls ≡ 0) × (added_in ls ≡ 0)
+none_moved size [] [] [] f h = (refl, refl)
+none_moved size [] [] (l ∷ ls) f h = absurd f
+none_moved size [] (p ∷ ps) ls f h = absurd f
+none_moved size (c ∷ cs) [] ls f h = absurd f
+none_moved size (c ∷ cs) (p ∷ ps) [] f h = absurd f
+none_moved size (c ∷ cs) (p ∷ ps) (l ∷ ls) f h =
+    let rest = none_moved size cs ps ls f.1 (first_rest size c cs p ps h) in
+    let freed_more = sum_by-cons freed_by l.pass (passes_in ls) in
+    let added_more = sum_by-cons added_by l.pass (passes_in ls) in
+    let none_freed : freed_by l.pass ≡ 0 = ap freed_by f.0.pass_is ∙ ap (λ s. freed (entries_of s)) h.unseen.0 in
+    let none_added : added_by l.pass ≡ 0 = ap added_by f.0.pass_is ∙ ap adds h.no_entry.0 in
+    (omega (arith, rest.0, freed_more, none_freed), omega (arith, rest.1, added_more, none_added))
+
+pub lose_fresh : (size : ℕ) (cells : List InputCell) (passes : List InputPass) (ls : List Lane) → AreFreshLanes cells passes ls → AreFirst size cells passes → (own : List PoolEntry) → LoseNone own own (passes_in ls)
+lose_fresh size cells passes ls f h own =
+    let none = none_moved size cells passes ls f h in
+    record { since = []; told = sym (append-nil own); even = omega (arith, none.0, none.1) }

@@ -1,6 +1,6 @@
 -- What a turn makes of the gate's pass.
-use Rattle.std.proofs.Common.{◌≡◌, ℕ, zero, suc, ◌+◌, ◌<◌, Bool, true, false, cond, eqb, drop, List, [], ◌∷◌, ◌++◌, map, length, Some, refl, sym, ap, subst, ◌∙◌, append_assoc, append-nil, arith}
-use Rattle.std.specs.Prelude.{option_to_list, MatchBool}
+use Rattle.std.proofs.Common.{◌≡◌, ℕ, zero, suc, ◌+◌, ◌<◌, Bool, true, false, cond, eqb, eqb-true, eq-eqb, true≢false, drop, List, [], ◌∷◌, ◌++◌, map, length, Option, Some, None, refl, sym, ap, subst, ◌∙◌, append_assoc, append-nil, arith}
+use Rattle.std.specs.Prelude.{option_to_list, MatchBool, IsSome, ◌↔◌}
 use Rattle.std.specs.List.{filter, range_with_len}
 use Rattle.std.proofs.lemmas.List.{append_cancel_left}
 use Rattle.turn_cell.specs.History.{by, entries_of, StartsWith}
@@ -11,12 +11,13 @@ use Rattle.flow_defs.specs.declared.task.BarrierKind.{BarrierKind}
 use Rattle.flow_defs.specs.declared.task.BarrierKind.TheVariants.{Inline, Front}
 use Rattle.flow_defs.specs.Parcels.{barriers_of}
 use Rattle.input_channel.specs.declared.entry.ReceiveEntry.{ReceiveEntry}
-use Rattle.input_channel.specs.declared.entry.ReceiveEntry.TheVariants.{Poll}
+use Rattle.input_channel.specs.declared.entry.ReceiveEntry.TheVariants.{Push, Poll, Returned, Added, Backlog, Credit, Shut, Ask, Resume}
 use Rattle.input_channel.specs.declared.entry.Gave.{Gave}
 use Rattle.input_channel.specs.declared.held.HeldBuf.{HeldBuf}
 use Rattle.input_channel.specs.declared.polled.Polled.{Polled}
 use Rattle.input_channel.specs.declared.polled.Polled.TheVariants as answers
 use Rattle.input_channel.specs.Answers.{given_by, IsAnswer}
+use Rattle.input_channel.specs.Counts.{Counts, Numbers, at_opening, numbers, numbers_one, numbers_from, lets_go, frees, freed, freed_from}
 use Rattle.input_channel.specs.Inboxes.{inbox, Inbox, received_one, waiting, front_waits, due, first_barrier, poll_gives}
 use Rattle.input_channel.specs.Legal.{may_receive, ReceivedByPasses, polled_with, returned, asks, inline_in}
 use Rattle.input_channel.specs.States.{ChannelState, StandsFor, Allows, after}
@@ -24,6 +25,7 @@ use Rattle.input_channel.specs.Theorems.{CallsAreLegal, CallsAddEntries, PassesA
 use Rattle.input_channel.proofs.HistoryLemmas.{entries_of-append}
 use Rattle.input_channel.proofs.InboxLaws.{inbox-more}
 use Rattle.input_channel.proofs.KeptLemmas.{barriers_of-append}
+use Rattle.input_gate.specs.Segments.{freed_by}
 use Rattle.input_gate.specs.Turning.{InputPass, IsLater, given_in, given_to, looks_of, Fits, NoFront, Looked}
 
 -- ---- histories
@@ -58,12 +60,55 @@ later_refl p = (starts_refl (seen p), starts_refl (sights p))
 pub later_then : (p q r : InputPass) → IsLater p q → IsLater q r → IsLater p r
 later_then p q r h k = (starts_then (seen p) (seen q) (seen r) h.0 k.0, starts_then (sights p) (sights q) (sights r) h.1 k.1)
 
+-- What came since the pass saw the history is of others.
+of_others : (before turn : List (ℕ × ReceiveEntry)) (own : List ReceiveEntry) → by 0 before ≡ own → by 0 turn ≡ own → (later : StartsWith turn before) → by 0 later.0 ≡ []
+of_others before turn own b t later = append_cancel_left own (by 0 later.0) [] (ap (λ l. l ++ by 0 later.0) (sym b) ∙ sym (by-append 0 before later.0) ∙ ap (by 0) (sym later.1) ∙ t ∙ sym (append-nil own))
+
 -- Others' turns give nothing.
 pub same_given : (stays : GivenStays) (before turn : List (ℕ × ReceiveEntry)) (own : List ReceiveEntry) →
     ReceivedByPasses turn → by 0 before ≡ own → by 0 turn ≡ own → StartsWith turn before → given_in turn ≡ given_in before
 same_given stays before turn own passes b t later =
-    ap given_in later.1 ∙ stays before later.0 (passes_behind before later.0 (subst ReceivedByPasses later.1 passes))
-    (append_cancel_left own (by 0 later.0) [] (ap (λ l. l ++ by 0 later.0) (sym b) ∙ sym (by-append 0 before later.0) ∙ ap (by 0) (sym later.1) ∙ t ∙ sym (append-nil own)))
+    ap given_in later.1 ∙ stays before later.0 (passes_behind before later.0 (subst ReceivedByPasses later.1 passes)) (of_others before turn own b t later)
+
+-- And they set no segment free.
+not_empty : (x : ReceiveEntry) (xs : List ReceiveEntry) → x ∷ xs ≡ [] → ⊥
+not_empty x xs e = cc
+
+first_apart : (pair : ℕ × ReceiveEntry) (pairs : List (ℕ × ReceiveEntry)) → by 0 (pair ∷ pairs) ≡ [] → (eqb 0 pair.0 ≡ false) × (by 0 pairs ≡ [])
+first_apart pair pairs =
+    elim (eqb 0 pair.0) as (λ b. map (λ e. e.1) (cond b (pair ∷ filter (λ e. eqb 0 e.0) pairs) (filter (λ e. eqb 0 e.0) pairs)) ≡ [] → (b ≡ false) × (by 0 pairs ≡ [])) [
+      | true ↦ λ h. absurd (not_empty pair.1 (by 0 pairs) h)
+      | false ↦ λ h. (refl, h)
+    ]
+
+frees_none : (n : ℕ) (c : Counts) (e : ReceiveEntry) → may_receive n e ≡ true → eqb 0 n ≡ false → frees c e ≡ 0
+frees_none n c (Returned exclusive) may apart = absurd (true≢false (sym (eq-eqb 0 n (sym (eqb-true n 0 may))) ∙ apart))
+frees_none n c (Push p backlog) may apart = refl
+frees_none n c (Poll hold gave) may apart = refl
+frees_none n c Added may apart = refl
+frees_none n c (Backlog k) may apart = refl
+frees_none n c (Credit k) may apart = refl
+frees_none n c Shut may apart = refl
+frees_none n c Ask may apart = refl
+frees_none n c Resume may apart = refl
+
+none_freed : (from : Numbers) (more : List (ℕ × ReceiveEntry)) → ReceivedByPasses more → by 0 more ≡ [] → freed_from from (entries_of more) ≡ 0
+none_freed from [] passes none = refl
+none_freed from (pair ∷ more) passes none =
+    let f = first_apart pair more none in
+    let one = frees_none pair.0 from.counts pair.1 passes.0 f.0 in
+    let rest = none_freed (numbers_one from pair.1) more passes.1 f.1 in
+    omega (arith, one, rest)
+
+freed-append : (from : Numbers) (xs ys : List ReceiveEntry) → freed_from from (xs ++ ys) ≡ freed_from from xs + freed_from (numbers_from from xs) ys
+freed-append from [] ys = omega arith
+freed-append from (x ∷ xs) ys = let rest = freed-append (numbers_one from x) xs ys in omega (arith, rest)
+
+same_freed : (before turn : List (ℕ × ReceiveEntry)) (own : List ReceiveEntry) → ReceivedByPasses turn → by 0 before ≡ own → by 0 turn ≡ own → StartsWith turn before → freed (entries_of turn) ≡ freed (entries_of before)
+same_freed before turn own passes b t later =
+    let all = ap (λ h. freed (entries_of h)) later.1 ∙ ap freed (entries_of-append before later.0) ∙ freed-append at_opening (entries_of before) (entries_of later.0) in
+    let none = none_freed (numbers (entries_of before)) later.0 (passes_behind before later.0 (subst ReceivedByPasses later.1 passes)) (of_others before turn own b t later) in
+    omega (arith, all, none)
 
 entries_end : (turn : List (ℕ × ReceiveEntry)) (n : ℕ) (e : ReceiveEntry) → entries_of (turn ++ (n, e) ∷ []) ≡ entries_of turn ++ e ∷ []
 entries_end turn n e = entries_of-append turn ((n, e) ∷ [])
@@ -114,6 +159,23 @@ module _ (p t : InputPass) (state : ChannelState) (b : Begun p t state) where
   pub entered_given : GivenStays → PassesAreKept → (q : InputPass) (e : ReceiveEntry) → HasEntered e t q → ((i : Inbox) → (received_one i e).given ≡ i.given) → given_to q ≡ given_to p
   entered_given stays kept q e h none = given_end (seen t) (seen q) (number t) e h.1 none ∙ begun_given stays kept
 
+  begun_freed : PassesAreKept → freed (entries_of (seen t)) ≡ freed (entries_of (seen p))
+  begun_freed kept = same_freed (seen p) (seen t) (mine p) (kept state (seen t) b.stands) (ap (λ n. by n (seen p)) (sym b.first) ∙ b.own_before) own_seen b.later
+
+  pub rested_freed : PassesAreKept → (q : InputPass) → HasRested t q → freed_by q ≡ freed_by p
+  rested_freed kept q h = ap (λ s. freed (entries_of s)) h.1 ∙ begun_freed kept
+
+  -- An entry sets free what it does by the state's counts.
+  pub entered_freed : PassesAreKept → (q : InputPass) (e : ReceiveEntry) → HasEntered e t q → freed_by q ≡ freed_by p + frees state.counts e
+  entered_freed kept q e h =
+      let all = ap (λ s. freed (entries_of s)) h.1 ∙ ap freed (entries_end (seen t) (number t) e) ∙ freed-append at_opening (entries_of (seen t)) (e ∷ []) in
+      let before = begun_freed kept in
+      let counts = ap (λ c. frees c e) b.stands.keeps.counts in
+      omega (arith, all, before, counts)
+
+  pub still_freed : PassesAreKept → (q : InputPass) (e : ReceiveEntry) → HasEntered e t q → ((c : Counts) → frees c e ≡ 0) → freed_by q ≡ freed_by p
+  still_freed kept q e h none = let all = entered_freed kept q e h in let z = none state.counts in omega (arith, all, z)
+
   pub polled_given : GivenStays → PassesAreKept → PollTells → AnswerIsGiven → (q : InputPass) (old : ChannelState) (hold : Bool) (polled : Polled) (gave : Gave) → old ≡ state → IsAnswer hold old polled →
       HasEntered (Poll hold gave) t q → given_to q ≡ given_to p ++ option_to_list (given_by polled)
   polled_given stays kept tells answers q old hold polled gave is answer h =
@@ -133,6 +195,19 @@ module _ (p t : InputPass) (state : ChannelState) (b : Begun p t state) where
       let given = ap inline_in (begun_given stays kept) in
       let balance = b.stands.keeps.owed in
       omega (arith, asked, given, balance, owed)
+
+-- ---- the segment that is set free
+
+abbrev one_if : Bool → ℕ
+one_if b = cond b 1 0
+
+-- A buffer that comes back sets free what the channel answers.
+pub frees_answer : (c : Counts) (exclusive : Bool) (segment : List ℕ) (free : Option (List ℕ)) → (exclusive ≡ false → free ≡ Some segment) → (exclusive ≡ true → (IsSome free ↔ (lets_go c ≡ true))) →
+    frees c (Returned exclusive) ≡ length (option_to_list free)
+frees_answer c false segment free floating goes = ap (λ (o : Option (List ℕ)). length (option_to_list o)) (sym (floating refl))
+frees_answer c true segment None floating goes =
+    elim (lets_go c) as (λ b. lets_go c ≡ b → one_if b ≡ 0) [ true ↦ λ is. absurd (true≢false (sym ((goes refl).1 is))) | false ↦ λ is. refl ] refl
+frees_answer c true segment (Some other) floating goes = ap one_if ((goes refl).0 refl)
 
 -- ---- the number of a barrier
 

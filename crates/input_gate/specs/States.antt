@@ -15,12 +15,15 @@ use Rattle.input_gate.specs.declared.passes.GateEnds.{GateEnds}
 use Rattle.input_gate.specs.Gates.{Account, IsFree}
 use Rattle.input_gate.specs.Turning.{InputCell, InputPass, Looked, looks_at, given_in}
 use Rattle.input_gate.specs.Lanes.{IsLender, lent_size}
+use Rattle.input_gate.specs.Segments.{told_by_lender, LoseNone}
 use Rattle.input_gate.specs.Channels.{AreLanes, account_of, cells_in, passes_in, MayGive}
 
--- The channels, the pool, and the cell that stops all workers, with the gate's pass of it.
+-- The channels, the pool, the gate's pass of the pool as it was when the gate was made, and the cell that stops all workers, with the gate's
+-- pass of it.
 pub record GateState : Type 0 where
   pub lanes : List Lane
   pub lender : Lender
+  pub first : PoolPass
   pub stop : StopCell
   pub stop_pass : StopPass
 
@@ -40,7 +43,7 @@ pub record IsGateOf (cells : List InputCell) (pool : PoolCell) (stop : StopCell)
 
 -- What it is a gate of.
 abbrev pub ends_of : GateState → GateEnds
-ends_of gate = record { cells = cells_in gate.lanes; pool = gate.lender.cell.now; stop = gate.stop; number = number gate.stop_pass }
+ends_of gate = record { cells = cells_in gate.lanes; pool = gate.lender.cell.now; first = gate.first; stop = gate.stop; number = number gate.stop_pass }
 
 -- What polls of a channel gave.
 abbrev pub given_at : GateState → ℕ → List Parcel
@@ -58,10 +61,12 @@ LookedFirst hold before after (items.Line c line) = (d : ℕ) → d < (account_i
 LookedFirst hold before after (items.Barrier c k kind) = Unit {0}
 LookedFirst hold before after items.AllEnded = Unit {0}
 
--- What is kept fits what the passes tell.
+-- What is kept fits what the passes tell. No segment was lost since the gate was made: what its pool lent and what its channels set free went
+-- to a channel or back to the pool.
 pub record IsGate (gate : GateState) : Type 0 where
   pub few : length gate.lanes < 2 ^ 32
   pub lanes_are : AreLanes (lent_size gate.lender) gate.lanes
   pub lender_is : IsLender gate.lender
   pub stop_is : IsPassOf gate.stop gate.stop_pass
   pub no_fault : mine gate.stop_pass ≡ []
+  pub none_lost : LoseNone (mine gate.first) (told_by_lender gate.lender) (passes_of gate)

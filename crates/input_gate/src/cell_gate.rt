@@ -11,6 +11,7 @@ ghost use Rattle.conn_parts.specs.Shares.{AreOwn, AreNew};
 ghost use Rattle.input_gate.specs.Gates.{Gave, IsNew, Resumed, stops_in};
 ghost use Rattle.input_gate.specs.Turning.{InputCell, InputPass};
 ghost use Rattle.input_gate.specs.Lanes.{IsLender, lent_size};
+ghost use Rattle.input_gate.specs.Segments.{AllStayEven, LoseNone};
 ghost use Rattle.input_gate.specs.Channels.{AreLanes, HaveNoSpare, account_of, cells_in, passes_in, LookedIn};
 ghost use Rattle.input_gate.specs.States.{account_in, passes_of, ends_of, IsGateOf, AllCameBack, LookedFirst};
 ghost use Rattle.input_gate.specs.Making.{AreFreshLanes};
@@ -27,6 +28,7 @@ use outside::{PAUSES, Pause, StopState, look_for_stop};
 use record_spans::Reader;
 use std::alloc::Global;
 use std::marker::Model;
+use std::snapshot::Snapshot;
 use std::sync::Wait;
 use turn_cell::{Pass, TurnCell};
 
@@ -46,6 +48,8 @@ pub struct CellGate<'a, 'p> {
     // Whether a lane may have a buffer still, which `next` left there at an `Err`.
     unread: bool,
     lender: Lender<'a, 'p>,
+    // The pass of the pool as it was when the gate was made, for contracts alone.
+    first: Snapshot<Pass<HeldPool<'p>>>,
     stop: &'a TurnCell<StopState>,
     stop_pass: Pass<StopState>,
     pause: Pause,
@@ -58,9 +62,9 @@ impl<'a, 'p> Model for CellGate<'a, 'p> {
 
     ghost Value = { GateState };
 
-    ghost view = { λ g. record { lanes = g.lanes.items; lender = g.lender; stop = g.stop.now; stop_pass = g.stop_pass } };
+    ghost view = { λ g. record { lanes = g.lanes.items; lender = g.lender; first = g.first.value; stop = g.stop.now; stop_pass = g.stop_pass } };
 
-    ghost invariant = { λ g. IsGate (record { lanes = g.lanes.items; lender = g.lender; stop = g.stop.now; stop_pass = g.stop_pass }) × (g.kept.items ≡ []) × (length g.lanes.items ≤ g.kept.room) × (g.unread ≡ false → HaveNoSpare g.lanes.items) };
+    ghost invariant = { λ g. IsGate (record { lanes = g.lanes.items; lender = g.lender; first = g.first.value; stop = g.stop.now; stop_pass = g.stop_pass }) × (g.kept.items ≡ []) × (length g.lanes.items ≤ g.kept.room) × (g.unread ≡ false → HaveNoSpare g.lanes.items) };
 }
 
 // A lane for each cell, with its pass, in their order. They take the passes out of their list.
@@ -165,6 +169,7 @@ fn next_of<R: Wait>(
     ensures stopped { result ≡ Err GateEnd.Stopped → seen stop_pass.new ≢ [] }
     ensures looked { IfOk result (λ item. LookedIn hold lanes.old.items item lanes.new.items) }
     ensures spare { OnOk result (HaveNoSpare lanes.new.items) }
+    ensures segments { AllStayEven lender.old lanes.old.items lender.new lanes.new.items }
 {
     match refill_unread(rt, lanes, unread, lender) {
         Ok(()) => {}
@@ -215,6 +220,7 @@ impl<'a, 'p> CellGate<'a, 'p> {
         requires sizes { All (λ (cell : InputCell). (opened_with cell).size ≡ size_of (pool_of (opened_with gate_pool.now))) cells.now }
         ensures account { IfOk result (λ gate. ((account_in gate).channels ≡ length cells.now) × IsNew (account_in gate)) }
         ensures gate { IfOk result (λ gate. IsGateOf cells.now gate_pool.now stop.now gate × (number gate.stop_pass ≡ number stop_pass)) }
+        ensures first { IfOk result (λ gate. gate.first ≡ pool_pass.entry) }
         ensures refused { IfErr result (λ r. (r.passes.cells.items ≡ passes.items) × (r.passes.pool ≡ pool_pass.entry) × (r.passes.stop ≡ stop_pass)) }
     {
         let _flights = flights;
@@ -226,6 +232,7 @@ impl<'a, 'p> CellGate<'a, 'p> {
             };
             return Err(NoGate { passes });
         };
+        let first = Snapshot::of(&pool_pass);
         let mut kept = passes;
         let lanes = deal_lanes(alloc, cells, &mut kept, lanes);
         Ok(CellGate {
@@ -237,6 +244,7 @@ impl<'a, 'p> CellGate<'a, 'p> {
                 cell: gate_pool,
                 pass: Some(pool_pass),
             },
+            first,
             stop,
             stop_pass,
             pause: Pause::new(),
@@ -248,6 +256,9 @@ impl<'a, 'p> CellGate<'a, 'p> {
         ensures cells { (result.cells.items ≡ passes_of self.entry) × AreOwn 0 (cells_in self.entry.lanes) result.cells.items }
         ensures pool { IsPassOf self.entry.lender.cell.now result.pool }
         ensures stop { IsPassOf self.entry.stop result.stop × (mine result.stop ≡ []) × (number result.stop ≡ number self.entry.stop_pass) }
+
+        // Each segment that the pool lent, or that a channel set free, is with a channel or went back.
+        ensures none_lost { LoseNone (mine self.entry.first) (mine result.pool) result.cells.items }
     {
         let CellGate {
             lanes,

@@ -6,10 +6,11 @@ ghost use Rattle.record_spans.specs.Spans.{HasNoRecord};
 ghost use Rattle.flow_defs.specs.Records.{IsShort};
 ghost use Rattle.input_channel.specs.Contents.{content};
 ghost use Rattle.input_gate.specs.Gates.{Line};
+ghost use Rattle.input_gate.specs.Segments.{IsUntouched, StaysEven};
 ghost use Rattle.input_gate.specs.Turning.{IsGatePass, Looked, looks_of};
 ghost use Rattle.input_gate.specs.Lanes.{IsLane, IsLender, lent_size, IsIdle, IsQuiet, Gives, GivesBarrier, IsFault, IsResumed, Stepped, Came, left_of};
 
-use crate::lender::{Lender, give, request};
+use crate::lender::{Lender, give, give_free, request};
 use crate::passes::{InputCell, InputPass};
 use crate::rest::rest_len;
 use crate::turns::{add_in_turn, ask_in_turn, find_front, poll_in_turn, return_in_turn};
@@ -78,6 +79,7 @@ fn add_floating<R: Wait>(
     ensures pass { IsGatePass cell.now pass.new }
     ensures idle { IsIdle pass.old pass.new }
     ensures lender { IsLender lender.new × (lender.new.cell ≡ lender.old.cell) }
+    ensures segments { StaysEven lender.old pass.old lender.new pass.new }
 {
     for _want in 0..wants {
         let Some(segment) = request(rt, lender) else {
@@ -102,6 +104,7 @@ pub(crate) fn refill<R: Wait>(
     ensures quiet { IsQuiet lane.old lane.new }
     ensures lender { IsLender lender.new × (lender.new.cell ≡ lender.old.cell) }
     ensures spare { OnOk result (lane.new.spare ≡ None) }
+    ensures segments { StaysEven lender.old lane.old.pass lender.new lane.new.pass }
 {
     let Some(buf) = lane.spare.take() else {
         return Ok(());
@@ -115,9 +118,7 @@ pub(crate) fn refill<R: Wait>(
     }
     lane.clear = false;
     let (free, wants) = return_in_turn(rt, lane.cell, &mut lane.pass, buf);
-    if let Some(segment) = free {
-        give(rt, lender, segment);
-    }
+    give_free(rt, lender, free);
     add_floating(rt, lane.cell, &mut lane.pass, wants, lender);
     Ok(())
 }
@@ -131,6 +132,7 @@ pub(crate) fn prepare(lane: &mut Lane<'_>) -> Result<bool, LaneFault>
     ensures spare { lane.new.spare ≡ None }
     ensures ready { IfOk result (λ is_ready. MatchBool is_ready (IsSome lane.new.ready) ((lane.new ≡ lane.old) × (lane.new.ready ≡ None) × HasNoRecord lane.new.reader)) }
     ensures fault { IfErr result (λ fault. IsFault lane.new fault) }
+    ensures segments { IsUntouched lane.old.pass lane.new.pass }
 {
     if lane.ready.is_some() {
         return Ok(true);
@@ -168,6 +170,7 @@ fn poll_lane<R: Wait>(rt: &R, lane: &mut Lane<'_>, hold: bool) -> LaneStep
     ensures lane { (size : _) → IsLane size lane.old → IsLane size lane.new }
     ensures came { Stepped hold lane.old result lane.new }
     ensures spare { (result ≡ LaneStep.Found) ⊎ (lane.new.spare ≡ None) }
+    ensures segments { IsUntouched lane.old.pass lane.new.pass }
 {
     lane.clear = false;
     match poll_in_turn(rt, lane.cell, &mut lane.pass, hold) {
@@ -221,6 +224,7 @@ pub(crate) fn step<R: Wait>(
     ensures came { Came hold lane.old result lane.new }
     ensures lender { IsLender lender.new × (lender.new.cell ≡ lender.old.cell) }
     ensures spare { OnOk result (lane.new.spare ≡ None) }
+    ensures segments { StaysEven lender.old lane.old.pass lender.new lane.new.pass }
 {
     match prepare(lane) {
         Ok(true) => return Ok(LaneStep::Found),
@@ -254,6 +258,7 @@ pub(crate) fn look<R: Wait>(rt: &R, lane: &mut Lane<'_>) -> Option<u64>
     ensures given { MatchOption result (IsQuiet lane.old lane.new) (λ k. GivesBarrier false lane.old lane.new k Front) }
     ensures looked { IfNone result (Looked (looks_of lane.old.pass) (looks_of lane.new.pass)) }
     ensures same { (lane.new.spare ≡ lane.old.spare) × (lane.new.ended ≡ lane.old.ended) }
+    ensures segments { IsUntouched lane.old.pass lane.new.pass }
 {
     match find_front(rt, lane.cell, &mut lane.pass, lane.clear) {
         Some(k) => {
@@ -275,6 +280,7 @@ pub(crate) fn go_on<R: Wait>(rt: &R, lane: &mut Lane<'_>)
     ensures lane { (size : _) → IsLane size lane.old → IsLane size lane.new }
     ensures resumed { IsResumed lane.old lane.new }
     ensures spare { lane.new.spare ≡ lane.old.spare }
+    ensures segments { IsUntouched lane.old.pass lane.new.pass }
 {
     lane.clear = false;
     ask_in_turn(rt, lane.cell, &mut lane.pass);

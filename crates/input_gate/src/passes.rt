@@ -29,10 +29,12 @@ pub struct NoGate<'p> {
 }
 
 /// What a gate over cells is a gate of: its channels' cells, in order, those of its pool and of what stops
-/// all workers, and the number of its pass there. Contracts speak of it; no value of it is made.
+/// all workers, the pass of the pool as it was when the gate was made, and the number of its pass at what
+/// stops all workers. Contracts speak of it; no value of it is made.
 pub struct GateEnds<'p> {
     pub cells: LinkedList<InputCell>,
     pub pool: TurnCell<HeldPool<'p>>,
+    pub first: Pass<HeldPool<'p>>,
     pub stop: TurnCell<StopState>,
     pub number: u32,
 }

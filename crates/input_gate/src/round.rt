@@ -5,6 +5,7 @@ ghost use Rattle.input_gate.specs.declared.gate.GateItem.TheVariants as items;
 ghost use Rattle.input_gate.specs.Gates.{Gave, GaveOf, AllOver, Line, Ended, Resumed, stops_in};
 ghost use Rattle.flow_defs.specs.Records.{IsShort};
 ghost use Rattle.input_gate.specs.Lanes.{IsLender, lent_size};
+ghost use Rattle.input_gate.specs.Segments.{AllStayEven, AreUntouched};
 ghost use Rattle.input_gate.specs.Channels.{AreLanes, AreQuiet, HaveNoSpare, account_of, cells_in, passes_in, looks_in, at_of, IsMost, MayGive, CameAt, LookedAt, HasLooked, end_of};
 
 use crate::gate::GateEnd;
@@ -31,6 +32,7 @@ pub(crate) fn refill_at<R: Wait>(
     ensures lender { IsLender lender.new × (lender.new.cell ≡ lender.old.cell) }
     ensures here { OnOk result (at_of (λ lane. lane.spare) None lanes.new.items at ≡ None) }
     ensures others { (d : ℕ) → d ≢ at → at_of (λ lane. lane.spare) None lanes.new.items d ≡ at_of (λ lane. lane.spare) None lanes.old.items d }
+    ensures segments { AllStayEven lender.old lanes.old.items lender.new lanes.new.items }
 {
     if lanes[at].spare.is_none() {
         return Ok(());
@@ -47,6 +49,7 @@ pub(crate) fn prepare_at(lanes: &mut Vec<Lane<'_>>, at: usize) -> Result<bool, L
     ensures quiet { AreQuiet lanes.old.items lanes.new.items }
     ensures spare { HaveNoSpare lanes.new.items }
     ensures fault { IfErr result (λ fault. Ended (account_of lanes.old.items) (account_of lanes.new.items) (end_of at fault)) }
+    ensures segments { AreUntouched lanes.old.items lanes.new.items }
 {
     if lanes[at].blocked {
         return Ok(false);
@@ -64,6 +67,7 @@ pub(crate) fn line_at(lanes: &mut Vec<Lane<'_>>, at: usize) -> Option<Bytes>
     ensures cells { cells_in lanes.new.items ≡ cells_in lanes.old.items }
     ensures same { (d : ℕ) → (looks_in lanes.new.items d ≡ looks_in lanes.old.items d) × (at_of (λ lane. lane.ended) false lanes.new.items d ≡ at_of (λ lane. lane.ended) false lanes.old.items d) }
     ensures spare { HaveNoSpare lanes.new.items }
+    ensures segments { AreUntouched lanes.old.items lanes.new.items }
 {
     if lanes[at].blocked {
         return None;
@@ -100,6 +104,7 @@ pub(crate) fn step_at<R: Wait>(
     ensures cells { cells_in lanes.new.items ≡ cells_in lanes.old.items }
     ensures lender { IsLender lender.new × (lender.new.cell ≡ lender.old.cell) }
     ensures spare { OnOk result (HaveNoSpare lanes.new.items) }
+    ensures segments { AllStayEven lender.old lanes.old.items lender.new lanes.new.items }
 {
     if lanes[at].blocked {
         return Ok(LaneStep::Nothing);
@@ -126,6 +131,7 @@ pub(crate) fn look_at<R: Wait>(
     ensures looked { IfNone result (HasLooked hold (account_of lanes.old.items) lanes.old.items lanes.new.items at) }
     ensures others { (d : ℕ) → d ≢ at → (looks_in lanes.new.items d ≡ looks_in lanes.old.items d) × (at_of (λ lane. lane.ended) false lanes.new.items d ≡ at_of (λ lane. lane.ended) false lanes.old.items d) }
     ensures spare { HaveNoSpare lanes.new.items }
+    ensures segments { AreUntouched lanes.old.items lanes.new.items }
 {
     let lane = &lanes[at];
     if lane.blocked {
@@ -149,6 +155,7 @@ pub(crate) fn resume_at<R: Wait>(rt: &R, lanes: &mut Vec<Lane<'_>>, at: usize)
     ensures resumed { Resumed (account_of lanes.old.items) (account_of lanes.new.items) at }
     ensures cells { cells_in lanes.new.items ≡ cells_in lanes.old.items }
     ensures spare { HaveNoSpare lanes.old.items → HaveNoSpare lanes.new.items }
+    ensures segments { AreUntouched lanes.old.items lanes.new.items }
 {
     go_on(rt, &mut lanes[at]);
 }

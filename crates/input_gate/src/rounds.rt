@@ -4,6 +4,7 @@ ghost use Rattle.flow_defs.specs.declared.task.BarrierKind.TheVariants.{Front};
 ghost use Rattle.input_gate.specs.declared.gate.GateItem.TheVariants as items;
 ghost use Rattle.input_gate.specs.Gates.{Gave, AllOver};
 ghost use Rattle.input_gate.specs.Lanes.{IsLender, lent_size};
+ghost use Rattle.input_gate.specs.Segments.{AllStayEven, AreUntouched};
 ghost use Rattle.input_gate.specs.Channels.{AreLanes, AreQuiet, HaveNoSpare, account_of, cells_in, IsMost, HasLooked, end_of, GaveUp, CameRound, Took};
 
 use crate::gate::{GateEnd, GateItem};
@@ -69,6 +70,7 @@ fn refill_all<R: Wait>(
     ensures quiet { AreQuiet lanes.old.items lanes.new.items }
     ensures lender { IsLender lender.new × (lender.new.cell ≡ lender.old.cell) }
     ensures spare { OnOk result (HaveNoSpare lanes.new.items) }
+    ensures segments { AllStayEven lender.old lanes.old.items lender.new lanes.new.items }
 {
     for i in 0..lanes.len() {
         match refill_at(rt, lanes, i, lender) {
@@ -93,6 +95,7 @@ pub(crate) fn refill_unread<R: Wait>(
     ensures quiet { AreQuiet lanes.old.items lanes.new.items }
     ensures lender { IsLender lender.new × (lender.new.cell ≡ lender.old.cell) }
     ensures spare { OnOk result (HaveNoSpare lanes.new.items) }
+    ensures segments { AllStayEven lender.old lanes.old.items lender.new lanes.new.items }
 {
     if !unread {
         return Ok(());
@@ -110,6 +113,7 @@ fn find_line(lanes: &mut Vec<Lane<'_>>, start: usize) -> Result<Option<usize>, G
     ensures spare { HaveNoSpare lanes.new.items }
     ensures found { IfOk result (λ found. IfSome found (λ at. at < length lanes.old.items)) }
     ensures err { IfErr result (λ end. GaveUp lanes.old.items lanes.new.items end) }
+    ensures segments { AreUntouched lanes.old.items lanes.new.items }
 {
     let count = lanes.len();
     let mut at = start;
@@ -141,6 +145,7 @@ fn look_round<R: Wait>(
     ensures cells { cells_in lanes.new.items ≡ cells_in lanes.old.items }
     ensures looked { IfNone result ((d : ℕ) → d < length lanes.old.items → HasLooked hold (account_of lanes.old.items) lanes.old.items lanes.new.items d) }
     ensures spare { HaveNoSpare lanes.new.items }
+    ensures segments { AreUntouched lanes.old.items lanes.new.items }
 {
     for i in 0..lanes.len() {
         match look_at(rt, lanes, i, hold, most) {
@@ -170,6 +175,7 @@ fn poll_round<R: Wait>(
     ensures cells { cells_in lanes.new.items ≡ cells_in lanes.old.items }
     ensures lender { IsLender lender.new × (lender.new.cell ≡ lender.old.cell) }
     ensures spare { OnOk result (HaveNoSpare lanes.new.items) }
+    ensures segments { AllStayEven lender.old lanes.old.items lender.new lanes.new.items }
 {
     let count = lanes.len();
     let mut at = start;
@@ -247,6 +253,7 @@ pub(crate) fn take<R: Wait>(
     ensures cells { cells_in lanes.new.items ≡ cells_in lanes.old.items }
     ensures lender { IsLender lender.new × (lender.new.cell ≡ lender.old.cell) }
     ensures spare { OnOk result (HaveNoSpare lanes.new.items) }
+    ensures segments { AllStayEven lender.old lanes.old.items lender.new lanes.new.items }
 {
     match find_line(lanes, *start) {
         Err(end) => Err(end),

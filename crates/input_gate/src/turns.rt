@@ -1,5 +1,5 @@
 // Turns of a gate at the cell of a channel.
-ghost use Rattle.std.specs.Prelude.{◌≡◌, ◌<◌, suc, true, false, [], ◌∷◌, ◌++◌, length, IfSome, IfNone, MatchOption};
+ghost use Rattle.std.specs.Prelude.{◌≡◌, ◌<◌, ◌+◌, suc, true, false, [], ◌∷◌, ◌++◌, length, IfSome, IfNone, MatchOption};
 ghost use Rattle.std.specs.Option.{option_to_list};
 ghost use Rattle.turn_cell.specs.Passes.{IsPassOf, IsTurnOf, HasEntered, opened_with, mine, number, seen};
 ghost use Rattle.flow_defs.specs.declared.task.BarrierKind.TheVariants.{Front};
@@ -10,6 +10,7 @@ ghost use Rattle.input_channel.specs.declared.entry.ReceiveEntry.TheVariants.{Po
 ghost use Rattle.input_channel.specs.Answers.{gave_of, given_by};
 ghost use Rattle.input_channel.specs.Legal.{polled_with, returned, asks, inline_in};
 ghost use Rattle.input_channel.specs.States.{StandsFor};
+ghost use Rattle.input_gate.specs.Segments.{freed_by};
 ghost use Rattle.input_gate.specs.Turning.{IsGatePass, IsLater, Fits, Looked, NoFront, given_to, looks_of};
 
 use crate::passes::{InputCell, InputPass};
@@ -63,6 +64,7 @@ pub(crate) fn poll_in_turn<R: Wait>(
     ensures given { given_to pass.new ≡ given_to pass.old ++ option_to_list (given_by result) }
     ensures entered { mine pass.new ≡ mine pass.old ++ Poll hold (gave_of result) ∷ [] }
     ensures fits { Fits (opened_with cell.now).size hold (given_to pass.old) result }
+    ensures freed { freed_by pass.new ≡ freed_by pass.old }
 {
     let mut turn = cell.enter(rt, pass);
     channels_stand_for_histories();
@@ -93,6 +95,7 @@ pub(crate) fn return_in_turn<R: Wait>(
     ensures given { given_to pass.new ≡ given_to pass.old }
     ensures entered { mine pass.new ≡ mine pass.old ++ Returned buf.exclusive ∷ [] }
     ensures size { IfSome result.0 (λ segment. length segment ≡ (opened_with cell.now).size) }
+    ensures freed { freed_by pass.new ≡ freed_by pass.old + length (option_to_list result.0) }
 {
     let exclusive = buf.exclusive;
     let mut turn = cell.enter(rt, pass);
@@ -117,6 +120,7 @@ pub(crate) fn add_in_turn<R: Wait>(
     ensures later { IsLater pass.old pass.new }
     ensures given { given_to pass.new ≡ given_to pass.old }
     ensures added { MatchOption result (mine pass.new ≡ mine pass.old ++ Added ∷ []) (λ back. (mine pass.new ≡ mine pass.old) × (back ≡ segment)) }
+    ensures freed { freed_by pass.new ≡ freed_by pass.old }
 {
     let mut turn = cell.enter(rt, pass);
     channels_stand_for_histories();
@@ -138,6 +142,7 @@ pub(crate) fn ask_in_turn<R: Wait>(rt: &R, cell: &InputCell, pass: &mut InputPas
     ensures later { IsLater pass.old pass.new }
     ensures given { given_to pass.new ≡ given_to pass.old }
     ensures entered { mine pass.new ≡ mine pass.old ++ Ask ∷ [] }
+    ensures freed { freed_by pass.new ≡ freed_by pass.old }
 {
     let mut turn = cell.enter(rt, pass);
     channels_stand_for_histories();
@@ -156,6 +161,7 @@ pub(crate) fn take_front<R: Wait>(rt: &R, cell: &InputCell, pass: &mut InputPass
     ensures entered { MatchOption result (mine pass.new ≡ mine pass.old) (λ k. mine pass.new ≡ mine pass.old ++ Poll false NoBuffer ∷ []) }
     ensures numbered { IfSome result (λ k. k ≡ suc (length (barriers_of (given_to pass.old)))) }
     ensures looked { IfNone result (Looked (looks_of pass.old) (looks_of pass.new)) }
+    ensures freed { freed_by pass.new ≡ freed_by pass.old }
 {
     let mut turn = cell.enter(rt, pass);
     channels_stand_for_histories();
@@ -198,6 +204,7 @@ pub(crate) fn find_front<R: Wait>(
     ensures entered { MatchOption result (mine pass.new ≡ mine pass.old) (λ k. mine pass.new ≡ mine pass.old ++ Poll false NoBuffer ∷ []) }
     ensures numbered { IfSome result (λ k. k ≡ suc (length (barriers_of (given_to pass.old)))) }
     ensures looked { IfNone result (Looked (looks_of pass.old) (looks_of pass.new)) }
+    ensures freed { freed_by pass.new ≡ freed_by pass.old }
 {
     if !clear {
         return take_front(rt, cell, pass);

@@ -1,5 +1,5 @@
 -- What is lent of a local pool that threads share, by the history of its cell. In Flink's documentation a buffer is requested from its pool and recycled to it; the history is this project's own choice.
-use Rattle.std.specs.Prelude.{ℕ, suc, ◌-◌, List, [], ◌∷◌, Option, Some, None}
+use Rattle.std.specs.Prelude.{ℕ, suc, ◌-◌, Bool, true, false, List, [], ◌∷◌, Option, Some, None, count_by}
 use Rattle.turn_cell.specs.declared.cell.TurnCell.{TurnCell}
 use Rattle.turn_cell.specs.declared.pass.Pass.{Pass}
 use Rattle.turn_cell.specs.History.{entries_of}
@@ -29,3 +29,19 @@ lent_by held history = lent_after held.first (entries_of history)
 abbrev pub lent_in_turn : {A : Type 0} → Option A → List PoolEntry
 lent_in_turn None = []
 lent_in_turn (Some segment) = Lent ∷ []
+
+-- whether the pool lent a segment, or got one back
+abbrev pub is_lent : PoolEntry → Bool
+is_lent Lent = true
+is_lent Returned = false
+
+abbrev pub is_returned : PoolEntry → Bool
+is_returned Lent = false
+is_returned Returned = true
+
+-- how many segments it lent by these entries, and how many it got back
+abbrev pub lends : List PoolEntry → ℕ
+lends es = count_by is_lent es
+
+abbrev pub returns : List PoolEntry → ℕ
+returns es = count_by is_returned es

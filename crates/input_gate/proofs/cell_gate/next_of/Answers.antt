@@ -2,6 +2,7 @@ use Rattle.std.proofs.Common.{rules, ◌∙◌, subst, refl, arith, Ok}
 use Rattle.input_gate.specs.Channels.{account_of, Took}
 use Rattle.input_gate.proofs.RoundLaws.{quiet_length, quiet_on, quiet_cells, up_then, gave_on, most_on, same_of, nothing_of}
 use Rattle.input_gate.proofs.GateLaws.{looked_on}
+use Rattle.input_gate.proofs.SegmentLaws.{even_then}
 use Rattle.input_gate.proofs.cell_gate.next_of.Goals as goal
 
 pub returns-in-Err-clause-gave : goal.returns-in-Err-clause-gave
@@ -20,6 +21,7 @@ loop-round-init g c = record {
   most = c.most_held-most.ensures;
   stop = c.requires.stop;
   pass = (refl, refl);
+  segments = c.refill_unread.ensures.segments;
 }
 
 pub take-requires-clause-few : goal.take-requires-clause-few
@@ -44,6 +46,7 @@ loop-round-preserved-in-Ok-More g c = record {
   most = λ is. most_on c.loop-round.lanes.items c.take.new.lanes.items c.most_held-most.result (subst (λ taken. Took c.args.hold c.loop-round.lanes.items (Ok taken) c.take.new.lanes.items) c.in-Ok-More.field-0-is c.in-Ok-More.ensures.took) (c.loop-round.invariant.most is);
   stop = c.loop-round.invariant.stop;
   pass = c.loop-round.invariant.pass;
+  segments = even_then c.loop-round.invariant.segments c.take.ensures.segments;
 }
 
 pub returns-then-all_over-clause-gave : goal.returns-then-all_over-clause-gave
@@ -68,6 +71,7 @@ loop-round-preserved g c = record {
   most = λ is. most_on c.loop-round.lanes.items c.take.new.lanes.items c.most_held-most.result (subst (λ taken. Took c.args.hold c.loop-round.lanes.items (Ok taken) c.take.new.lanes.items) c.in-Ok-Nothing.field-0-is c.in-Ok-Nothing.ensures.took) (c.loop-round.invariant.most is);
   stop = c.is_stopped.ensures.pass.0;
   pass = (c.is_stopped.ensures.pass.1.0 ∙ c.loop-round.invariant.pass.0, c.is_stopped.ensures.pass.1.1 ∙ c.loop-round.invariant.pass.1);
+  segments = even_then c.loop-round.invariant.segments c.take.ensures.segments;
 }
 
 pub returns-in-Err-take-clause-gave : goal.returns-in-Err-take-clause-gave
@@ -77,3 +81,15 @@ returns-in-Err-take-clause-gave g c =
 
 pub returns-in-Err-take-clause-cells : goal.returns-in-Err-take-clause-cells
 returns-in-Err-take-clause-cells g c = c.take.ensures.cells ∙ quiet_cells c.args.lanes.now.items c.loop-round.lanes.items c.loop-round.invariant.quiet
+
+pub returns-in-Ok-Item-clause-segments : goal.returns-in-Ok-Item-clause-segments
+returns-in-Ok-Item-clause-segments g c = even_then c.loop-round.invariant.segments c.take.ensures.segments
+
+pub returns-then-all_over-clause-segments : goal.returns-then-all_over-clause-segments
+returns-then-all_over-clause-segments g c = even_then c.loop-round.invariant.segments c.take.ensures.segments
+
+pub returns-then-is_stopped-clause-segments : goal.returns-then-is_stopped-clause-segments
+returns-then-is_stopped-clause-segments g c = even_then c.loop-round.invariant.segments c.take.ensures.segments
+
+pub returns-in-Err-take-clause-segments : goal.returns-in-Err-take-clause-segments
+returns-in-Err-take-clause-segments g c = even_then c.loop-round.invariant.segments c.take.ensures.segments

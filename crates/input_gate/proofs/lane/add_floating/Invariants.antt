@@ -1,4 +1,5 @@
 use Rattle.std.proofs.Common.{◌≡◌}
+use Rattle.input_gate.specs.Segments.{StaysEven}
 use Rattle.input_gate.specs.Turning.{IsGatePass}
 use Rattle.input_gate.specs.Lanes.{IsLender, IsIdle}
 use Rattle.input_gate.proofs.lane.add_floating.Given as goal
@@ -9,4 +10,5 @@ invariant-loop-want g l = record {
   idle : IsIdle l.fn.pass l.pass;
   lender : IsLender l.lender;
   same : l.lender.cell ≡ l.fn.lender.cell;
+  segments : StaysEven l.fn.lender l.fn.pass l.lender l.pass;
 }

@@ -1,5 +1,6 @@
 use Rattle.std.proofs.Common.{false, refl}
 use Rattle.input_gate.proofs.LaneLaws.{lane_front, gives_front, lane_looked, quiet_looked}
+use Rattle.input_gate.proofs.SegmentLaws.{untouched_none, untouched_other}
 use Rattle.input_gate.proofs.lane.look.Goals as goal
 
 pub returns-in-Some-clause-lane : goal.returns-in-Some-clause-lane
@@ -24,3 +25,9 @@ returns-in-None-clause-given g c =
 
 pub find_front-requires-clause-clear : goal.find_front-requires-clause-clear
 find_front-requires-clause-clear g c = c.requires.lane.1.clear_is
+
+pub returns-in-Some-clause-segments : goal.returns-in-Some-clause-segments
+returns-in-Some-clause-segments g c = untouched_other c.args.lane.now.pass c.find_front.new.pass _ refl c.in-Some.ensures.entered c.find_front.ensures.freed
+
+pub returns-in-None-clause-segments : goal.returns-in-None-clause-segments
+returns-in-None-clause-segments g c = untouched_none c.args.lane.now.pass c.find_front.new.pass c.in-None.ensures.entered c.find_front.ensures.freed

@@ -1,7 +1,8 @@
-use Rattle.std.proofs.Common.{◌++◌, ◌∷◌, [], ◌∙◌, ap, sym, append-nil}
+use Rattle.std.proofs.Common.{◌++◌, ◌∷◌, [], ◌∙◌, refl, ap, sym, append-nil}
 use Rattle.flow_defs.specs.declared.parcel.Parcel.TheVariants as parcels
 use Rattle.input_gate.specs.Lanes.{polled}
 use Rattle.input_gate.proofs.LaneLaws.{lane_buffer, quiet_buffer, lane_nothing, quiet_nothing, lane_end, quiet_end, lane_front, gives_front, lane_inline, gives_inline}
+use Rattle.input_gate.proofs.SegmentLaws.{untouched_other}
 use Rattle.input_gate.proofs.lane.poll_lane.Goals as goal
 
 pub returns-in-Buffer-clause-lane : goal.returns-in-Buffer-clause-lane
@@ -63,3 +64,21 @@ pub returns-in-Barrier-default-Front-clause-came : goal.returns-in-Barrier-defau
 returns-in-Barrier-default-Front-clause-came g c =
     let e = c.in-Barrier-default-Front.ensures in
     gives_front c.requires.lane.0 c.args.lane.now c.poll_in_turn.new.pass c.args.hold c.requires.lane.1 c.requires.empty.0 e.pass e.later e.entered c.in-Barrier-default-Front.k (e.given ∙ ap (λ kind. polled c.args.lane.now ++ parcels.Barrier c.in-Barrier-default-Front.k kind ∷ []) c.in-Barrier-default-Front.kind-is) e.fits.0 c.requires.free c.args.hold e.fits.1
+
+pub returns-in-Buffer-clause-segments : goal.returns-in-Buffer-clause-segments
+returns-in-Buffer-clause-segments g c = untouched_other c.args.lane.now.pass c.poll_in_turn.new.pass _ refl c.in-Buffer.ensures.entered c.poll_in_turn.ensures.freed
+
+pub returns-in-Empty-clause-segments : goal.returns-in-Empty-clause-segments
+returns-in-Empty-clause-segments g c = untouched_other c.args.lane.now.pass c.poll_in_turn.new.pass _ refl c.in-Empty.ensures.entered c.poll_in_turn.ensures.freed
+
+pub returns-in-Held-clause-segments : goal.returns-in-Held-clause-segments
+returns-in-Held-clause-segments g c = untouched_other c.args.lane.now.pass c.poll_in_turn.new.pass _ refl c.in-Held.ensures.entered c.poll_in_turn.ensures.freed
+
+pub returns-in-End-clause-segments : goal.returns-in-End-clause-segments
+returns-in-End-clause-segments g c = untouched_other c.args.lane.now.pass c.poll_in_turn.new.pass _ refl c.in-End.ensures.entered c.poll_in_turn.ensures.freed
+
+pub returns-in-Barrier-default-Inline-clause-segments : goal.returns-in-Barrier-default-Inline-clause-segments
+returns-in-Barrier-default-Inline-clause-segments g c = untouched_other c.args.lane.now.pass c.poll_in_turn.new.pass _ refl c.in-Barrier-default-Inline.ensures.entered c.poll_in_turn.ensures.freed
+
+pub returns-in-Barrier-default-Front-clause-segments : goal.returns-in-Barrier-default-Front-clause-segments
+returns-in-Barrier-default-Front-clause-segments g c = untouched_other c.args.lane.now.pass c.poll_in_turn.new.pass _ refl c.in-Barrier-default-Front.ensures.entered c.poll_in_turn.ensures.freed

@@ -2,6 +2,7 @@ use Rattle.std.proofs.Common.{◌<◌, ◌∙◌, sym, ap, subst, false, true≢
 use Rattle.input_gate.specs.Turning.{looks_of}
 use Rattle.input_gate.specs.declared.lane.Lane.{Lane}
 use Rattle.input_gate.proofs.RoundLaws.{quiet_all, cells_set, at_get, at_there, no_spare_set, no_spare_at, same_lane, not_free, may_not, look_given, look_cell, look_looked}
+use Rattle.input_gate.proofs.SegmentLaws.{untouched_all, untouched_set}
 use Rattle.input_gate.proofs.round.look_at.Goals as goal
 
 pub returns-then-lane-clause-came : goal.returns-then-lane-clause-came
@@ -47,3 +48,15 @@ returns-clause-others g c d ne = (at_there (λ (lane : Lane). looks_of lane.pass
 
 pub returns-clause-spare : goal.returns-clause-spare
 returns-clause-spare g c = no_spare_set c.args.lanes.now.items c.args.at c.look.new.lane c.requires.spare c.requires.within (c.look.ensures.same.0 ∙ no_spare_at c.args.lanes.now.items c.args.at _ c.index_mut.result.now c.requires.spare c.requires.within c.index_mut.ensures.value)
+
+pub returns-then-lane-clause-segments : goal.returns-then-lane-clause-segments
+returns-then-lane-clause-segments g c = untouched_all c.args.lanes.now.items
+
+pub returns-then-lane-2-clause-segments : goal.returns-then-lane-2-clause-segments
+returns-then-lane-2-clause-segments g c = untouched_all c.args.lanes.now.items
+
+pub returns-then-is_held-clause-segments : goal.returns-then-is_held-clause-segments
+returns-then-is_held-clause-segments g c = untouched_all c.args.lanes.now.items
+
+pub returns-clause-segments : goal.returns-clause-segments
+returns-clause-segments g c = untouched_set c.args.lanes.now.items c.args.at _ c.index_mut.result.now c.look.new.lane c.index_mut.ensures.value c.requires.within c.look.ensures.segments

@@ -1,4 +1,5 @@
 use Rattle.input_gate.proofs.RoundLaws.{quiet_all, quiet_set, no_spare_set, no_spare_at, fault_given}
+use Rattle.input_gate.proofs.SegmentLaws.{untouched_all, untouched_set}
 use Rattle.input_gate.proofs.round.prepare_at.Goals as goal
 
 pub returns-then-index-clause-quiet : goal.returns-then-index-clause-quiet
@@ -15,3 +16,9 @@ returns-clause-spare c = no_spare_set c.args.lanes.now.items c.args.at c.prepare
 
 pub returns-clause-fault : goal.returns-clause-fault
 returns-clause-fault c = fault_given c.requires.lanes.0 c.args.lanes.now.items c.args.at _ c.index_mut.result.now c.prepare.new.lane c.index_mut.ensures.value c.requires.within c.requires.lanes.1 c.prepare.result c.prepare.ensures.fault
+
+pub returns-then-index-clause-segments : goal.returns-then-index-clause-segments
+returns-then-index-clause-segments c = untouched_all c.args.lanes.now.items
+
+pub returns-clause-segments : goal.returns-clause-segments
+returns-clause-segments c = untouched_set c.args.lanes.now.items c.args.at _ c.index_mut.result.now c.prepare.new.lane c.index_mut.ensures.value c.requires.within c.prepare.ensures.segments

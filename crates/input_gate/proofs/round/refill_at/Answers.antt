@@ -2,6 +2,7 @@ use Rattle.std.proofs.Common.{◌≡◌, ◌∙◌, ap, refl, Bool, true, true�
 use Rattle.std.specs.Option.{is_some}
 use Rattle.input_gate.specs.declared.lane.Lane.{Lane}
 use Rattle.input_gate.proofs.RoundLaws.{quiet_all, quiet_set, at_get, at_there, here_given}
+use Rattle.input_gate.proofs.SegmentLaws.{even_refl, even_set}
 use Rattle.input_gate.proofs.round.refill_at.Goals as goal
 
 none_of : {A : Type 0} (x : Option A) (is_none : Bool) → is_some x ≡ not is_none → is_none ≡ true → x ≡ None
@@ -24,3 +25,9 @@ returns-clause-here g c = here_given _ c.args.lanes.now.items c.args.at _ c.inde
 
 pub returns-clause-others : goal.returns-clause-others
 returns-clause-others g c d ne = at_there (λ (lane : Lane). lane.spare) None c.args.lanes.now.items c.args.at d c.refill.new.lane ne
+
+pub returns-then-is_none-clause-segments : goal.returns-then-is_none-clause-segments
+returns-then-is_none-clause-segments g c = even_refl _ _ _
+
+pub returns-clause-segments : goal.returns-clause-segments
+returns-clause-segments g c = even_set c.args.lanes.now.items c.args.at _ c.index_mut.result.now c.refill.new.lane c.index_mut.ensures.value c.requires.within c.refill.ensures.segments

@@ -1,6 +1,7 @@
 use Rattle.std.proofs.Common.{◌<◌, ◌∙◌, ap, subst}
 use Rattle.input_gate.specs.declared.lane.Lane.{Lane}
 use Rattle.input_gate.proofs.RoundLaws.{quiet_all, cells_set, no_spare_at, same_lane, came_at, spare_given, came_cell}
+use Rattle.input_gate.proofs.SegmentLaws.{even_refl, even_set}
 use Rattle.input_gate.proofs.round.step_at.Goals as goal
 
 pub returns-then-index-clause-came : goal.returns-then-index-clause-came
@@ -21,3 +22,9 @@ returns-clause-cells g c = cells_set c.args.lanes.now.items c.args.at _ c.index_
 
 pub returns-clause-spare : goal.returns-clause-spare
 returns-clause-spare g c = spare_given _ c.args.lanes.now.items c.args.at _ c.index_mut.result.now c.step.new.lane c.index_mut.ensures.value c.requires.within c.requires.lanes c.step.result c.requires.spare c.step.ensures.spare
+
+pub returns-then-index-clause-segments : goal.returns-then-index-clause-segments
+returns-then-index-clause-segments g c = even_refl _ _ _
+
+pub returns-clause-segments : goal.returns-clause-segments
+returns-clause-segments g c = even_set c.args.lanes.now.items c.args.at _ c.index_mut.result.now c.step.new.lane c.index_mut.ensures.value c.requires.within c.step.ensures.segments

@@ -2,10 +2,11 @@ use Rattle.std.proofs.Common.{rules, ◌<◌, ◌≤◌, ◌∙◌, length, arit
 use Rattle.flow_defs.specs.declared.task.BarrierKind.TheVariants.{Front}
 use Rattle.input_gate.specs.declared.gate.GateItem.TheVariants as items
 use Rattle.input_gate.proofs.RoundLaws.{quiet_all, quiet_length, quiet_on, quiet_cells, gave_on, most_on, looked_more}
+use Rattle.input_gate.proofs.SegmentLaws.{untouched_all, untouched_then}
 use Rattle.input_gate.proofs.rounds.look_round.Goals as goal
 
 pub loop-i-init : goal.loop-i-init
-loop-i-init g c = record { within = omega arith; lanes = λ size h. h; quiet = quiet_all c.args.lanes.now.items; spare = c.requires.spare; below = λ d low. absurd (omega (arith, low)) }
+loop-i-init g c = record { within = omega arith; lanes = λ size h. h; quiet = quiet_all c.args.lanes.now.items; spare = c.requires.spare; below = λ d low. absurd (omega (arith, low)); segments = untouched_all c.args.lanes.now.items }
 
 pub look_at-requires-clause-within : goal.look_at-requires-clause-within
 look_at-requires-clause-within g c =
@@ -28,6 +29,7 @@ loop-i-preserved g c =
       quiet = quiet_on c.args.lanes.now.items c.loop-i.lanes.items c.look_at.new.lanes.items c.loop-i.invariant.quiet c.in-None.ensures.came;
       spare = c.look_at.ensures.spare;
       below = looked_more c.args.hold c.args.lanes.now.items c.loop-i.lanes.items c.look_at.new.lanes.items c.loop-i.i c.loop-i.invariant.quiet c.look_at.ensures.others c.loop-i.invariant.below c.in-None.ensures.looked;
+      segments = untouched_then c.args.lanes.now.items c.loop-i.lanes.items c.look_at.new.lanes.items c.loop-i.invariant.segments c.look_at.ensures.segments;
     }
 
 pub returns-in-Some-clause-lanes : goal.returns-in-Some-clause-lanes
@@ -44,3 +46,6 @@ returns-clause-looked g c d low = let e : length c.args.lanes.now.items ≤ c.lo
 
 pub returns-clause-cells : goal.returns-clause-cells
 returns-clause-cells g c = quiet_cells c.args.lanes.now.items c.loop-i.lanes.items c.loop-i.invariant.quiet
+
+pub returns-in-Some-clause-segments : goal.returns-in-Some-clause-segments
+returns-in-Some-clause-segments g c = untouched_then c.args.lanes.now.items c.loop-i.lanes.items c.look_at.new.lanes.items c.loop-i.invariant.segments c.look_at.ensures.segments

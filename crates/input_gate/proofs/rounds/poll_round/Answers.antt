@@ -3,10 +3,11 @@ use Rattle.input_gate.specs.declared.gate.GateItem.TheVariants as items
 use Rattle.input_gate.specs.Gates.{Ended}
 use Rattle.input_gate.specs.Channels.{account_of, CameAt}
 use Rattle.input_gate.proofs.RoundLaws.{quiet_all, quiet_length, quiet_on, quiet_cells, up_of, gave_on, most_on}
+use Rattle.input_gate.proofs.SegmentLaws.{even_refl, even_then}
 use Rattle.input_gate.proofs.rounds.poll_round.Goals as goal
 
 pub loop-turn-init : goal.loop-turn-init
-loop-turn-init g c = record { lanes = c.requires.lanes; quiet = quiet_all c.args.lanes.now.items; lender = c.requires.lender; same = refl; spare = c.requires.spare }
+loop-turn-init g c = record { lanes = c.requires.lanes; quiet = quiet_all c.args.lanes.now.items; lender = c.requires.lender; same = refl; spare = c.requires.spare; segments = even_refl _ _ _ }
 
 pub step_at-requires-clause-within : goal.step_at-requires-clause-within
 step_at-requires-clause-within g c =
@@ -25,6 +26,7 @@ loop-turn-preserved g c = record {
   lender = c.step_at.ensures.lender.0;
   same = c.step_at.ensures.lender.1 ∙ c.loop-turn.invariant.same;
   spare = c.in-Ok-Nothing.ensures.spare;
+  segments = even_then c.loop-turn.invariant.segments c.step_at.ensures.segments;
 }
 
 pub returns-in-Ok-Found-clause-came : goal.returns-in-Ok-Found-clause-came
@@ -48,3 +50,12 @@ returns-in-Err-clause-cells g c = c.step_at.ensures.cells ∙ quiet_cells c.args
 
 pub returns-clause-cells : goal.returns-clause-cells
 returns-clause-cells g c = quiet_cells c.args.lanes.now.items c.loop-turn.lanes.items c.loop-turn.invariant.quiet
+
+pub returns-in-Ok-Found-clause-segments : goal.returns-in-Ok-Found-clause-segments
+returns-in-Ok-Found-clause-segments g c = even_then c.loop-turn.invariant.segments c.step_at.ensures.segments
+
+pub returns-in-Ok-Barrier-clause-segments : goal.returns-in-Ok-Barrier-clause-segments
+returns-in-Ok-Barrier-clause-segments g c = even_then c.loop-turn.invariant.segments c.step_at.ensures.segments
+
+pub returns-in-Err-clause-segments : goal.returns-in-Err-clause-segments
+returns-in-Err-clause-segments g c = even_then c.loop-turn.invariant.segments c.step_at.ensures.segments

@@ -1,5 +1,6 @@
 use Rattle.std.proofs.Common.{◌≡◌}
 use Rattle.input_gate.specs.Lanes.{IsLender, lent_size}
+use Rattle.input_gate.specs.Segments.{AllStayEven}
 use Rattle.input_gate.specs.Channels.{AreLanes, AreQuiet, HaveNoSpare}
 use Rattle.input_gate.proofs.rounds.poll_round.Given as goal
 
@@ -10,4 +11,5 @@ invariant-loop-turn g l = record {
   lender : IsLender l.lender;
   same : l.lender.cell ≡ l.fn.lender.cell;
   spare : HaveNoSpare l.lanes.items;
+  segments : AllStayEven l.fn.lender l.fn.lanes.items l.lender l.lanes.items;
 }

@@ -1,9 +1,10 @@
 use Rattle.std.proofs.Common.{rules, ◌<◌, ◌≤◌, ◌∙◌, length, refl, arith}
 use Rattle.input_gate.proofs.RoundLaws.{quiet_all, quiet_length, quiet_on, spare_more, spare_all}
+use Rattle.input_gate.proofs.SegmentLaws.{even_refl, even_then}
 use Rattle.input_gate.proofs.rounds.refill_all.Goals as goal
 
 pub loop-i-init : goal.loop-i-init
-loop-i-init g c = record { within = omega arith; lanes = c.requires.lanes; quiet = quiet_all c.args.lanes.now.items; lender = c.requires.lender; same = refl; spare = λ d low. absurd (omega (arith, low)) }
+loop-i-init g c = record { within = omega arith; lanes = c.requires.lanes; quiet = quiet_all c.args.lanes.now.items; lender = c.requires.lender; same = refl; spare = λ d low. absurd (omega (arith, low)); segments = even_refl _ _ _ }
 
 pub refill_at-requires-clause-within : goal.refill_at-requires-clause-within
 refill_at-requires-clause-within g c =
@@ -24,6 +25,7 @@ loop-i-preserved g c =
       lender = c.refill_at.ensures.lender.0;
       same = c.refill_at.ensures.lender.1 ∙ c.loop-i.invariant.same;
       spare = spare_more c.loop-i.lanes.items c.refill_at.new.lanes.items c.loop-i.i c.in-Ok.ensures.here c.refill_at.ensures.others c.loop-i.invariant.spare;
+      segments = even_then c.loop-i.invariant.segments c.refill_at.ensures.segments;
     }
 
 pub returns-in-Err-clause-quiet : goal.returns-in-Err-clause-quiet
@@ -31,3 +33,6 @@ returns-in-Err-clause-quiet g c = quiet_on c.args.lanes.now.items c.loop-i.lanes
 
 pub returns-clause-spare : goal.returns-clause-spare
 returns-clause-spare g c = spare_all c.loop-i.lanes.items c.loop-i.i (let same = quiet_length c.args.lanes.now.items c.loop-i.lanes.items c.loop-i.invariant.quiet in let e : length c.args.lanes.now.items ≤ c.loop-i.i = search rules in omega (arith, same, e)) c.loop-i.invariant.spare
+
+pub returns-in-Err-clause-segments : goal.returns-in-Err-clause-segments
+returns-in-Err-clause-segments g c = even_then c.loop-i.invariant.segments c.refill_at.ensures.segments

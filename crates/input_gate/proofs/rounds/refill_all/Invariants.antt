@@ -1,5 +1,6 @@
 use Rattle.std.proofs.Common.{◌≡◌, ◌≤◌, length}
 use Rattle.input_gate.specs.Lanes.{IsLender, lent_size}
+use Rattle.input_gate.specs.Segments.{AllStayEven}
 use Rattle.input_gate.specs.Channels.{AreLanes, AreQuiet, HaveNoSpareBelow}
 use Rattle.input_gate.proofs.rounds.refill_all.Given as goal
 
@@ -11,4 +12,5 @@ invariant-loop-i g l = record {
   lender : IsLender l.lender;
   same : l.lender.cell ≡ l.fn.lender.cell;
   spare : HaveNoSpareBelow l.i l.lanes.items;
+  segments : AllStayEven l.fn.lender l.fn.lanes.items l.lender l.lanes.items;
 }

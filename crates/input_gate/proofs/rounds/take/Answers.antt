@@ -4,6 +4,7 @@ use Rattle.input_gate.specs.declared.gate.GateItem.TheVariants as items
 use Rattle.input_gate.specs.Channels.{CameRound}
 use Rattle.input_gate.specs.Lanes.{lent_size}
 use Rattle.input_gate.proofs.RoundLaws.{quiet_length, quiet_on, quiet_cells, up_then, gave_on, most_on, looked_through}
+use Rattle.input_gate.proofs.SegmentLaws.{even_then, untouched_then, all_untouched}
 use Rattle.input_gate.proofs.rounds.take.Goals as goal
 
 pub look_round-requires-clause-few : goal.look_round-requires-clause-few
@@ -95,3 +96,27 @@ returns-in-Ok-Gave-clause-took g c = (gave_on c.args.lanes.now.items c.find_line
 
 pub returns-in-Ok-Gave-clause-cells : goal.returns-in-Ok-Gave-clause-cells
 returns-in-Ok-Gave-clause-cells g c = c.poll_round.ensures.cells ∙ quiet_cells c.args.lanes.now.items c.find_line.new.lanes.items c.find_line.ensures.quiet
+
+pub returns-in-Err-clause-segments : goal.returns-in-Err-clause-segments
+returns-in-Err-clause-segments g c = all_untouched c.args.lanes.now.items c.find_line.new.lanes.items c.find_line.ensures.segments
+
+pub returns-in-Some-clause-segments : goal.returns-in-Some-clause-segments
+returns-in-Some-clause-segments g c = all_untouched c.args.lanes.now.items c.look_round.new.lanes.items (untouched_then c.args.lanes.now.items c.find_line.new.lanes.items c.look_round.new.lanes.items c.find_line.ensures.segments c.look_round.ensures.segments)
+
+pub returns-in_default-line_at-clause-segments : goal.returns-in_default-line_at-clause-segments
+returns-in_default-line_at-clause-segments g c = all_untouched c.args.lanes.now.items c.line_at.new.lanes.items (untouched_then c.args.lanes.now.items c.look_round.new.lanes.items c.line_at.new.lanes.items (untouched_then c.args.lanes.now.items c.find_line.new.lanes.items c.look_round.new.lanes.items c.find_line.ensures.segments c.look_round.ensures.segments) c.line_at.ensures.segments)
+
+pub returns-in-Some-line_at-clause-segments : goal.returns-in-Some-line_at-clause-segments
+returns-in-Some-line_at-clause-segments g c = all_untouched c.args.lanes.now.items c.line_at.new.lanes.items (untouched_then c.args.lanes.now.items c.look_round.new.lanes.items c.line_at.new.lanes.items (untouched_then c.args.lanes.now.items c.find_line.new.lanes.items c.look_round.new.lanes.items c.find_line.ensures.segments c.look_round.ensures.segments) c.line_at.ensures.segments)
+
+pub returns-in-Err-poll_round-clause-segments : goal.returns-in-Err-poll_round-clause-segments
+returns-in-Err-poll_round-clause-segments g c = even_then (all_untouched c.args.lanes.now.items c.find_line.new.lanes.items c.find_line.ensures.segments) c.poll_round.ensures.segments
+
+pub returns-in-Ok-Idle-clause-segments : goal.returns-in-Ok-Idle-clause-segments
+returns-in-Ok-Idle-clause-segments g c = even_then (all_untouched c.args.lanes.now.items c.find_line.new.lanes.items c.find_line.ensures.segments) c.poll_round.ensures.segments
+
+pub returns-in-Ok-Moved-clause-segments : goal.returns-in-Ok-Moved-clause-segments
+returns-in-Ok-Moved-clause-segments g c = even_then (all_untouched c.args.lanes.now.items c.find_line.new.lanes.items c.find_line.ensures.segments) c.poll_round.ensures.segments
+
+pub returns-in-Ok-Gave-clause-segments : goal.returns-in-Ok-Gave-clause-segments
+returns-in-Ok-Gave-clause-segments g c = even_then (all_untouched c.args.lanes.now.items c.find_line.new.lanes.items c.find_line.ensures.segments) c.poll_round.ensures.segments

@@ -3,8 +3,9 @@ use Rattle.turn_cell.specs.Passes.{seen, sights}
 use Rattle.input_channel.specs.declared.entry.ReceiveEntry.TheVariants.{Added}
 use Rattle.input_channel.specs.Counts.{wants}
 use Rattle.input_channel.specs.States.{ChannelState}
+use Rattle.input_gate.specs.Segments.{freed_by}
 use Rattle.input_gate.specs.Turning.{given_to}
-use Rattle.input_gate.proofs.TurnLaws.{Begun, state_after, more, rested, rested_given, entered_given}
+use Rattle.input_gate.proofs.TurnLaws.{Begun, rested_freed, still_freed, state_after, more, rested, rested_given, entered_given}
 use Rattle.input_gate.proofs.turns.add_in_turn.Goals as goal
 
 pub leave-requires-clause-state : goal.leave-requires-clause-state
@@ -51,4 +52,20 @@ returns-clause-given g c =
     let b : Begun p t c.enter-turn.result.state = record { first = c.requires.pass.1; same = e.pass.0; later = e.seen; looked = e.looked; own_before = c.requires.pass.0.0.5; own = e.turn.0.0.5; stands = e.state.0 } in
     let q = c.leave.new.self.1.0 in
     let f : given_to q ≡ given_to p = entered_given p t c.enter-turn.result.state b c.passes_tell.ensures.given c.channels_stand_for_histories.ensures.passes q Added c.leave.ensures.entered (λ i. refl) in
+    search (rules, f)
+
+pub returns-then-wants-eq0-clause-freed : goal.returns-then-wants-eq0-clause-freed
+returns-then-wants-eq0-clause-freed g c =
+    let p = c.args.pass.now in let t = c.enter-turn.result.pass.now in let e = c.enter-turn.ensures in let kept = c.channels_stand_for_histories.ensures.passes in
+    let b : Begun p t c.enter-turn.result.state = record { first = c.requires.pass.1; same = e.pass.0; later = e.seen; looked = e.looked; own_before = c.requires.pass.0.0.5; own = e.turn.0.0.5; stands = e.state.0 } in
+    let q = c.leave_as_is.new.self.1.0 in
+    let f : freed_by q ≡ freed_by p = rested_freed p t c.enter-turn.result.state b kept q c.leave_as_is.ensures.rested in
+    search (rules, f)
+
+pub returns-clause-freed : goal.returns-clause-freed
+returns-clause-freed g c =
+    let p = c.args.pass.now in let t = c.enter-turn.result.pass.now in let e = c.enter-turn.ensures in let kept = c.channels_stand_for_histories.ensures.passes in
+    let b : Begun p t c.enter-turn.result.state = record { first = c.requires.pass.1; same = e.pass.0; later = e.seen; looked = e.looked; own_before = c.requires.pass.0.0.5; own = e.turn.0.0.5; stands = e.state.0 } in
+    let q = c.leave.new.self.1.0 in
+    let f : freed_by q ≡ freed_by p = still_freed p t c.enter-turn.result.state b kept q Added c.leave.ensures.entered (λ counts. refl) in
     search (rules, f)

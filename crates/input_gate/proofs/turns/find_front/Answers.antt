@@ -1,11 +1,13 @@
-use Rattle.std.proofs.Common.{rules, ◌≡◌, ◌++◌, ◌∷◌, [], length, suc, false, ap, subst}
+use Rattle.std.proofs.Common.{rules, ◌≡◌, ◌++◌, ◌∷◌, ◌∙◌, [], length, suc, false, ap, subst}
 use Rattle.std.specs.Prelude.{MatchOption, IfSome, IfNone}
+use Rattle.turn_cell.specs.History.{entries_of}
 use Rattle.turn_cell.specs.Passes.{mine}
 use Rattle.flow_defs.specs.declared.parcel.Parcel.TheVariants as parcels
 use Rattle.flow_defs.specs.declared.task.BarrierKind.TheVariants.{Front}
 use Rattle.flow_defs.specs.Parcels.{barriers_of}
 use Rattle.input_channel.specs.declared.entry.Gave.TheVariants.{NoBuffer}
 use Rattle.input_channel.specs.declared.entry.ReceiveEntry.TheVariants.{Poll}
+use Rattle.input_channel.specs.Counts.{freed}
 use Rattle.input_gate.specs.Turning.{Looked, looks_of, given_to, given_in}
 use Rattle.input_gate.proofs.TurnLaws.{later_then, later_once, later_same, looks_once, looks_same, when_true, when_false}
 use Rattle.input_gate.proofs.turns.find_front.Goals as goal
@@ -33,3 +35,9 @@ returns-clause-numbered g c = subst (λ z. IfSome c.take_front-2.result (λ k. k
 
 pub returns-clause-looked : goal.returns-clause-looked
 returns-clause-looked g c = subst (λ z. IfNone c.take_front-2.result (Looked z (looks_of c.take_front-2.new.pass))) (looks_same c.args.pass.now c.is_current.new.pass c.is_current.ensures.pass.2 (when_false c.args.pass.now c.is_current.new.pass c.is_current.result c.if-is_current.false c.is_current.ensures.looked)) c.take_front-2.ensures.looked
+
+pub returns-then-is_current-clause-freed : goal.returns-then-is_current-clause-freed
+returns-then-is_current-clause-freed g c = ap (λ s. freed (entries_of s)) c.is_current.ensures.pass.2
+
+pub returns-clause-freed : goal.returns-clause-freed
+returns-clause-freed g c = c.take_front-2.ensures.freed ∙ ap (λ s. freed (entries_of s)) c.is_current.ensures.pass.2

@@ -5,8 +5,9 @@ use Rattle.turn_cell.specs.Passes.{opened_with, seen, sights}
 use Rattle.input_channel.specs.declared.entry.ReceiveEntry.TheVariants.{Poll}
 use Rattle.input_channel.specs.Answers.{gave_of, given_by}
 use Rattle.input_channel.specs.States.{ChannelState, StandsFor}
+use Rattle.input_gate.specs.Segments.{freed_by}
 use Rattle.input_gate.specs.Turning.{given_to, InputCell}
-use Rattle.input_gate.proofs.TurnLaws.{Begun, state_after, more, polled_given, next_number, fits}
+use Rattle.input_gate.proofs.TurnLaws.{Begun, still_freed, state_after, more, polled_given, next_number, fits}
 use Rattle.input_gate.proofs.turns.poll_in_turn.Goals as goal
 
 pub leave_polled-requires-clause-state : goal.leave_polled-requires-clause-state
@@ -47,3 +48,11 @@ returns-clause-fits g c =
     (c.answers_tell.ensures.polled old (entries_of (seen t)) c.args.hold c.in-Ok.polled c.in-Ok.ensures.answer) c.in-Ok.ensures.channel) in
     fits (opened_with c.args.cell.now).size c.args.hold (given_to p) (given_to q) old c.in-Ok.polled c.in-Ok.ensures.answer (ap (λ (s : ChannelState). s.size) c.state.ensures.value ∙ e.state.1 ∙ ap (λ (cell : InputCell). (opened_with cell).size) e.turn.1) now
     (λ k kind is. next_number c.histories_keep_order.ensures.barriers c.legal_histories_agree.ensures.numbered laws.legal c.poll.new.self (seen q) (given_to p) k kind stands is)
+
+pub returns-clause-freed : goal.returns-clause-freed
+returns-clause-freed g c =
+    let p = c.args.pass.now in let t = c.enter-turn.result.pass.now in let e = c.enter-turn.ensures in let kept = c.channels_stand_for_histories.ensures.passes in
+    let b : Begun p t c.enter-turn.result.state = record { first = c.requires.1; same = e.pass.0; later = e.seen; looked = e.looked; own_before = c.requires.0.0.5; own = e.turn.0.0.5; stands = e.state.0 } in
+    let q = c.leave_polled.new.turn.1.0 in
+    let f : freed_by q ≡ freed_by p = still_freed p t c.enter-turn.result.state b kept q (Poll c.args.hold (gave_of c.in-Ok.polled)) c.leave_polled.ensures.entered (λ counts. refl) in
+    search (rules, f)

@@ -9,8 +9,9 @@ use Rattle.input_channel.specs.declared.entry.ReceiveEntry.TheVariants.{Poll}
 use Rattle.input_channel.specs.Answers.{gave_of, given_by}
 use Rattle.input_channel.specs.Inboxes.{front_waits}
 use Rattle.input_channel.specs.States.{ChannelState, StandsFor, after}
+use Rattle.input_gate.specs.Segments.{freed_by}
 use Rattle.input_gate.specs.Turning.{given_to}
-use Rattle.input_gate.proofs.TurnLaws.{Begun, state_after, more, rested_given, polled_given, next_number, front_answer, not_buffer, not_end}
+use Rattle.input_gate.proofs.TurnLaws.{Begun, rested_freed, still_freed, state_after, more, rested_given, polled_given, next_number, front_answer, not_buffer, not_end}
 use Rattle.input_gate.proofs.turns.take_front.Goals as goal
 
 pub returns-then-not-front_waits-clause-given : goal.returns-then-not-front_waits-clause-given
@@ -90,3 +91,19 @@ returns-clause-numbered g c =
     ∙ ap (λ kind. given_to p ++ parcels.Barrier c.in-Barrier.k kind ∷ []) (front_answer old c.in-Ok.polled c.in-Ok.ensures.answer waits c.in-Barrier.k c.in-Barrier._kind c.in-Barrier.is) in
     next_number c.histories_keep_order.ensures.barriers c.legal_histories_agree.ensures.numbered laws.legal c.poll.new.self (seen q) (given_to p) c.in-Barrier.k Front
     (subst (StandsFor c.poll.new.self) (sym c.leave.ensures.entered.1) stands) f
+
+pub returns-then-not-front_waits-clause-freed : goal.returns-then-not-front_waits-clause-freed
+returns-then-not-front_waits-clause-freed g c =
+    let p = c.args.pass.now in let t = c.enter-turn.result.pass.now in let e = c.enter-turn.ensures in let kept = c.channels_stand_for_histories.ensures.passes in
+    let b : Begun p t c.enter-turn.result.state = record { first = c.requires.1; same = e.pass.0; later = e.seen; looked = e.looked; own_before = c.requires.0.0.5; own = e.turn.0.0.5; stands = e.state.0 } in
+    let q = c.leave_as_is.new.self.1.0 in
+    let f : freed_by q ≡ freed_by p = rested_freed p t c.enter-turn.result.state b kept q c.leave_as_is.ensures.rested in
+    search (rules, f)
+
+pub returns-clause-freed : goal.returns-clause-freed
+returns-clause-freed g c =
+    let p = c.args.pass.now in let t = c.enter-turn.result.pass.now in let e = c.enter-turn.ensures in let kept = c.channels_stand_for_histories.ensures.passes in
+    let b : Begun p t c.enter-turn.result.state = record { first = c.requires.1; same = e.pass.0; later = e.seen; looked = e.looked; own_before = c.requires.0.0.5; own = e.turn.0.0.5; stands = e.state.0 } in
+    let q = c.leave.new.self.1.0 in
+    let f : freed_by q ≡ freed_by p = still_freed p t c.enter-turn.result.state b kept q (Poll false NoBuffer) c.leave.ensures.entered (λ counts. refl) in
+    search (rules, f)

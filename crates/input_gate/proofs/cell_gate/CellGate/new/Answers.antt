@@ -1,8 +1,11 @@
-use Rattle.std.proofs.Common.{refl, arith}
-use Rattle.turn_cell.specs.Passes.{opened_with}
+use Rattle.std.proofs.Common.{refl, sym, subst, arith}
+use Rattle.turn_cell.specs.Passes.{opened_with, mine}
 use Rattle.segment_pool.specs.Pools.{size_of}
 use Rattle.local_pool.specs.Helds.{pool_of}
-use Rattle.input_gate.proofs.GateLaws.{first_of, lanes_fresh, cells_fresh, length_fresh, is_new, no_spare_fresh}
+use Rattle.local_pool.specs.Lending.{PoolPass}
+use Rattle.input_gate.specs.Channels.{passes_in}
+use Rattle.input_gate.specs.Segments.{LoseNone}
+use Rattle.input_gate.proofs.GateLaws.{first_of, lanes_fresh, cells_fresh, length_fresh, is_new, no_spare_fresh, lose_fresh}
 use Rattle.input_gate.proofs.cell_gate.CellGate.new.Goals as goal
 
 pub invariant_of-result : goal.invariant_of-result
@@ -17,6 +20,7 @@ invariant_of-result c =
         lender_is = c.requires.pool;
         stop_is = c.requires.stop.0;
         no_fault = c.requires.stop.1;
+        none_lost = subst (λ (pass : PoolPass). LoseNone (mine pass) (mine c.args.pool_pass) (passes_in c.deal_lanes-lanes.result.items)) (sym c.of-first.ensures) (lose_fresh (size_of (pool_of (opened_with c.args.gate_pool.now))) c.args.cells.now c.args.passes.items c.deal_lanes-lanes.result.items c.deal_lanes-lanes.ensures.lanes first (mine c.args.pool_pass));
       },
       c.deal_lanes-lanes.ensures.passes.0,
       omega (arith, same, room),

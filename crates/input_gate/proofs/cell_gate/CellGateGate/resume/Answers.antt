@@ -2,6 +2,7 @@ use Rattle.std.proofs.Common.{◌≡◌, ◌<◌, length, sym, subst, arith, suc
 use Rattle.input_gate.specs.Gates.{stops_in}
 use Rattle.input_gate.specs.States.{GateState, account_in}
 use Rattle.input_gate.proofs.GateLaws.{cells_length}
+use Rattle.input_gate.proofs.SegmentLaws.{lose_then, all_untouched}
 use Rattle.input_gate.proofs.cell_gate.CellGateGate.resume.Goals as goal
 
 pub resume_at-requires-clause-within : goal.resume_at-requires-clause-within
@@ -24,6 +25,7 @@ invariant_of-self g c =
         lender_is = c.self.invariant.0.lender_is;
         stop_is = c.self.invariant.0.stop_is;
         no_fault = c.self.invariant.0.no_fault;
+        none_lost = lose_then _ _ _ c.self.inside.lanes.items c.resume_at.new.lanes.items c.self.invariant.0.none_lost (all_untouched c.self.inside.lanes.items c.resume_at.new.lanes.items c.resume_at.ensures.segments);
       },
       c.self.invariant.1,
       omega (arith, same, room),

@@ -12,7 +12,8 @@ use Rattle.record_writer.specs.declared.part.Part.{Part}
 use Rattle.record_writer.specs.declared.supply.Supply.{Supply}
 use Rattle.record_writer.specs.declared.channels.Channels.{Channels}
 use Rattle.record_writer.specs.Writers.{SendPass}
-use Rattle.record_writer.specs.Segments.{NoneLost, NoneLostAt, NoneLostOn, all_put, all_held, accounted, buffers_put, holds, is_buffer, is_lent, is_returned, lending_of, lends, returns}
+use Rattle.record_writer.specs.Segments.{NoneLost, NoneLostAt, NoneLostOn, all_put, all_held, accounted, buffers_put, holds, is_buffer, lending_of}
+use Rattle.local_pool.specs.Lending.{is_lent, is_returned, lends, returns}
 use Rattle.record_writer.proofs.Lending.{passes_now, parts_now, passes_set, parts_set}
 
 -- An entry more counts or not.

@@ -3,9 +3,8 @@
 use Rattle.std.specs.Prelude.{◌≡◌, ℕ, ◌+◌, Bool, true, false, List, [], count_by, sum_by}
 use Rattle.std.specs.Option.{option_map_or}
 use Rattle.turn_cell.specs.Passes.{mine}
-use Rattle.local_pool.specs.Lending.{PoolPass}
+use Rattle.local_pool.specs.Lending.{PoolPass, lends, returns}
 use Rattle.local_pool.specs.declared.entry.PoolEntry.{PoolEntry}
-use Rattle.local_pool.specs.declared.entry.PoolEntry.TheVariants.{Lent, Returned}
 use Rattle.subpartition.specs.declared.entry.SendEntry.{SendEntry}
 use Rattle.subpartition.specs.declared.entry.SendEntry.TheVariants.{Put, PutInline, Finish, Take, Size}
 use Rattle.record_writer.specs.declared.part.Part.{Part}
@@ -13,28 +12,13 @@ use Rattle.record_writer.specs.declared.supply.Supply.{Supply}
 use Rattle.record_writer.specs.declared.channels.Channels.{Channels}
 use Rattle.record_writer.specs.Writers.{SendPass, Writer}
 
--- Whether a pool lent a segment, or got one back; whether a buffer was put.
-abbrev pub is_lent : PoolEntry → Bool
-is_lent Lent = true
-is_lent Returned = false
-
-abbrev pub is_returned : PoolEntry → Bool
-is_returned Lent = false
-is_returned Returned = true
-
+-- Whether a buffer was put, and how many were.
 abbrev pub is_buffer : SendEntry → Bool
 is_buffer (Put bytes) = true
 is_buffer (PutInline k) = false
 is_buffer Finish = false
 is_buffer Take = false
 is_buffer (Size n) = false
-
--- How many segments a pool lent, and how many it got back; how many buffers were put.
-abbrev pub lends : List PoolEntry → ℕ
-lends entries = count_by is_lent entries
-
-abbrev pub returns : List PoolEntry → ℕ
-returns entries = count_by is_returned entries
 
 abbrev pub buffers_put : List SendEntry → ℕ
 buffers_put own = count_by is_buffer own

@@ -1,5 +1,5 @@
 -- Segments that are lent, given back, put and filled.
-use Rattle.std.proofs.Common.{◌≡◌, ℕ, ◌+◌, ◌<◌, ◌≤◌, Bool, true, false, cond, suc, Option, Some, None, List, [], ◌∷◌, ◌++◌, length, get_or, set, refl, sym, ap, subst, ◌∙◌, arith}
+use Rattle.std.proofs.Common.{◌≡◌, ℕ, ◌+◌, ◌<◌, Bool, false, cond, Option, Some, None, List, [], ◌∷◌, ◌++◌, length, get_or, set, sym, ap, ◌∙◌, arith}
 use Rattle.std.specs.Prelude.{count_by}
 use Rattle.std.specs.Option.{option_map_or}
 use Rattle.std.proofs.lemmas.List.Sums.{sum_by-append, sum_by-cons, sum_by-set}
@@ -12,7 +12,7 @@ use Rattle.record_writer.specs.declared.part.Part.{Part}
 use Rattle.record_writer.specs.declared.supply.Supply.{Supply}
 use Rattle.record_writer.specs.declared.channels.Channels.{Channels}
 use Rattle.record_writer.specs.Writers.{SendPass}
-use Rattle.record_writer.specs.Segments.{NoneLost, NoneLostAt, NoneLostOn, all_put, all_held, accounted, buffers_put, holds, is_buffer, lending_of}
+use Rattle.record_writer.specs.Segments.{NoneLost, NoneLostAt, NoneLostOn, all_put, all_held, buffers_put, holds, is_buffer, lending_of}
 use Rattle.local_pool.specs.Lending.{is_lent, is_returned, lends, returns}
 use Rattle.record_writer.proofs.Lending.{passes_now, parts_now, passes_set, parts_set}
 

@@ -1,4 +1,4 @@
-use Rattle.std.proofs.Common.{rules, ◌≡◌, ◌+◌, suc, [], ◌∷◌, ◌++◌, length, sym, ap, subst, ◌∙◌, arith}
+use Rattle.std.proofs.Common.{rules, ◌≡◌, suc, [], ◌∷◌, ◌++◌, length, sym, ap, subst, ◌∙◌, arith}
 use Rattle.turn_cell.specs.History.{by}
 use Rattle.turn_cell.specs.Passes.{number, seen, mine}
 use Rattle.subpartition.specs.declared.entry.SendEntry.TheVariants.{PutInline}

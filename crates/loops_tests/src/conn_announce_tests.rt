@@ -1,6 +1,5 @@
 // The loop over links in memory: what it writes, and why it ends.
 ghost use Rattle.std.specs.Prelude.{◌≡◌, ◌+◌, ◌<◌, ◌++◌, [], ◌∷◌, length, Some, true, false, IfSome, IfOk};
-ghost use Rattle.turn_cell.specs.Closing.{AreFresh, IsFresh};
 ghost use Rattle.turn_cell.specs.Passes.{IsPassOf, IsTurnOf, HasEntered, opened_with, number, seen};
 ghost use Rattle.flow_defs.specs.declared.parcel.Parcel.TheVariants as parcels;
 ghost use Rattle.segment_pool.specs.Pools as pools;
@@ -11,12 +10,14 @@ ghost use Rattle.credit_reader.specs.Senders.{AreDistinct};
 ghost use Rattle.conn_parts.specs.Shares.{AreOwn};
 ghost use Rattle.outside.specs.Stops.{is_fault};
 
+use crate::lent::{CLOSING, deal, deal_place, open_stop};
+use crate::slow_links::SlowOut;
 use conn_announce::send_control;
 use conn_parts::{ConnShare, LoopEnd, SharePasses};
 use flow_defs::{Cause, ChannelId, ListOf};
 use input_channel::laws::{answers_tell, channels_stand_for_histories};
 use input_channel::{Arrival, ArrivalKind, InputChannel, ReceiveEntry};
-use outside::{Failed, LinkOut, StopState, look_for_stop, tell_stop};
+use outside::{look_for_stop, tell_stop};
 use reader_state::ReaderState;
 use segment_pool::{Pool, PoolPass, Segment};
 use std::alloc::{AllocError, Global};
@@ -25,48 +26,6 @@ use std::process::Abort;
 use std::sync::Wait;
 use std::test::Fail;
 use turn_cell::{Named, Pass, Turn, TurnCell, Turned};
-
-// A link that takes at most `most` bytes in a write, and fails from one write on.
-#[derive(Drop)]
-struct SlowOut {
-    bytes: Vec<u8>,
-    most: usize,
-    fails_from: u64,
-    writes: u64,
-    faults: u64,
-    finished: bool,
-}
-
-impl LinkOut for SlowOut {
-    type Line = u64;
-
-    ghost line = { λ _. 0 };
-
-    ghost sent = { λ s. Some s.bytes.items };
-
-    ghost finished = { λ s. Some s.finished };
-
-    ghost faults = { λ s. s.faults };
-
-    ghost never_fails = { λ _. ⊥ };
-
-    ghost is_faultless = { λ old new never. absurd never };
-
-    fn write<R: Wait>(&mut self, _rt: &R, bytes: &[u8]) -> Result<usize, Failed> {
-        self.writes = self.writes.saturating_add(1);
-        let count = bytes.len().min(self.most);
-        let fails = self.writes >= self.fails_from || count == 0;
-        if fails || self.bytes.extend_from_slice(&bytes[..count]).is_err() {
-            self.faults = self.faults.saturating_add(1);
-            return Err(Failed);
-        }
-        Ok(count)
-    }
-
-    fn finish<R: Wait>(&mut self, _rt: &R) {
-        self.finished = true;
-    }
-}
 
 fn link(alloc: Global, most: usize, fails_from: u64) -> SlowOut
     ensures { result.finished ≡ false }
@@ -79,18 +38,6 @@ fn link(alloc: Global, most: usize, fails_from: u64) -> SlowOut
         faults: 0,
         finished: false,
     }
-}
-
-// Takes the last of these passes.
-fn deal<S: Turned>(cell: &TurnCell<S>, passes: &mut ListOf<Pass<S>>) -> Pass<S>
-    requires fresh { AreFresh cell.now passes.old.items }
-    requires some { 0 < length passes.old.items }
-    ensures fresh { AreFresh cell.now passes.new.items }
-    ensures many { length passes.old.items ≡ length passes.new.items + 1 }
-    ensures last { IsPassOf cell.now result × IsFresh (length passes.new.items) result }
-{
-    let _cell = cell;
-    passes.pop().unwrap()
 }
 
 fn claim<R: Wait + Abort>(rt: &R, pool: &Pool, pass: &mut PoolPass) -> Segment
@@ -131,21 +78,6 @@ fn open_channel<R: Wait + Abort>(
     let writer = deal(&cell, &mut passes);
     let reader = deal(&cell, &mut passes);
     (cell, reader, writer)
-}
-
-// A stop cell with two passes.
-fn open_stop<R: Abort>(
-    rt: &R,
-    alloc: Global,
-) -> (TurnCell<StopState>, Pass<StopState>, Pass<StopState>)
-    ensures { IsPassOf result.0 result.1 × IsPassOf result.0 result.2 }
-{
-    let Ok((cell, mut passes)) = TurnCell::new(alloc, StopState::new(), 2) else {
-        panic!(rt; "no stop cell")
-    };
-    let second = deal(&cell, &mut passes);
-    let first = deal(&cell, &mut passes);
-    (cell, first, second)
 }
 
 // Ends the turn in which a backlog of one buffer was told.
@@ -292,14 +224,6 @@ fn run_with<R: Wait + Abort>(
     })
 }
 
-// Takes the last of these passes.
-fn deal_place(places: &mut ListOf<PoolPass>) -> PoolPass
-    requires { 0 < length places.old.items }
-    ensures { places.old.items ≡ places.new.items ++ result ∷ [] }
-{
-    places.pop().unwrap()
-}
-
 // Puts two passes into a list.
 fn list_of_two<S: Turned>(
     alloc: Global,
@@ -346,8 +270,6 @@ fn run<R: Wait + Abort>(
         passes,
     )
 }
-
-const CLOSING: [u8; 9] = [0, 0, 0, 9, 0xBA, 0xDC, 0x0F, 0xFE, 5];
 
 const REQUEST: u8 = 2;
 

@@ -1,16 +1,16 @@
 // The loop over links in memory: what it gives to the readers and the subpartitions, and why it ends.
-ghost use Rattle.std.specs.Prelude.{◌≡◌, ◌+◌, ◌<◌, [], length, IfSome, true};
-ghost use Rattle.turn_cell.specs.Closing.{AreFresh, IsFresh};
+ghost use Rattle.std.specs.Prelude.{◌≡◌, ◌+◌, ◌<◌, [], IfSome, true};
 ghost use Rattle.turn_cell.specs.Passes.{IsPassOf, opened_with, number, mine};
 ghost use Rattle.credit_reader.specs.Senders.{AreDistinct};
 ghost use Rattle.reader_state.specs.Turning.{channels_in, IsReaderPass};
 ghost use Rattle.outside.specs.Stops.{is_fault};
 
+use crate::lent::{CLOSING, deal, open_stop};
 use crate::slow_links::SlowIn;
 use conn_grant::read_control;
 use conn_parts::{ConnShare, LoopEnd, SharePasses};
 use flow_defs::{Cause, ChannelId, Head, ListOf, PeerFault};
-use outside::{StopState, look_for_stop, tell_stop};
+use outside::{look_for_stop, tell_stop};
 use reader_state::{ReaderState, next_to_send, tell_ready};
 use std::alloc::{AllocError, Global};
 use std::process::Abort;
@@ -18,7 +18,7 @@ use std::sync::Wait;
 use std::test::Fail;
 use subpartition::Subpartition;
 use subpartition::laws::calls_add_entries;
-use turn_cell::{Pass, TurnCell, Turned};
+use turn_cell::{Pass, TurnCell};
 
 // A frame with a number: its id, the index of the channel's sending task, and the number. A resumption
 // has none.
@@ -33,8 +33,6 @@ const RESUMPTION: u8 = 7;
 const BACKLOG: u8 = 9;
 
 const SIZE: u8 = 10;
-
-const CLOSING: [u8; 9] = [0, 0, 0, 9, 0xBA, 0xDC, 0x0F, 0xFE, 5];
 
 const CREDIT_MAX: u32 = 2_147_483_647;
 
@@ -66,18 +64,6 @@ fn link(alloc: Global, frames: &[Numbered], end: &[u8]) -> Result<SlowIn, AllocE
         faults: 0,
         ended: false,
     })
-}
-
-// Takes the last of these passes.
-fn deal<S: Turned>(cell: &TurnCell<S>, passes: &mut ListOf<Pass<S>>) -> Pass<S>
-    requires fresh { AreFresh cell.now passes.old.items }
-    requires some { 0 < length passes.old.items }
-    ensures fresh { AreFresh cell.now passes.new.items }
-    ensures many { length passes.old.items ≡ length passes.new.items + 1 }
-    ensures last { IsPassOf cell.now result × IsFresh (length passes.new.items) result }
-{
-    let _cell = cell;
-    passes.pop().unwrap()
 }
 
 // The one channel of the connection.
@@ -133,21 +119,6 @@ fn open_subpartition<R: Abort>(
     let reader = deal(&cell, &mut passes);
     let sender = deal(&cell, &mut passes);
     (cell, sender, reader)
-}
-
-// A stop cell with two passes.
-fn open_stop<R: Abort>(
-    rt: &R,
-    alloc: Global,
-) -> (TurnCell<StopState>, Pass<StopState>, Pass<StopState>)
-    ensures { IsPassOf result.0 result.1 × IsPassOf result.0 result.2 }
-{
-    let Ok((cell, mut passes)) = TurnCell::new(alloc, StopState::new(), 2) else {
-        panic!(rt; "no stop cell")
-    };
-    let second = deal(&cell, &mut passes);
-    let first = deal(&cell, &mut passes);
-    (cell, first, second)
 }
 
 // Up to how many bytes buffers are filled.

@@ -7,59 +7,18 @@ ghost use Rattle.segment_pool.specs.Pools.{limits_of, size_of};
 ghost use Rattle.local_pool.specs.Helds.{pool_of};
 ghost use Rattle.conn_parts.specs.Shares.{AreOf, HavePoolSize};
 
+use crate::slow_links::SlowOut;
 use conn_parts::{Incoming, Outgoing, close_link, drain, give_segment, place_of, request_segment};
 use flow_defs::{ChannelId, ListOf};
 use local_pool::{HeldPool, LocalPool};
-use net_frames::{ArrivalKind2, Frame, FrameFault, LEN_MAX, decode};
-use outside::{Failed, LinkIn, LinkOut};
+use net_frames::{ArrivalKind2, Frame, FrameFault, decode};
+use outside::{Failed, LinkIn};
 use segment_pool::{Pool, PoolPass};
 use std::alloc::Global;
 use std::process::Abort;
 use std::sync::Wait;
 use std::test::Fail;
 use turn_cell::{Pass, TurnCell};
-
-// A link that takes at most `most` bytes in a write, and fails from one write on.
-#[derive(Drop)]
-struct SlowOut {
-    bytes: Vec<u8>,
-    most: usize,
-    fails_from: u64,
-    writes: u64,
-    faults: u64,
-    finished: bool,
-}
-
-impl LinkOut for SlowOut {
-    type Line = u64;
-
-    ghost line = { λ _. 0 };
-
-    ghost sent = { λ s. Some s.bytes.items };
-
-    ghost finished = { λ s. Some s.finished };
-
-    ghost faults = { λ s. s.faults };
-
-    ghost never_fails = { λ _. ⊥ };
-
-    ghost is_faultless = { λ old new never. absurd never };
-
-    fn write<R: Wait>(&mut self, _rt: &R, bytes: &[u8]) -> Result<usize, Failed> {
-        self.writes = self.writes.saturating_add(1);
-        let count = bytes.len().min(self.most);
-        let fails = self.writes >= self.fails_from || count == 0;
-        if fails || self.bytes.extend_from_slice(&bytes[..count]).is_err() {
-            self.faults = self.faults.saturating_add(1);
-            return Err(Failed);
-        }
-        Ok(count)
-    }
-
-    fn finish<R: Wait>(&mut self, _rt: &R) {
-        self.finished = true;
-    }
-}
 
 // A link of these bytes that gives at most `most` in a read.
 #[derive(Drop)]

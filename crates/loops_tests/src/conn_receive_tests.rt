@@ -1,6 +1,5 @@
 // The loop over links in memory: what it gives to a channel, and why it ends.
 ghost use Rattle.std.specs.Prelude.{◌≡◌, ◌+◌, ◌<◌, ◌++◌, [], ◌∷◌, length, All, IfSome, IfOk, true, false};
-ghost use Rattle.turn_cell.specs.Closing.{AreFresh, IsFresh};
 ghost use Rattle.turn_cell.specs.Passes.{IsPassOf, IsTurnOf, HasEntered, opened_with, number, seen};
 ghost use Rattle.segment_pool.specs.Passes.{out};
 ghost use Rattle.segment_pool.specs.Pools as pools;
@@ -14,6 +13,7 @@ ghost use Rattle.outside.specs.Stops.{is_fault};
 ghost use Rattle.conn_parts.specs.Shares.{AreOf, AreOwn, HavePoolSize};
 ghost use Rattle.conn_receive.specs.Receiving.{MayReadItems};
 
+use crate::lent::{CLOSING, deal, deal_place, open_stop};
 use crate::slow_links::SlowIn;
 use conn_parts::{ConnShare, LoopEnd, SharePasses};
 use conn_receive::read_items;
@@ -29,7 +29,7 @@ use std::marker::Brand;
 use std::process::Abort;
 use std::sync::Wait;
 use std::test::Fail;
-use turn_cell::{Named, Pass, Turn, TurnCell, Turned};
+use turn_cell::{Named, Pass, Turn, TurnCell};
 
 // A buffer response: the index of the channel's sending task, the sequence number, the kind of what
 // arrives, and the bytes behind the head. Its backlog is one buffer.
@@ -42,8 +42,6 @@ const INLINE: u8 = 1;
 const FRONT: u8 = 2;
 
 const END: u8 = 3;
-
-const CLOSING: [u8; 9] = [0, 0, 0, 9, 0xBA, 0xDC, 0x0F, 0xFE, 5];
 
 // A backlog announcement of 3 buffers, an error response and a frame of the receiver's end that adds one
 // credit, each of the one channel.
@@ -99,18 +97,6 @@ fn link(alloc: Global, responses: &[Response], end: &[u8]) -> Result<SlowIn, All
         faults: 0,
         ended: false,
     })
-}
-
-// Takes the last of these passes.
-fn deal<S: Turned>(cell: &TurnCell<S>, passes: &mut ListOf<Pass<S>>) -> Pass<S>
-    requires fresh { AreFresh cell.now passes.old.items }
-    requires some { 0 < length passes.old.items }
-    ensures fresh { AreFresh cell.now passes.new.items }
-    ensures many { length passes.old.items ≡ length passes.new.items + 1 }
-    ensures last { IsPassOf cell.now result × IsFresh (length passes.new.items) result }
-{
-    let _cell = cell;
-    passes.pop().unwrap()
 }
 
 // An input channel in a cell, with the passes of the gate, of the reader of frames and of the writer of
@@ -172,21 +158,6 @@ fn open_local<'p, R: Wait + Abort>(
     };
     let pass = deal(&cell, &mut passes);
     (cell, pass)
-}
-
-// A stop cell with two passes.
-fn open_stop<R: Abort>(
-    rt: &R,
-    alloc: Global,
-) -> (TurnCell<StopState>, Pass<StopState>, Pass<StopState>)
-    ensures { IsPassOf result.0 result.1 × IsPassOf result.0 result.2 }
-{
-    let Ok((cell, mut passes)) = TurnCell::new(alloc, StopState::new(), 2) else {
-        panic!(rt; "no stop cell")
-    };
-    let second = deal(&cell, &mut passes);
-    let first = deal(&cell, &mut passes);
-    (cell, first, second)
 }
 
 // What a poll gave: of a buffer its first byte and how many there are.
@@ -391,14 +362,6 @@ fn one<T: Drop>(alloc: Global, item: T) -> Result<ListOf<T>, AllocError>
     let mut list = ListOf::new(alloc);
     list.push(item)?;
     Ok(list)
-}
-
-// Takes the last of these passes.
-fn deal_place(places: &mut ListOf<PoolPass>) -> PoolPass
-    requires { 0 < length places.old.items }
-    ensures { places.old.items ≡ places.new.items ++ result ∷ [] }
-{
-    places.pop().unwrap()
 }
 
 // How the loop ended, and then how many floating segments the channel wants still, how much credit it has

@@ -1,7 +1,7 @@
 // Links that give little in a read, or fail.
 ghost use Rattle.std.specs.Prelude.{◌≤◌, length, take, Some};
 
-use outside::{Failed, LinkIn};
+use outside::{Failed, LinkIn, LinkOut};
 use std::sync::Wait;
 
 /// A link of these bytes that gives at most `most` in a read, and fails from one read on.
@@ -46,5 +46,47 @@ impl LinkIn for SlowIn {
             self.ended = true;
         }
         Ok(count)
+    }
+}
+
+// A link that takes at most `most` bytes in a write, and fails from one write on.
+#[derive(Drop)]
+pub struct SlowOut {
+    pub bytes: Vec<u8>,
+    pub most: usize,
+    pub fails_from: u64,
+    pub writes: u64,
+    pub faults: u64,
+    pub finished: bool,
+}
+
+impl LinkOut for SlowOut {
+    type Line = u64;
+
+    ghost line = { λ _. 0 };
+
+    ghost sent = { λ s. Some s.bytes.items };
+
+    ghost finished = { λ s. Some s.finished };
+
+    ghost faults = { λ s. s.faults };
+
+    ghost never_fails = { λ _. ⊥ };
+
+    ghost is_faultless = { λ old new never. absurd never };
+
+    fn write<R: Wait>(&mut self, _rt: &R, bytes: &[u8]) -> Result<usize, Failed> {
+        self.writes = self.writes.saturating_add(1);
+        let count = bytes.len().min(self.most);
+        let fails = self.writes >= self.fails_from || count == 0;
+        if fails || self.bytes.extend_from_slice(&bytes[..count]).is_err() {
+            self.faults = self.faults.saturating_add(1);
+            return Err(Failed);
+        }
+        Ok(count)
+    }
+
+    fn finish<R: Wait>(&mut self, _rt: &R) {
+        self.finished = true;
     }
 }

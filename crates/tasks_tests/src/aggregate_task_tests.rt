@@ -1,23 +1,21 @@
 // A task of the aggregate over a gate of the tests.
-ghost use Rattle.std.specs.Prelude.{◌≡◌, ◌<◌, ◌≤◌, ◌++◌, true, false, [], ◌∷◌, length, IfOk, IfSome};
+ghost use Rattle.std.specs.Prelude.{◌≡◌, ◌<◌, ◌≤◌, true, false, [], IfOk, IfSome};
 ghost use Rattle.turn_cell.specs.Passes.{IsPassOf, mine};
 ghost use Rattle.flow_defs.specs.declared.job.AggKind.TheVariants.{Count};
 ghost use Rattle.flow_defs.specs.Jobs.{IsJob, tasks};
 ghost use Rattle.checkpoint_laws.specs.Chapters.{task_at};
 ghost use Rattle.stage_fns.specs.Functions.{HasAgg};
 ghost use Rattle.stage_fns.specs.Kinds.{kinds};
-ghost use Rattle.input_gate.specs.Gates.{stops_in};
 ghost use Rattle.snapshot_channel.specs.Passes.{IsCollecting, IsFresh, opening, opening_of, task_of};
-ghost use Rattle.task_taking.specs.Samples.{account_of, resumed_by, told_by};
 ghost use Rattle.aggregate_task.specs.Aggregates.{IsLent};
 
+use crate::lent::{deal, shared_last};
+use crate::list_gate::Piece::{Stop, Text};
+use crate::list_gate::{ListGate, Piece, gate_of};
+use crate::two_sources::counting_job;
 use aggregate_task::{AggregateTaskEnd, AggregateWorld, run_aggregate};
-use flow_defs::{
-    AggKind, BarrierKind, Bytes, Cause, Job, ListOf, PeerFault, RECORD_MAX, Snapshot, TakeRun,
-    TaskId,
-};
-use input_gate::{Gate, GateEnd, GateItem};
-use outside::{LastImage, StopState, Stored, look_for_stop, tell_cause, tell_stored};
+use flow_defs::{AggKind, Cause, Job, ListOf, PeerFault, Snapshot, TakeRun, TaskId};
+use outside::{StopState, Stored, look_for_stop, tell_cause};
 use snapshot_channel::{CollectingPass, Opened, SnapshotChannel, TaskPass};
 use stage_fns::{AggFn, FnTable, count};
 use std::alloc::{AllocError, Global};
@@ -25,203 +23,6 @@ use std::process::Abort;
 use std::sync::Wait;
 use std::test::Fail;
 use turn_cell::{Pass, TurnCell};
-
-// A gate of two channels that gives these items, the last one first, and then tells that all channels have
-// ended. At an item that a gate may not give then, it tells that it was stopped.
-#[derive(Drop)]
-pub struct ListGate {
-    alloc: Global,
-    items: ListOf<GateItem>,
-    pub given: ListOf<GateItem>,
-    // How often each channel was resumed.
-    pub first: u64,
-    pub second: u64,
-    pub over: bool,
-}
-
-impl Gate for ListGate {
-    type Ends = u64;
-
-    ghost ends = { λ _. 0 };
-
-    ghost account = { λ s. account_of s.given.items s.first s.second s.over };
-
-    ghost saw_stop = { λ _. Unit {0} };
-
-    fn next<R: Wait>(&mut self, _rt: &R, hold: bool) -> Result<GateItem, GateEnd> {
-        match self.given.reserve(1) {
-            Ok(()) => {}
-            Err(_) => return Err(GateEnd::Memory),
-        }
-        match self.items.pop() {
-            None => {
-                self.over = true;
-                Ok(GateItem::AllEnded)
-            }
-            Some(GateItem::Line { channel, line }) => {
-                if line.as_slice().len() > RECORD_MAX {
-                    return Err(GateEnd::Stopped);
-                }
-                if !is_free(self.given.as_slice(), self.first, self.second, channel) {
-                    return Err(GateEnd::Stopped);
-                }
-                match Bytes::of(self.alloc, line.as_slice()) {
-                    Ok(copy) => {
-                        push_item(
-                            &mut self.given,
-                            GateItem::Line {
-                                channel,
-                                line: copy,
-                            },
-                        );
-                        Ok(GateItem::Line { channel, line })
-                    }
-                    Err(_) => Err(GateEnd::Memory),
-                }
-            }
-            Some(GateItem::Barrier { channel, k, .. }) => {
-                if hold || k == 0 || k - 1 != stops(self.given.as_slice(), channel) {
-                    return Err(GateEnd::Stopped);
-                }
-                if !is_free(self.given.as_slice(), self.first, self.second, channel) {
-                    return Err(GateEnd::Stopped);
-                }
-                push_item(
-                    &mut self.given,
-                    GateItem::Barrier {
-                        channel,
-                        k,
-                        kind: BarrierKind::Inline,
-                    },
-                );
-                Ok(GateItem::Barrier {
-                    channel,
-                    k,
-                    kind: BarrierKind::Inline,
-                })
-            }
-            Some(GateItem::AllEnded) => Err(GateEnd::Stopped),
-        }
-    }
-
-    fn resume<R: Wait>(&mut self, _rt: &R, channel: u32) {
-        let given = stops(self.given.as_slice(), channel);
-        if channel == 0 {
-            self.first = given;
-        } else {
-            self.second = given;
-        }
-    }
-}
-
-// How many barriers of a channel are among these.
-fn stops(given: &[GateItem], channel: u32) -> u64
-    ensures { result ≡ stops_in (told_by given.now channel) }
-{
-    let mut count = 0;
-    for item in given {
-        count += weight(item, channel);
-    }
-    count
-}
-
-// 1 for a barrier of the channel, and 0 for any other item.
-fn weight(item: &GateItem, channel: u32) -> u64
-    ensures is { result ≡ stops_in (told_by (item.now ∷ []) channel) }
-    ensures small { result ≤ 1 }
-{
-    match item {
-        GateItem::Barrier { channel: of, .. } => { if *of == channel { 1 } else { 0 } }
-        GateItem::Line { .. } => 0,
-        GateItem::AllEnded => 0,
-    }
-}
-
-// Whether a channel may give something.
-fn is_free(given: &[GateItem], first: u64, second: u64, channel: u32) -> bool
-    ensures { result ≡ true → (channel < 2) × (stops_in (told_by given.now channel) ≡ resumed_by first second channel) }
-{
-    if channel == 0 {
-        return stops(given, channel) == first;
-    }
-    if channel == 1 {
-        return stops(given, channel) == second;
-    }
-    false
-}
-
-// Adds an item, for which there is room.
-fn push_item(given: &mut ListOf<GateItem>, item: GateItem)
-    requires { 0 < given.old.room }
-    ensures { given.new.items ≡ given.old.items ++ item ∷ [] }
-{
-    let Ok(()) = given.push(item) else {
-        unreachable!()
-    };
-}
-
-// A job of two sources and one task of the aggregate.
-fn counting_job(alloc: Global) -> Result<Job, AllocError>
-    ensures { IfOk result (λ job. IsJob job × (job.stages.items ≡ []) × (job.agg ≡ Count) × (tasks job 0 ≡ 2) × (tasks job 1 ≡ 1)) }
-{
-    let mut sources = ListOf::new(alloc);
-    sources.push(Bytes::new(alloc))?;
-    sources.push(Bytes::new(alloc))?;
-    Ok(Job {
-        sources,
-        stages: ListOf::new(alloc),
-        agg: AggKind::Count,
-        agg_tasks: 1,
-        text: Bytes::new(alloc),
-    })
-}
-
-// What a channel gives: a line, or the barrier of this number.
-#[derive(Clone, Copy)]
-enum Piece {
-    Text(&'static str),
-    Stop(u64),
-}
-
-use Piece::{Stop, Text};
-
-// A gate that gives these pieces of channels 0 and 1.
-fn gate_of(alloc: Global, pieces: &[(u32, Piece)]) -> Result<ListGate, AllocError>
-    ensures { IfOk result (λ gate. (gate.given.items ≡ []) × (gate.first ≡ 0) × (gate.second ≡ 0) × (gate.over ≡ false)) }
-{
-    let mut items = ListOf::new(alloc);
-    for (channel, piece) in pieces.iter().rev() {
-        let channel = *channel;
-        let item = match piece {
-            Text(text) => GateItem::Line {
-                channel,
-                line: Bytes::of(alloc, text.as_bytes())?,
-            },
-            Stop(k) => GateItem::Barrier {
-                channel,
-                k: *k,
-                kind: BarrierKind::Inline,
-            },
-        };
-        items.push(item)?;
-    }
-    Ok(ListGate {
-        alloc,
-        items,
-        given: ListOf::new(alloc),
-        first: 0,
-        second: 0,
-        over: false,
-    })
-}
-
-// Takes the last of these passes.
-fn deal<T: Drop>(passes: &mut ListOf<T>) -> T
-    requires { 0 < length passes.old.items }
-    ensures { passes.old.items ≡ passes.new.items ++ result ∷ [] }
-{
-    passes.pop().unwrap()
-}
 
 // A stop cell, and the passes of the task and of another worker.
 fn shared_stop<R: Abort>(
@@ -237,25 +38,6 @@ fn shared_stop<R: Abort>(
     let other = deal(&mut passes);
     let own = deal(&mut passes);
     (cell, own, other)
-}
-
-// The cell of the last image, which is this one, if there is one, and the pass of the task.
-fn shared_last<R: Wait + Abort>(
-    rt: &R,
-    alloc: Global,
-    stored: Option<Stored>,
-) -> (TurnCell<LastImage>, Pass<LastImage>)
-    ensures { IsPassOf result.0 result.1 }
-{
-    let Ok((cell, mut passes)) = TurnCell::new(alloc, LastImage::new(), 2) else {
-        panic!(rt; "no cell")
-    };
-    let reading = deal(&mut passes);
-    let mut collecting = deal(&mut passes);
-    if let Some(stored) = stored {
-        tell_stored(rt, &cell, &mut collecting, stored);
-    }
-    (cell, reading)
 }
 
 // A channel of snapshots, and the passes of the collecting worker and of the task.

@@ -9,12 +9,16 @@ mod barriers_tests;
 #[cfg(test)]
 mod input_gate_tests;
 #[cfg(test)]
+mod lent;
+#[cfg(test)]
+mod list_gate;
+#[cfg(test)]
 mod record_writer_tests;
 #[cfg(test)]
 mod source_task_tests;
 #[cfg(test)]
-mod stage_task_list_gate;
-#[cfg(test)]
 mod stage_task_tests;
 #[cfg(test)]
 mod task_taking_tests;
+#[cfg(test)]
+mod two_sources;

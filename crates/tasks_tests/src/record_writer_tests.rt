@@ -1,7 +1,7 @@
 // Writers over cells and a small pool, with one thread.
-ghost use Rattle.std.specs.Prelude.{◌≡◌, ℕ, ◌<◌, ◌≤◌, [], ◌∷◌, ◌++◌, length, IfOk, OnOk};
+ghost use Rattle.std.specs.Prelude.{◌≡◌, ℕ, ◌<◌, ◌≤◌, [], ◌∷◌, IfOk, OnOk};
 ghost use Rattle.std.specs.Option.{option_to_list};
-ghost use Rattle.turn_cell.specs.Passes.{IsPassOf, mine, number, opened_with};
+ghost use Rattle.turn_cell.specs.Passes.{IsPassOf, number, opened_with};
 ghost use Rattle.flow_defs.specs.declared.job.Exchange.TheVariants.{Hash};
 ghost use Rattle.flow_defs.specs.Jobs.{IsJob, last_edge, tasks, exchange as exchange_on};
 ghost use Rattle.segment_pool.specs.Passes.{out};
@@ -11,6 +11,7 @@ ghost use Rattle.local_pool.specs.Helds.{pool_of};
 ghost use Rattle.record_writer.specs.Partitions.{IsPartitionOf};
 ghost use Rattle.record_writer.specs.Writers.{IsOpen, IsSame, IsNextBarrier};
 
+use crate::lent::{deal, shared_subpartition, take};
 use flow_defs::{
     AggKind, BarrierKind, Bytes, Cause, Exchange, Job, ListOf, RECORD_MAX, Stage, StageKind,
 };
@@ -19,11 +20,9 @@ use outside::{StopState, tell_stop};
 use record_writer::{Partition, PartitionPasses, RecordWriter, WriterStopped};
 use segment_pool::{Pool, PoolPass};
 use std::alloc::{AllocError, Global};
-use std::marker::Brand;
 use std::process::Abort;
 use std::sync::Wait;
 use std::test::Fail;
-use subpartition::laws::calls_add_entries;
 use subpartition::{Item, Subpartition};
 use turn_cell::{Pass, TurnCell};
 
@@ -61,14 +60,6 @@ fn job_of(alloc: Global, exchange: Exchange) -> Result<Job, AllocError>
     })
 }
 
-// Takes the last of these passes.
-fn deal<T: Drop>(passes: &mut ListOf<T>) -> T
-    requires { 0 < length passes.old.items }
-    ensures { passes.old.items ≡ passes.new.items ++ result ∷ [] }
-{
-    passes.pop().unwrap()
-}
-
 // A local pool of so many segments, in a cell with one pass.
 fn shared_pool<'p, R: Wait + Abort>(
     rt: &R,
@@ -90,31 +81,6 @@ fn shared_pool<'p, R: Wait + Abort>(
     };
     let pass = deal(&mut passes);
     (cell, pass)
-}
-
-// A subpartition in a cell, and the passes of the task and of the sender.
-fn shared_subpartition<R: Abort>(
-    rt: &R,
-    alloc: Global,
-) -> (
-    TurnCell<Subpartition>,
-    Pass<Subpartition>,
-    Pass<Subpartition>,
-)
-    ensures task { IsPassOf result.0 result.1 × (number result.1 ≡ 0) × (mine result.1 ≡ []) }
-    ensures sender { IsPassOf result.0 result.2 × (number result.2 ≡ 1) }
-    ensures size { (opened_with result.0).size ≡ 64 }
-{
-    calls_add_entries();
-    let Ok(queue) = Subpartition::new(alloc, 64, 8) else {
-        panic!(rt; "no subpartition")
-    };
-    let Ok((cell, mut passes)) = TurnCell::new(alloc, queue, 2) else {
-        panic!(rt; "no cell")
-    };
-    let sender = deal(&mut passes);
-    let task = deal(&mut passes);
-    (cell, task, sender)
 }
 
 // A stop cell, and two passes of it.
@@ -196,22 +162,6 @@ fn takes<R: Wait + Abort>(
         assert!(rt; matches!(take(rt, cell, &mut sender), Some(Item::End)));
     }
     assert!(rt; take(rt, cell, &mut sender).is_none());
-}
-
-// Takes the first item in a turn of the sender.
-fn take<R: Wait>(
-    rt: &R,
-    cell: &TurnCell<Subpartition>,
-    sender: &mut Pass<Subpartition>,
-) -> Option<Item>
-    requires { IsPassOf cell.now sender.old × (number sender.old ≡ 1) }
-    ensures { IsPassOf cell.now sender.new × (number sender.new ≡ 1) }
-{
-    let mut turn = cell.enter(rt, sender);
-    calls_add_entries();
-    let item = turn.state().take();
-    turn.leave::<Brand>();
-    item
 }
 
 // How many segments a pool has lent.

@@ -22,7 +22,13 @@ use Rattle.snapshot_channel.proofs.opened.TaskPass.TheSendSync as task_pass
 use Rattle.snapshot_channel.proofs.rule.Order.TheSendSync as order
 use Rattle.snapshot_channel.proofs.views.View.TheSendSync as view
 use Rattle.record_writer.proofs.partition.Partition.TheSendSync as partition
-use Rattle.input_gate.proofs.cell_gate.CellGate.TheSendSync as gate
+use Rattle.flow_defs.proofs.list_of.ListOf.TheSendSync as list_of
+use Rattle.input_channel.proofs.channel.InputChannel.TheSendSync as input
+use Rattle.input_gate.proofs.lane.Lane.TheSendSync as lane
+use Rattle.input_gate.proofs.lender.Lender.TheSendSync as lender
+use Rattle.outside.proofs.pause.Pause.TheSendSync as pause
+use Rattle.input_gate.specs.contracts.cell_gate.CellGate as gate
+use Rattle.input_gate.specs.contracts.cell_gate.CellGate.TheInside as inside
 use Rattle.job_workers.specs.contracts.task.Lent as lent
 use Rattle.job_workers.specs.contracts.task.SourceTask as source
 use Rattle.job_workers.specs.contracts.task.StageTask as stage
@@ -59,6 +65,38 @@ channel_sync : IsSync channel.the_row
 channel_sync = declared_sync channel.the_type
     (search lines depth 20, (search lines depth 20, (search (sendable, crosses) depth 20, (search (sendable, crosses) depth 20, (search (sendable, crosses) depth 20, tt)))))
 
+-- ---- the gate, whose snapshot of a pass has no bytes
+
+inside_send : (a p : NamedLft) → IsSend (inside.the_row a p)
+inside_send a p = declared_send (inside.the_type a p) (
+  search (sendable, crosses, lane.the_send) depth 20,
+  (
+    search (sendable, crosses, list_of.the_send, pass.the_send, input.the_send) depth 20,
+    (
+      search sendable depth 20,
+      (
+        search sendable depth 20,
+        (
+          search (sendable, lender.the_send) depth 20,
+          (
+            search (sendable, crosses) depth 20,
+            (
+              search (sendable, crosses, cell.the_sync, stop.the_send) depth 20,
+              (
+                search (sendable, crosses, pass.the_send, stop.the_send) depth 20,
+                (search (sendable, crosses, pause.the_send) depth 20, tt),
+              ),
+            ),
+          ),
+        ),
+      ),
+    ),
+  ),
+)
+
+gate_send : (a p : NamedLft) → IsSend (gate.the_row a p)
+gate_send a p = search (sendable, inside_send) depth 20
+
 -- ---- the tasks
 
 lent_send : (a : NamedLft) → IsSend (lent.the_row a)
@@ -87,7 +125,7 @@ stage_send : (a p : NamedLft) → IsSend (stage.the_row a p)
 stage_send a p = declared_send (stage.the_type a p) (
   search (sendable, crosses) depth 20,
   (
-    search (sendable, gate.the_send) depth 20,
+    search (sendable, gate_send) depth 20,
     (
       search sendable depth 20,
       (
@@ -100,7 +138,7 @@ stage_send a p = declared_send (stage.the_type a p) (
 
 aggregate_send : (a p : NamedLft) → IsSend (aggregate.the_row a p)
 aggregate_send a p = declared_send (aggregate.the_type a p)
-    (search (sendable, crosses) depth 20, (search (sendable, gate.the_send) depth 20, (search sendable depth 20, (lent_send a, tt))))
+    (search (sendable, crosses) depth 20, (search (sendable, gate_send) depth 20, (search sendable depth 20, (lent_send a, tt))))
 
 pub task_send : (a p : NamedLft) (S : RattleType) → IsSend S → IsSend (task.the_row a p S)
 task_send a p S s = variants_send (task.enum a p S) ((source_send a p S s, tt), ((stage_send a p, tt), ((aggregate_send a p, tt), tt)))

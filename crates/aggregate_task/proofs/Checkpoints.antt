@@ -8,7 +8,7 @@ use Rattle.flow_defs.specs.declared.image.TakeRun.{TakeRun}
 use Rattle.flow_defs.specs.Jobs.{last_edge}
 use Rattle.flow_defs.specs.Tables.{Values, table_of}
 use Rattle.plain_machine.specs.Histories.{records}
-use Rattle.checkpoint_laws.specs.Chapters.{Takes}
+use Rattle.checkpoint_laws.specs.Chapters.{RunsTake}
 use Rattle.outside.specs.declared.last_image.Stored.{Stored}
 use Rattle.barriers.specs.Alignments.{is_open}
 use Rattle.input_gate.specs.Gates.{Account}
@@ -18,7 +18,7 @@ use Rattle.task_taking.specs.Takings.{Taking, HasTaken, IsInStep}
 use Rattle.task_taking.specs.Endings.{ResumedIsGiven, IsTakerEnd, LastIs}
 use Rattle.aggregate_task.specs.declared.acks.Acks.{Acks}
 use Rattle.aggregate_task.specs.Snapshots.{AreSnapshots, SentSnapshot, all_taken}
-use Rattle.aggregate_task.specs.Acknowledging.{IsSame, IsUnderWay, IsAtCheckpoint, BreaksFor}
+use Rattle.aggregate_task.specs.Acknowledging.{IsSame, IsCountUnderWay, IsAtCheckpoint, BreaksFor}
 use Rattle.aggregate_task.specs.Aggregates.{AggregateAccount}
 use Rattle.aggregate_task.proofs.Acknowledging.{moved}
 use Rattle.aggregate_task.proofs.Snapshots.{as_many, with_group, snapshots_more, all_more}
@@ -41,8 +41,8 @@ next_number gate taking counts acks k at = at.number ∙ ap suc (sym (as_many ac
 
 module _ (law : ResumedIsGiven) (waits : SeenIsWaited) (stays : WaitedStays) (gate gate' : Account) (taking taking' : Taking) (counts : Values) (acks acks' : Acks) (k : ℕ) (at : IsAtCheckpoint gate taking counts acks k) (same : IsSame acks acks') where
   -- the channels are resumed, and the runs are those of what was taken
-  module _ (runs : List TakeRun) (takes : Takes acks.job.now (last_edge acks.job.now) acks.index runs at.took) (taken : HasTaken acks.job.now (last_edge acks.job.now) acks.index gate' taking' (at.groups ++ at.took ∷ []) []) where
-    pub goes_on : (last : Bool) → IsInStep gate' taking' → SentSnapshot acks.job.now acks.index k counts runs (sent_by acks.pass) (sent_by acks'.pass) → KnowsLast acks.every (seen acks'.last_pass) (length (sent_by acks.pass)) last → IsUnderWay gate' taking' counts acks' last
+  module _ (runs : List TakeRun) (takes : RunsTake acks.job.now (last_edge acks.job.now) acks.index runs at.took) (taken : HasTaken acks.job.now (last_edge acks.job.now) acks.index gate' taking' (at.groups ++ at.took ∷ []) []) where
+    pub goes_on : (last : Bool) → IsInStep gate' taking' → SentSnapshot acks.job.now acks.index k counts runs (sent_by acks.pass) (sent_by acks'.pass) → KnowsLast acks.every (seen acks'.last_pass) (length (sent_by acks.pass)) last → IsCountUnderWay gate' taking' counts acks' last
     goes_on last in_step sent knows =
         let many = as_many acks.job.now acks.index 0 empty at.groups (sent_by acks.pass) at.counted.snapshots in
         let longer : length (at.groups ++ at.took ∷ []) ≡ suc (length at.groups) = length-append at.groups (at.took ∷ []) ∙ omega arith in
@@ -73,7 +73,7 @@ module _ (law : ResumedIsGiven) (waits : SeenIsWaited) (stays : WaitedStays) (ga
       rest = at.took;
       given = law acks.job.now (last_edge acks.job.now) acks.index gate' taking' at.groups at.took taken closed;
       snapshots = subst (AreSnapshots acks.job.now acks.index 0 empty at.groups) (sym unsent) at.counted.snapshots;
-      takes_are = subst (λ l. Takes acks.job.now (last_edge acks.job.now) acks.index l at.took) (sym are) takes;
+      takes_are = subst (λ l. RunsTake acks.job.now (last_edge acks.job.now) acks.index l at.took) (sym are) takes;
       waited = stays (length (sent_by acks'.pass)) (seen acks.last_pass) (seen acks'.last_pass) same.later
           (subst (λ n. HasWaited n (seen acks.last_pass)) (sym (ap length unsent ∙ as_many acks.job.now acks.index 0 empty at.groups (sent_by acks.pass) at.counted.snapshots)) at.counted.waited);
       cause_is = broke_end acks.every (seen acks'.last_pass) gate' at.groups at.took acks' cause breaks;

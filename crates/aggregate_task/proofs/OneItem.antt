@@ -21,12 +21,12 @@ use Rattle.task_output.specs.Waiting.{HasWaited}
 use Rattle.task_taking.specs.declared.taking.Taken.{Taken}
 use Rattle.task_taking.specs.declared.taking.Taken.TheVariants as taken
 use Rattle.task_taking.specs.Takings.{Taking, HasTaken, IsInStep, AllBlocked}
-use Rattle.task_taking.specs.Steps.{TookNext, GoesOn, IsTakerCause}
+use Rattle.task_taking.specs.Steps.{TookNext, TakingGoesOn, IsTakerCause}
 use Rattle.task_taking.specs.Endings.{TakenIsGiven, BarrierIsGiven, IsTakerEnd, LastIs}
 use Rattle.task_taking.proofs.InStep.{all_stopped}
 use Rattle.aggregate_task.specs.declared.acks.Acks.{Acks}
 use Rattle.aggregate_task.specs.Snapshots.{all_taken}
-use Rattle.aggregate_task.specs.Acknowledging.{IsUnderWay, IsAtCheckpoint}
+use Rattle.aggregate_task.specs.Acknowledging.{IsCountUnderWay, IsAtCheckpoint}
 use Rattle.aggregate_task.specs.Aggregates.{AggregateAccount}
 use Rattle.checkpoint_laws.proofs.Keys.{added_keys}
 use Rattle.aggregate_task.proofs.Snapshots.{as_many, with_more}
@@ -39,7 +39,7 @@ some_behind [] x = λ e. cc
 some_behind (y ∷ xs) x = λ e. cc
 
 -- it begins
-pub begins : (gate : Account) (taking : Taking) (acks : Acks) (counts : Values) → counts ≡ empty → sent_by acks.pass ≡ [] → HasTaken acks.job.now (last_edge acks.job.now) acks.index gate taking [] [] → IsInStep gate taking → IsUnderWay gate taking counts acks false
+pub begins : (gate : Account) (taking : Taking) (acks : Acks) (counts : Values) → counts ≡ empty → sent_by acks.pass ≡ [] → HasTaken acks.job.now (last_edge acks.job.now) acks.index gate taking [] [] → IsInStep gate taking → IsCountUnderWay gate taking counts acks false
 begins gate taking acks counts none unsent taken in_step = record {
   groups = [];
   took = [];
@@ -50,18 +50,18 @@ begins gate taking acks counts none unsent taken in_step = record {
   none_behind = λ is. absurd (cc);
 }
 
-module _ (gate gate' : Account) (taking taking' : Taking) (counts : Values) (acks : Acks) (last : Bool) (way : IsUnderWay gate taking counts acks last) where
+module _ (gate gate' : Account) (taking taking' : Taking) (counts : Values) (acks : Acks) (last : Bool) (way : IsCountUnderWay gate taking counts acks last) where
   abbrev Took : Taken → Type 0
   Took t = TookNext acks.job.now (last_edge acks.job.now) acks.index gate' taking' way.groups way.took (Ok t)
 
   pub took_here : (t t' : Taken) → t ≡ t' → Took t → Took t'
   took_here t t' is next = subst Took is next
 
-  pub goes_here : (t t' : Taken) → t ≡ t' → GoesOn gate' taking taking' (Ok t) → GoesOn gate' taking taking' (Ok t')
-  goes_here t t' is goes = subst (λ (t : Taken). GoesOn gate' taking taking' (Ok t)) is goes
+  pub goes_here : (t t' : Taken) → t ≡ t' → TakingGoesOn gate' taking taking' (Ok t) → TakingGoesOn gate' taking taking' (Ok t')
+  goes_here t t' is goes = subst (λ (t : Taken). TakingGoesOn gate' taking taking' (Ok t)) is goes
 
   -- it took a record
-  pub counts_line : (line : Items ℕ) (counts' : Values) → Took (taken.Line line) → IsInStep gate' taking' → last ≡ false → counts' ≡ add acks.job.now.agg counts line.items → IsUnderWay gate' taking' counts' acks last
+  pub counts_line : (line : Items ℕ) (counts' : Values) → Took (taken.Line line) → IsInStep gate' taking' → last ≡ false → counts' ≡ add acks.job.now.agg counts line.items → IsCountUnderWay gate' taking' counts' acks last
   counts_line line counts' next in_step going counted = record {
     groups = way.groups;
     took = way.took ++ (next.1.0, line.items) ∷ [];

@@ -8,7 +8,7 @@ use Rattle.flow_defs.specs.declared.job.Job.{Job}
 use Rattle.flow_defs.specs.Jobs.{last_edge}
 use Rattle.flow_defs.specs.Tables.{Values, add, add_all}
 use Rattle.plain_machine.specs.Histories.{records}
-use Rattle.checkpoint_laws.specs.Chapters.{Takes}
+use Rattle.checkpoint_laws.specs.Chapters.{RunsTake}
 use Rattle.aggregate_task.specs.Snapshots.{IsSnapshotWith, IsSnapshotAt, AreSnapshots, table_with, all_taken}
 
 -- ---- tables and groups
@@ -33,7 +33,7 @@ as_many job b k table (g ∷ groups) [] are = absurd are
 as_many job b k table (g ∷ groups) (x ∷ xs) are = ap suc (as_many job b (suc k) (table_with job table g) groups xs are.1)
 
 -- the snapshot with the runs of a group is that of the group
-pub with_group : (job : Job) (b k n : ℕ) (table counts : Values) (runs : List TakeRun) (group : List (ℕ × List ℕ)) (x : Snapshot) → IsSnapshotWith job b k counts runs x → k ≡ n → counts ≡ table → Takes job (last_edge job) b runs group → IsSnapshotAt job b n table group x
+pub with_group : (job : Job) (b k n : ℕ) (table counts : Values) (runs : List TakeRun) (group : List (ℕ × List ℕ)) (x : Snapshot) → IsSnapshotWith job b k counts runs x → k ≡ n → counts ≡ table → RunsTake job (last_edge job) b runs group → IsSnapshotAt job b n table group x
 with_group job b k n table counts runs group x is number counted takes = record {
   is_with = record {
     task = is.task;

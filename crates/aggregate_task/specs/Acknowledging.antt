@@ -64,7 +64,7 @@ pub record HasCounted (counts : Values) (acks : Acks) (groups : List (List (ℕ 
 
 -- It took groups of records, acknowledged a checkpoint behind each, and then took some records. It takes on, and whether it has
 -- acknowledged the last checkpoint is as said. Behind that it took nothing.
-pub record IsUnderWay (gate : Account) (taking : Taking) (counts : Values) (acks : Acks) (last : Bool) : Type 0 where
+pub record IsCountUnderWay (gate : Account) (taking : Taking) (counts : Values) (acks : Acks) (last : Bool) : Type 0 where
   pub groups : List (List (ℕ × List ℕ))
   pub took : List (ℕ × List ℕ)
   pub taken : HasTaken acks.job.now (last_edge acks.job.now) acks.index gate taking groups took

@@ -8,7 +8,7 @@ use Rattle.flow_defs.specs.declared.image.Snapshot.{Snapshot}
 use Rattle.flow_defs.specs.declared.image.TakeRun.{TakeRun}
 use Rattle.flow_defs.specs.declared.job.Job.{Job}
 use Rattle.flow_defs.specs.Jobs.{last_edge}
-use Rattle.checkpoint_laws.specs.Chapters.{Takes, task_at}
+use Rattle.checkpoint_laws.specs.Chapters.{RunsTake, task_at}
 use Rattle.outside.specs.declared.last_image.Stored.{Stored}
 use Rattle.input_gate.specs.Gates.{Account}
 use Rattle.snapshot_channel.specs.Passes as channels
@@ -27,7 +27,7 @@ pub record AggregateAccount (job : Job) (b : ℕ) (every : Option ℕ) (gate : A
   pub rest : List (ℕ × List ℕ)
   pub given : Gave job (last_edge job) b gate groups rest
   pub snapshots : AreSnapshots job b 0 empty groups sent
-  pub takes_are : Takes job (last_edge job) b takes rest
+  pub takes_are : RunsTake job (last_edge job) b takes rest
   pub waited : HasWaited (length sent) history
   pub cause_is : IsTakerEnd every history gate groups rest cause
 

@@ -7,7 +7,7 @@ use Rattle.flow_defs.specs.declared.image.TakeRun.{TakeRun}
 use Rattle.flow_defs.specs.Jobs.{last_edge}
 use Rattle.flow_defs.specs.Tables.{Values, add_all}
 use Rattle.plain_machine.specs.Histories.{records}
-use Rattle.checkpoint_laws.specs.Chapters.{Takes, task_at}
+use Rattle.checkpoint_laws.specs.Chapters.{RunsTake, task_at}
 
 -- The snapshot of task b of the aggregate for checkpoint k, with this table and these runs.
 pub record IsSnapshotWith (job : Job) (b k : ℕ) (table : Values) (runs : List TakeRun) (x : Snapshot) : Type 0 where
@@ -30,7 +30,7 @@ pub record SentSnapshot (job : Job) (b k : ℕ) (table : Values) (runs : List Ta
 -- Its runs are those of a group of records, which the task took since the snapshot before.
 pub record IsSnapshotAt (job : Job) (b k : ℕ) (table : Values) (group : List (ℕ × List ℕ)) (x : Snapshot) : Type 0 where
   pub is_with : IsSnapshotWith job b k table x.takes.items x
-  pub takes : Takes job (last_edge job) b x.takes.items group
+  pub takes : RunsTake job (last_edge job) b x.takes.items group
 
 -- The table with the records of a group added.
 abbrev pub table_with : Job → Values → List (ℕ × List ℕ) → Values

@@ -3,7 +3,7 @@ ghost use Rattle.std.specs.Prelude.{◌≡◌, suc, length, IfErr, MatchResult};
 ghost use Rattle.flow_defs.specs.Jobs.{IsJob, last_edge};
 ghost use Rattle.plain_machine.specs.Images.{AreRuns, HasShortKeys};
 ghost use Rattle.snapshot_channel.specs.Passes.{sent_by};
-ghost use Rattle.aggregate_task.specs.Acknowledging.{Acknowledged, BreaksFor, IsAcking, IsAtCheckpoint, IsSame, IsUnderWay};
+ghost use Rattle.aggregate_task.specs.Acknowledging.{Acknowledged, BreaksFor, IsAcking, IsAtCheckpoint, IsSame, IsCountUnderWay};
 ghost use Rattle.aggregate_task.specs.Aggregates.{HasAccount};
 ghost use Rattle.aggregate_task.specs.Snapshots.{IsSnapshotWith};
 
@@ -39,7 +39,7 @@ pub fn take_checkpoint<G: Gate, R: Wait>(
     requires own { IsAcking acks.old }
     ensures gate { (G.ends gate.new ≡ G.ends gate.old) × ((G.account gate.new).channels ≡ (G.account gate.old).channels) }
     ensures own { IsAcking acks.new × IsSame acks.old acks.new }
-    ensures taken { MatchResult result (λ last. IsUnderWay (G.account gate.new) taking.new counts.now acks.new last) (λ end. HasAccount (G.account gate.new) acks.new end) }
+    ensures taken { MatchResult result (λ last. IsCountUnderWay (G.account gate.new) taking.new counts.now acks.new last) (λ end. HasAccount (G.account gate.new) acks.new end) }
     ensures breaks { IfErr result (λ end. BreaksFor acks.new end.cause) }
 {
     what_was_taken_was_given();

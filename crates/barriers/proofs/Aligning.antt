@@ -6,7 +6,7 @@ use Rattle.std.proofs.lemmas.Bool.{eqb-true, eqb-false}
 use Rattle.std.proofs.lemmas.List.{length-map, length-set, get_or-set_same, get_or-set_other}
 use Rattle.std.proofs.lemmas.Option.{slice_get_within}
 use Rattle.barriers.specs.declared.aligner.Action.TheVariants.{Block, SnapshotInline}
-use Rattle.barriers.specs.Alignments.{Barrier, Alignment, MayGive, MayAllGive, StandsFor, AddsBarrier, Answers, action, after, after_all, unaligned, given_by, gave_with, is_last}
+use Rattle.barriers.specs.Alignments.{Barrier, Alignment, MayGive, MayAllGive, AlignmentStandsFor, AddsBarrier, Answers, action, alignment_next, after_all, unaligned, given_by, gave_with, is_last}
 
 pub any_set : (gave : List Bool) (i : ℕ) → i < length gave → list_any (λ g. g) (slice_set gave i true) ≡ true
 any_set [] i h = absurd (omega arith)
@@ -62,32 +62,32 @@ adds_closing a b may last =
           ] refl;
     }
 
-pub adds : (a : Alignment) (b : Barrier) → MayGive a b → AddsBarrier b a (after a b)
+pub adds : (a : Alignment) (b : Barrier) → MayGive a b → AddsBarrier b a (alignment_next a b)
 adds a b may =
     elim (is_last a b) as (λ t. is_last a b ≡ t → AddsBarrier b a (cond t (closing a b) (going a b))) [
       | true ↦ λ last. adds_closing a b may last
       | false ↦ λ last. adds_going a b may
     ] refl
 
-pub answers : (a : Alignment) (b : Barrier) → MayGive a b → Answers b a (action a b) (after a b)
+pub answers : (a : Alignment) (b : Barrier) → MayGive a b → Answers b a (action a b) (alignment_next a b)
 answers a b may =
     elim (is_last a b) as (λ t. Answers b a (cond t (SnapshotInline b.number) Block) (cond t (closing a b) (going a b))) [
       | true ↦ (refl, refl, any_false a.gave)
       | false ↦ (refl, refl, any_set a.gave b.channel (slice_get_within a.gave b.channel false may.once))
     ]
 
-pub after_one_more : (a : Alignment) (barriers : List Barrier) (b : Barrier) → after_all a (barriers ++ b ∷ []) ≡ after (after_all a barriers) b
+pub after_one_more : (a : Alignment) (barriers : List Barrier) (b : Barrier) → after_all a (barriers ++ b ∷ []) ≡ alignment_next (after_all a barriers) b
 after_one_more a [] b = refl
-after_one_more a (x ∷ barriers) b = after_one_more (after a x) barriers b
+after_one_more a (x ∷ barriers) b = after_one_more (alignment_next a x) barriers b
 
 pub may_one_more : (a : Alignment) (barriers : List Barrier) (b : Barrier) → MayAllGive a barriers → MayGive (after_all a barriers) b → MayAllGive a (barriers ++ b ∷ [])
 may_one_more a [] b h may = (may, tt)
-may_one_more a (x ∷ barriers) b h may = (h.0, may_one_more (after a x) barriers b h.1 may)
+may_one_more a (x ∷ barriers) b h may = (h.0, may_one_more (alignment_next a x) barriers b h.1 may)
 
-pub goes_on : (a : Alignment) (b : Barrier) → MayGive a b → (channels : ℕ) (barriers : List Barrier) → StandsFor channels barriers a → StandsFor channels (barriers ++ b ∷ []) (after a b)
+pub goes_on : (a : Alignment) (b : Barrier) → MayGive a b → (channels : ℕ) (barriers : List Barrier) → AlignmentStandsFor channels barriers a → AlignmentStandsFor channels (barriers ++ b ∷ []) (alignment_next a b)
 goes_on a b may channels barriers h =
     record {
       some = h.some;
       may = may_one_more (unaligned channels) barriers b h.may (subst (λ x. MayGive x b) (sym h.is) may);
-      is = after_one_more (unaligned channels) barriers b ∙ ap (λ x. after x b) h.is;
+      is = after_one_more (unaligned channels) barriers b ∙ ap (λ x. alignment_next x b) h.is;
     }

@@ -7,7 +7,7 @@ use Rattle.std.proofs.lemmas.List.{length-map, length-set, length-replicate, map
 use Rattle.std.proofs.lemmas.Option.{slice_get_within}
 use Rattle.barriers.specs.declared.aligner.Action.{Action}
 use Rattle.barriers.specs.declared.aligner.Action.TheVariants.{Block, SnapshotInline}
-use Rattle.barriers.specs.Alignments.{Barrier, Alignment, MayGive, action, after, gave_with, is_last}
+use Rattle.barriers.specs.Alignments.{Barrier, Alignment, MayGive, action, alignment_next, gave_with, is_last}
 use Rattle.barriers.specs.Counts.{Counts, seen, waiting}
 use Rattle.barriers.proofs.Aligning.{going, closing}
 
@@ -107,7 +107,7 @@ first_counts n some small =
 pub record Stepped (a : Alignment) (b : Barrier) (closed missing : ℕ) (given : List ℕ) (answer : Action) : Type 0 where
   pub counts : Counts closed missing given
   pub action_is : answer ≡ action a b
-  pub after_is : seen closed given ≡ after a b
+  pub after_is : seen closed given ≡ alignment_next a b
 
 gave_is : (closed k : ℕ) (given : List ℕ) (i : ℕ) → closed < k → map (nat_lt closed) (slice_set given i k) ≡ slice_set (map (nat_lt closed) given) i true
 gave_is closed k given i lt = map-set (nat_lt closed) given i k ∙ ap (λ g. slice_set (map (nat_lt closed) given) i g) (lt-ltb closed k lt)

@@ -5,7 +5,7 @@ use Rattle.std.proofs.lemmas.Bool.{eqb-true}
 use Rattle.std.proofs.lemmas.List.{length-set, length-replicate, get_or-replicate}
 use Rattle.std.proofs.lemmas.Option.{get_or_from_slice_get}
 use Rattle.barriers.specs.declared.aligner.Action.TheVariants.{Block, SnapshotInline}
-use Rattle.barriers.specs.Alignments.{Barrier, Alignment, MayGive, MayAllGive, after, after_all, unaligned, given_by, gave_with, is_last}
+use Rattle.barriers.specs.Alignments.{Barrier, Alignment, MayGive, MayAllGive, alignment_next, after_all, unaligned, given_by, gave_with, is_last}
 use Rattle.barriers.specs.Laws.{numbers_of, counting, AllGave, NumbersCountUp, SnapshotsWithLast}
 use Rattle.barriers.proofs.Aligning.{adds, goes_on, going, closing, at_false}
 
@@ -21,18 +21,18 @@ counts_on : (a : Alignment) (barriers : List Barrier) → MayAllGive a barriers 
 counts_on a [] h c lt = simp append-nil
 counts_on a (b ∷ barriers) h c lt =
     let more = adds a b h.0 in
-    let rest : counting (given_by (after a b) c) ++ numbers_of c barriers ≡ counting (given_by (after_all (after a b) barriers) c) =
-    counts_on (after a b) barriers h.1 c (subst (λ n. c < n) (sym more.channels) lt) in
-    elim (eqb c b.channel) as (λ t. eqb c b.channel ≡ t → counting (given_by a c) ++ cond t (b.number ∷ numbers_of c barriers) (numbers_of c barriers) ≡ counting (given_by (after_all (after a b) barriers) c)) [
+    let rest : counting (given_by (alignment_next a b) c) ++ numbers_of c barriers ≡ counting (given_by (after_all (alignment_next a b) barriers) c) =
+    counts_on (alignment_next a b) barriers h.1 c (subst (λ n. c < n) (sym more.channels) lt) in
+    elim (eqb c b.channel) as (λ t. eqb c b.channel ≡ t → counting (given_by a c) ++ cond t (b.number ∷ numbers_of c barriers) (numbers_of c barriers) ≡ counting (given_by (after_all (alignment_next a b) barriers) c)) [
       | true ↦ λ is.
           let same : c ≡ b.channel = eqb-true c b.channel is in
-          let new : given_by (after a b) c ≡ b.number = more.given c lt ∙ ap (λ t. cond t b.number (given_by a c)) is in
+          let new : given_by (alignment_next a b) c ≡ b.number = more.given c lt ∙ ap (λ t. cond t b.number (given_by a c)) is in
           let next : b.number ≡ suc (given_by a c) = number_is_next a b h.0 ∙ ap (λ i. suc (given_by a i)) (sym same) in
-          let grown : counting (given_by (after a b) c) ≡ counting (given_by a c) ++ b.number ∷ [] =
+          let grown : counting (given_by (alignment_next a b) c) ≡ counting (given_by a c) ++ b.number ∷ [] =
           ap counting (new ∙ next) ∙ ap (λ n. counting (given_by a c) ++ n ∷ []) (sym next) in
           sym (append_assoc (counting (given_by a c)) (b.number ∷ []) (numbers_of c barriers)) ∙ ap (λ ns. ns ++ numbers_of c barriers) (sym grown) ∙ rest
       | false ↦ λ is.
-          let same : given_by (after a b) c ≡ given_by a c = more.given c lt ∙ ap (λ t. cond t b.number (given_by a c)) is in
+          let same : given_by (alignment_next a b) c ≡ given_by a c = more.given c lt ∙ ap (λ t. cond t b.number (given_by a c)) is in
           ap (λ n. counting n ++ numbers_of c barriers) (sym same) ∙ rest
     ] refl
 
@@ -50,7 +50,7 @@ one_is_true false n e = absurd (omega arith)
 -- as many channels as at the start
 same_channels : (a : Alignment) (barriers : List Barrier) → MayAllGive a barriers → length (after_all a barriers).gave ≡ length a.gave
 same_channels a [] h = refl
-same_channels a (b ∷ barriers) h = same_channels (after a b) barriers h.1 ∙ (adds a b h.0).channels
+same_channels a (b ∷ barriers) h = same_channels (alignment_next a b) barriers h.1 ∙ (adds a b h.0).channels
 
 length_counting : (n : ℕ) → length (counting n) ≡ n
 length_counting zero = refl
@@ -69,7 +69,7 @@ pub snapshots_with_last : SnapshotsWithLast
 snapshots_with_last channels barriers a b h may =
     let next = goes_on a b may channels barriers h in
     let width : length a.gave ≡ channels = ap (λ (x : Alignment). length x.gave) (sym h.is) ∙ same_channels (unaligned channels) barriers h.may ∙ length-replicate channels false in
-    let counts : (c : ℕ) → c < channels → numbers_of c (barriers ++ b ∷ []) ≡ counting (given_by (after a b) c) = numbers_count_up channels (barriers ++ b ∷ []) (after a b) next in
+    let counts : (c : ℕ) → c < channels → numbers_of c (barriers ++ b ∷ []) ≡ counting (given_by (alignment_next a b) c) = numbers_count_up channels (barriers ++ b ∷ []) (alignment_next a b) next in
     elim (is_last a b) as (λ t.
     ((c : ℕ) → c < channels → numbers_of c (barriers ++ b ∷ []) ≡ counting (given_by (cond t (closing a b) (going a b)) c)) → is_last a b ≡ t →
     (cond t (SnapshotInline b.number) Block ≡ SnapshotInline b.number) ↔ AllGave channels b.number (barriers ++ b ∷ [])) [

@@ -38,8 +38,8 @@ abbrev pub is_last : Alignment → Barrier → Bool
 is_last a b = list_all (λ g. g) (gave_with a b)
 
 -- The checkpoint is closed by the last barrier, and stays open at each one before.
-abbrev pub after : Alignment → Barrier → Alignment
-after a b =
+abbrev pub alignment_next : Alignment → Barrier → Alignment
+alignment_next a b =
     if is_last a b then record { closed = b.number; gave = map (λ g. false) a.gave }
     else record { closed = a.closed; gave = gave_with a b }
 
@@ -56,15 +56,15 @@ pub record MayGive (a : Alignment) (b : Barrier) : Type 0 where
 -- The alignment after these barriers, in the order in which they came.
 abbrev pub after_all : Alignment → List Barrier → Alignment
 after_all a [] = a
-after_all a (b ∷ barriers) = after_all (after a b) barriers
+after_all a (b ∷ barriers) = after_all (alignment_next a b) barriers
 
 -- Each of these barriers may be given after those before it.
 abbrev pub MayAllGive : Alignment → List Barrier → Type 0
 MayAllGive a [] = ⊤
-MayAllGive a (b ∷ barriers) = MayGive a b × MayAllGive (after a b) barriers
+MayAllGive a (b ∷ barriers) = MayGive a b × MayAllGive (alignment_next a b) barriers
 
 -- An alignment stands for the barriers that a task got since its start.
-pub record StandsFor (channels : ℕ) (barriers : List Barrier) (a : Alignment) : Type 0 where
+pub record AlignmentStandsFor (channels : ℕ) (barriers : List Barrier) (a : Alignment) : Type 0 where
   pub some : 1 ≤ channels
   pub may : MayAllGive (unaligned channels) barriers
   pub is : after_all (unaligned channels) barriers ≡ a

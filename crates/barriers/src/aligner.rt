@@ -1,6 +1,6 @@
 // The alignment of one task's channels.
 ghost use Rattle.std.specs.Prelude.{◌≡◌, ℕ, ◌≤◌, List, [], ◌∷◌, ◌++◌, IfOk};
-ghost use Rattle.barriers.specs.Alignments.{Barrier, AddsBarrier, Answers, MayGive, StandsFor, action, after, barrier, unaligned};
+ghost use Rattle.barriers.specs.Alignments.{Barrier, AddsBarrier, Answers, MayGive, AlignmentStandsFor, action, alignment_next, barrier, unaligned};
 
 use std::alloc::{AllocError, Global};
 use std::marker::Model;
@@ -41,7 +41,7 @@ impl Aligner {
     pub fn new(alloc: Global, channels: u32) -> Result<Self, AllocError>
         requires { 1 ≤ channels }
         ensures begins { IfOk result (λ aligner. aligner ≡ unaligned channels) }
-        ensures stands { IfOk result (λ aligner. StandsFor channels [] aligner) }
+        ensures stands { IfOk result (λ aligner. AlignmentStandsFor channels [] aligner) }
     {
         let given = vec![in alloc; 0; channels as usize]?;
         Ok(Aligner {
@@ -55,10 +55,10 @@ impl Aligner {
     pub fn on_barrier(&mut self, channel: u32, k: u64) -> Action
         requires { MayGive self.old (barrier channel k) }
         ensures action { result ≡ action self.old (barrier channel k) }
-        ensures after { self.new ≡ after self.old (barrier channel k) }
+        ensures after { self.new ≡ alignment_next self.old (barrier channel k) }
         ensures given { AddsBarrier (barrier channel k) self.old self.new }
         ensures answers { Answers (barrier channel k) self.old result self.new }
-        ensures stands { (channels : ℕ) (barriers : List Barrier) → StandsFor channels barriers self.old → StandsFor channels (barriers ++ barrier channel k ∷ []) self.new }
+        ensures stands { (channels : ℕ) (barriers : List Barrier) → AlignmentStandsFor channels barriers self.old → AlignmentStandsFor channels (barriers ++ barrier channel k ∷ []) self.new }
     {
         self.given[channel as usize] = k;
         self.missing -= 1;

@@ -22,7 +22,7 @@ use Rattle.job_text.proofs.ShapeLemmas.{same_shape, shaped_job}
 use Rattle.channel_state.specs.Contents.{FitsItsText, TEXT_MOST}
 use Rattle.channel_state.specs.Reading.{byte, flag, number, piece, mark, tested, nothing}
 use Rattle.channel_state.specs.ImageFaults.{is_text}
-use Rattle.channel_state.specs.Building.{IsBytes, Takes, IsRead, IsSource, IsTable, IsCount, ArePieces, table_part, takes_part, AreSources, AreSaved, AreTakes, IsSpelledBy}
+use Rattle.channel_state.specs.Building.{IsBytes, TakesText, IsRead, IsSource, IsTable, IsCount, ArePieces, table_part, takes_part, AreSources, AreSaved, AreTakes, IsSpelledBy}
 use Rattle.channel_state.proofs.FieldLemmas.{tested_ok, number_takes, wide64, piece_takes, flag_takes, byte_takes, mark_takes, nothing_takes}
 use Rattle.channel_state.proofs.FitsLemmas.{many_receive, same_fits, turned_tasks, sum_below-within}
 
@@ -60,7 +60,7 @@ pub record HasParts (job : Job) (before behind : List ℕ) (img : Image) : Type 
   pub from_takes : List ℕ
   pub from_saved : List ℕ
   pub sources : AreSources (tasks job 0) img.final_one before from_counts img.offsets.items img.ended.items
-  pub counts : Takes from_counts (flat_map (to_be_bytes w64) img.emitted.items) from_tables
+  pub counts : TakesText from_counts (flat_map (to_be_bytes w64) img.emitted.items) from_tables
   pub count_count : length img.emitted.items ≡ length (sending_tasks job)
   pub tables : IsRead table_part IsTable from_tables from_takes img.tables.items
   pub table_count : length img.tables.items ≡ tasks job (suc (last_edge job))
@@ -126,19 +126,19 @@ pub record HasEnds (bytes : List ℕ) (img : Image) (before behind : List ℕ) :
   pub end_is : mark (codes "IWLF") behind ≡ Ok end
   pub nothing_is : nothing end ≡ Ok rest
 
-join : {a x b y c : List ℕ} → Takes a x b → Takes b y c → Takes a (x ++ y) c
+join : {a x b y c : List ℕ} → TakesText a x b → TakesText b y c → TakesText a (x ++ y) c
 join {a} {x} {b} {y} {c} p q = record { parts = p.parts ∙ ap (λ (t : List ℕ). x ++ t) q.parts ∙ sym (append_assoc x y c); rest_fits = q.rest_fits }
 
-ended : {a x b : List ℕ} → Takes a x b → b ≡ [] → a ≡ x
+ended : {a x b : List ℕ} → TakesText a x b → b ≡ [] → a ≡ x
 ended {a} {x} {b} p none = p.parts ∙ ap (λ l. x ++ l) none ∙ append-nil x
 
 -- the bytes before the parts
-head_taken : (bytes : List ℕ) (img : Image) (before behind : List ℕ) → IsBytes bytes → HasEnds bytes img before behind → Takes bytes (codes "FLWI" ++ 1 ∷ to_be_bytes w64 img.number ++ flag_part img.final_one ++ sized img.text.items) before × (1 ≤ img.number) × (is_text img.text.items ≡ true)
+head_taken : (bytes : List ℕ) (img : Image) (before behind : List ℕ) → IsBytes bytes → HasEnds bytes img before behind → TakesText bytes (codes "FLWI" ++ 1 ∷ to_be_bytes w64 img.number ++ flag_part img.final_one ++ sized img.text.items) before × (1 ≤ img.number) × (is_text img.text.items ≡ true)
 head_taken bytes img before behind fits ends =
     let m = mark_takes (codes "FLWI") bytes ends.from_version fits ends.mark_is in
     let v = tested_ok (λ version. eqb version 1) byte ends.from_version (ends.version, ends.from_number) ends.version_is in
-    let w : Takes ends.from_version (1 ∷ []) ends.from_number =
-    subst (λ k. Takes ends.from_version (k ∷ []) ends.from_number) (eqb-true _ _ v.1) (byte_takes ends.from_version ends.version ends.from_number m.rest_fits v.0) in
+    let w : TakesText ends.from_version (1 ∷ []) ends.from_number =
+    subst (λ k. TakesText ends.from_version (k ∷ []) ends.from_number) (eqb-true _ _ v.1) (byte_takes ends.from_version ends.version ends.from_number m.rest_fits v.0) in
     let n = tested_ok (nat_le 1) (number w64) ends.from_number (img.number, ends.from_flag) ends.number_is in
     let k = number_takes w64 (2 ^ 64) wide64 ends.from_number img.number ends.from_flag w.rest_fits n.0 in
     let f = flag_takes ends.from_flag img.final_one ends.from_text k.0.rest_fits ends.flag_is in

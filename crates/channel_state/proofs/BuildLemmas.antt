@@ -24,26 +24,26 @@ use Rattle.plain_machine.specs.Images.{items_at, AreRuns, AreSpans, HasShortKeys
 use Rattle.plain_machine.specs.Spelling.{flag_part, sized, counted, source_part, row_part, run_part, channel_part}
 use Rattle.channel_state.specs.Reading.{flag, number, piece, tested}
 use Rattle.channel_state.specs.ImageFaults.{is_key, is_sender, may_save, are_records}
-use Rattle.channel_state.specs.Building.{IsBytes, Takes, IsRead, IsSource, IsTable, IsCount, ArePieces, table_part, takes_part, AreSources, AreSaved, AreTakes, AreRunsSoFar, AreRunsRead, AreRows, IsTableRead}
+use Rattle.channel_state.specs.Building.{IsBytes, TakesText, IsRead, IsSource, IsTable, IsCount, ArePieces, table_part, takes_part, AreSources, AreSaved, AreTakes, AreRunsSoFar, AreRunsRead, AreRows, IsTableRead}
 use Rattle.channel_state.proofs.FieldLemmas.{tested_ok, number_takes, wide32, wide64, piece_takes, flag_takes}
 use Rattle.channel_state.proofs.RecordLemmas.{records_known}
 
 -- ---- parts one after another
 
-pub taken_then : (a x b y c : List ℕ) → Takes a x b → Takes b y c → Takes a (x ++ y) c
+pub taken_then : (a x b y c : List ℕ) → TakesText a x b → TakesText b y c → TakesText a (x ++ y) c
 taken_then a x b y c p q = record { parts = p.parts ∙ ap (λ (t : List ℕ). x ++ t) q.parts ∙ sym (append_assoc x y c); rest_fits = q.rest_fits }
 
 flat_push : {X : Type 0} (part : X → List ℕ) (items : List X) (x : X) → flat_map part items ++ part x ≡ flat_map part (items ++ x ∷ [])
 flat_push part items x = sym (flat_map-append part items (x ∷ []) ∙ ap (λ t. flat_map part items ++ t) (flat_map-cons part x [] ∙ append-nil (part x)))
 
-pub push_taken : {X : Type 0} (part : X → List ℕ) (start rest after : List ℕ) (items : List X) (x : X) → Takes start (flat_map part items) rest → Takes rest (part x) after → Takes start (flat_map part (items ++ x ∷ [])) after
-push_taken part start rest after items x p q = subst (λ l. Takes start l after) (flat_push part items x) (taken_then start (flat_map part items) rest (part x) after p q)
+pub push_taken : {X : Type 0} (part : X → List ℕ) (start rest after : List ℕ) (items : List X) (x : X) → TakesText start (flat_map part items) rest → TakesText rest (part x) after → TakesText start (flat_map part (items ++ x ∷ [])) after
+push_taken part start rest after items x p q = subst (λ l. TakesText start l after) (flat_push part items x) (taken_then start (flat_map part items) rest (part x) after p q)
 
-pub push_read : {X : Type 0} (part : X → List ℕ) (P : X → Type 0) (start rest after : List ℕ) (items : List X) (x : X) → IsRead part P start rest items → Takes rest (part x) after → P x → IsRead part P start after (items ++ x ∷ [])
+pub push_read : {X : Type 0} (part : X → List ℕ) (P : X → Type 0) (start rest after : List ℕ) (items : List X) (x : X) → IsRead part P start rest items → TakesText rest (part x) after → P x → IsRead part P start after (items ++ x ∷ [])
 push_read part P start rest after items x read taken here = record { spelled = push_taken part start rest after items x read.spelled taken; each = All-push P items x read.each here }
 
-pub none_taken : {X : Type 0} (part : X → List ℕ) (start : List ℕ) (items : List X) → items ≡ [] → IsBytes start → Takes start (flat_map part items) start
-none_taken part start items none fits = subst (λ l. Takes start (flat_map part l) start) (sym none) (record { parts = refl; rest_fits = fits })
+pub none_taken : {X : Type 0} (part : X → List ℕ) (start : List ℕ) (items : List X) → items ≡ [] → IsBytes start → TakesText start (flat_map part items) start
+none_taken part start items none fits = subst (λ l. TakesText start (flat_map part l) start) (sym none) (record { parts = refl; rest_fits = fits })
 
 pub none_read : {X : Type 0} (part : X → List ℕ) (P : X → Type 0) (start : List ℕ) (items : List X) → items ≡ [] → IsBytes start → IsRead part P start start items
 none_read part P start items none fits = record { spelled = none_taken part start items none fits; each = subst (All P) (sym none) (All-nil P) }
@@ -72,7 +72,7 @@ next_source i last start rest mid after offsets offsets' ended ended' o e read o
     let n = number_takes w64 (2 ^ 64) wide64 rest o mid read.read.spelled.rest_fits offset in
     let t = tested_ok (λ (ended : Bool). not last || ended) flag mid (e, after) flag_is in
     let f = flag_takes mid e after n.0.rest_fits t.0 in
-    let both : Takes rest (source_part (o, e)) after = taken_then rest (to_be_bytes w64 o) mid (flag_part e) after n.0 f in
+    let both : TakesText rest (source_part (o, e)) after = taken_then rest (to_be_bytes w64 o) mid (flag_part e) after n.0 f in
     let is_ended : IsSource last (o, e) = (λ is. sym (ap (λ (l : Bool). not l || e) is) ∙ t.1) in
     let same : zip offsets' ended' ≡ zip offsets ended ++ (o, e) ∷ [] =
     ap (λ l. zip l ended') pushed ∙ ap (zip (offsets ++ o ∷ [])) pushed' ∙ zip_push offsets ended o e (read.offset_count ∙ sym read.ended_count) in
@@ -84,10 +84,10 @@ next_source i last start rest mid after offsets offsets' ended ended' o e read o
 
 -- ---- counts
 
-pub next_count : (start rest after counts counts' : List ℕ) (n : ℕ) → Takes start (flat_map (to_be_bytes w64) counts) rest → number w64 rest ≡ Ok (n, after) → counts' ≡ counts ++ n ∷ [] → Takes start (flat_map (to_be_bytes w64) counts') after
+pub next_count : (start rest after counts counts' : List ℕ) (n : ℕ) → TakesText start (flat_map (to_be_bytes w64) counts) rest → number w64 rest ≡ Ok (n, after) → counts' ≡ counts ++ n ∷ [] → TakesText start (flat_map (to_be_bytes w64) counts') after
 next_count start rest after counts counts' n read is pushed =
     let taken = number_takes w64 (2 ^ 64) wide64 rest n after read.rest_fits is in
-    subst (λ l. Takes start (flat_map (to_be_bytes w64) l) after) (sym pushed) (push_taken (to_be_bytes w64) start rest after counts n read taken.0)
+    subst (λ l. TakesText start (flat_map (to_be_bytes w64) l) after) (sym pushed) (push_taken (to_be_bytes w64) start rest after counts n read taken.0)
 
 -- ---- tables
 
@@ -137,11 +137,11 @@ module _ (table table' : Values) (before : Option (List ℕ)) (key : List ℕ) (
       let t = tested_ok (is_key before) piece rest (key, mid) key_is in
       let p = piece_takes rest key mid read.spelled.rest_fits t.0 in
       let n = number_takes w64 (2 ^ 64) wide64 mid value after p.0.rest_fits value_is in
-      let both : Takes rest (row_part (key, value)) after = taken_then rest (sized key) mid (to_be_bytes w64 value) after p.0 n.0 in
+      let both : TakesText rest (row_part (key, value)) after = taken_then rest (sized key) mid (to_be_bytes w64 value) after p.0 n.0 in
       let same = pushed_row t.1 in
       let parts = and_parts _ _ t.1 in
       record {
-        spelled = subst (λ l. Takes start (flat_map row_part l) after) (sym same) (push_taken row_part start rest after (entries table) (key, value) read.spelled both);
+        spelled = subst (λ l. TakesText start (flat_map row_part l) after) (sym same) (push_taken row_part start rest after (entries table) (key, value) read.spelled both);
         count = count_push (entries table) (entries table') (key, value) i same read.count;
         keys = subst (All (λ (row : List ℕ × ℕ). IsShort row.0)) (sym same) (All-push (λ (row : List ℕ × ℕ). IsShort row.0) (entries table) (key, value) read.keys (leb-true _ _ parts.0));
       }
@@ -158,7 +158,7 @@ table_read many before mid behind table is read fits =
     let r = read n.0.rest_fits in
     let count = r.count in
     record {
-      spelled = subst (λ k. Takes before (to_be_bytes w32 k ++ flat_map row_part (entries table)) behind) (sym count) (taken_then before (to_be_bytes w32 many) mid (flat_map row_part (entries table)) behind n.0 r.spelled);
+      spelled = subst (λ k. TakesText before (to_be_bytes w32 k ++ flat_map row_part (entries table)) behind) (sym count) (taken_then before (to_be_bytes w32 many) mid (flat_map row_part (entries table)) behind n.0 r.spelled);
       is_table = record { count = (let below = n.1 in omega (arith, below, count)); keys = r.keys };
     }
 
@@ -187,9 +187,9 @@ module _ (job : Job) (e b : ℕ) (runs runs' : List TakeRun) (before : Option �
       let f = number_takes w32 (2 ^ 32) wide32 rest run.from mid read.spelled.rest_fits t.0 in
       let u = tested_ok (nat_le 1) (number w64) mid (run.count, after) count_is in
       let n = number_takes w64 (2 ^ 64) wide64 mid run.count after f.0.rest_fits u.0 in
-      let both : Takes rest (run_part run) after = taken_then rest (to_be_bytes w32 run.from) mid (to_be_bytes w64 run.count) after f.0 n.0 in
+      let both : TakesText rest (run_part run) after = taken_then rest (to_be_bytes w32 run.from) mid (to_be_bytes w64 run.count) after f.0 n.0 in
       record {
-        spelled = subst (λ l. Takes start (flat_map run_part l) after) (sym pushed) (push_taken run_part start rest after runs run read.spelled both);
+        spelled = subst (λ l. TakesText start (flat_map run_part l) after) (sym pushed) (push_taken run_part start rest after runs run read.spelled both);
         count = count_push runs runs' run i pushed read.count;
         runs_are = subst (AreRuns job e b) (sym pushed) (next run t.1 (leb-true _ _ u.1));
       }
@@ -205,7 +205,7 @@ runs_read job e b many before mid behind runs is read fits =
     let r = read n.0.rest_fits in
     let count = r.count in
     record {
-      spelled = subst (λ k. Takes before (to_be_bytes w32 k ++ flat_map run_part runs) behind) (sym count) (taken_then before (to_be_bytes w32 many) mid (flat_map run_part runs) behind n.0 r.spelled);
+      spelled = subst (λ k. TakesText before (to_be_bytes w32 k ++ flat_map run_part runs) behind) (sym count) (taken_then before (to_be_bytes w32 many) mid (flat_map run_part runs) behind n.0 r.spelled);
       count = (let below = n.1 in omega (arith, below, count));
       runs_are = r.runs_are;
     }
@@ -284,8 +284,8 @@ next_saved i last start rest mid after first second ins ins' outs outs' p q read
     let u = tested_ok (λ (saved : List ℕ). may_save last saved && are_records (first ++ saved)) piece mid (second, after) out_is in
     let b = piece_takes mid second after a.0.rest_fits u.0 in
     let parts = and_parts _ _ u.1 in
-    let both : Takes rest (sized first ++ sized second) after = taken_then rest (sized first) mid (sized second) after a.0 b.0 in
-    let pieces : Takes rest (channel_part (p, q)) after = subst (λ l. Takes rest (sized l ++ sized q.items) after) (sym p_is) (subst (λ l. Takes rest (sized first ++ sized l) after) (sym q_is) both) in
+    let both : TakesText rest (sized first ++ sized second) after = taken_then rest (sized first) mid (sized second) after a.0 b.0 in
+    let pieces : TakesText rest (channel_part (p, q)) after = subst (λ l. TakesText rest (sized l ++ sized q.items) after) (sym p_is) (subst (λ l. TakesText rest (sized first ++ sized l) after) (sym q_is) both) in
     let joined : p.items ++ q.items ≡ first ++ second = ap (λ l. l ++ q.items) p_is ∙ ap (λ l. first ++ l) q_is in
     let same : zip ins' outs' ≡ zip ins outs ++ (p, q) ∷ [] = ap (λ l. zip l outs') pushed ∙ ap (zip (ins ++ p ∷ [])) pushed' ∙ zip_push ins outs p q (read.first_count ∙ sym read.second_count) in
     let here : ArePieces last (p, q) = record {

@@ -7,7 +7,7 @@ use Rattle.std.proofs.lemmas.List.{take_at, drop_at, take-append-drop, length-ta
 use Rattle.std.proofs.lemmas.Nat.{be_bytes_4, be_bytes_8, from_be_bytes-to_be_bytes_4, from_be_bytes-to_be_bytes_8}
 use Rattle.job_text.proofs.SpellingLemmas.{same_bytes, bytes_same}
 use Rattle.plain_machine.specs.Spelling.{flag_part, sized}
-use Rattle.channel_state.specs.Building.{IsBytes, Takes}
+use Rattle.channel_state.specs.Building.{IsBytes, TakesText}
 use Rattle.channel_state.specs.Reading.{Reading, Passing, ◌>>=◌, byte, flag, number, front, piece, mark, tested, nothing}
 
 pub IsBytes-drop : (n : ℕ) (bytes : List ℕ) → IsBytes bytes → IsBytes (drop n bytes)
@@ -78,7 +78,7 @@ wide64 = record {
   below = λ bytes fits. omega (arith, fits 0, fits 1, fits 2, fits 3, fits 4, fits 5, fits 6, fits 7);
 }
 
-pub number_takes : (w : Width) (limit : ℕ) (wide : IsWide w limit) (bytes : List ℕ) (n : ℕ) (rest : List ℕ) → IsBytes bytes → number w bytes ≡ Ok (n, rest) → Takes bytes (to_be_bytes w n) rest × (n < limit)
+pub number_takes : (w : Width) (limit : ℕ) (wide : IsWide w limit) (bytes : List ℕ) (n : ℕ) (rest : List ℕ) → IsBytes bytes → number w bytes ≡ Ok (n, rest) → TakesText bytes (to_be_bytes w n) rest × (n < limit)
 number_takes w limit wide bytes n rest fits e =
     let g = guard_ok (ltb (length bytes) (byte_len w)) (length bytes) (from_be_bytes w (take (byte_len w) bytes), drop (byte_len w) bytes) (n, rest) e in
     let long : byte_len w ≤ length bytes = ltb-false _ _ g.0 in
@@ -102,7 +102,7 @@ number_passed w limit wide n rest =
 
 -- ---- pieces
 
-pub piece_takes : (bytes text rest : List ℕ) → IsBytes bytes → piece bytes ≡ Ok (text, rest) → Takes bytes (sized text) rest × (length text < 2 ^ 32)
+pub piece_takes : (bytes text rest : List ℕ) → IsBytes bytes → piece bytes ≡ Ok (text, rest) → TakesText bytes (sized text) rest × (length text < 2 ^ 32)
 unfolding piece
 piece_takes bytes text rest fits e =
     let b = bind_ok (number w32 bytes) (λ n. front (length bytes) n.0 n.1) (text, rest) e in
@@ -113,9 +113,9 @@ piece_takes bytes text rest fits e =
     let len : length (take n.0 n.1) ≡ n.0 = omega (arith, length-take n.0 n.1) in
     let both : bytes ≡ to_be_bytes w32 n.0 ++ take n.0 n.1 ++ drop n.0 n.1 =
     t.0.parts ∙ ap (λ l. to_be_bytes w32 n.0 ++ l) (sym (take-append-drop n.0 n.1)) ∙ sym (append_assoc (to_be_bytes w32 n.0) (take n.0 n.1) (drop n.0 n.1)) in
-    let whole : Takes bytes (sized (take n.0 n.1)) (drop n.0 n.1) =
+    let whole : TakesText bytes (sized (take n.0 n.1)) (drop n.0 n.1) =
     record { parts = both ∙ ap (λ k. to_be_bytes w32 k ++ take n.0 n.1 ++ drop n.0 n.1) (sym len); rest_fits = IsBytes-drop n.0 n.1 t.0.rest_fits } in
-    subst (λ (p : List ℕ × List ℕ). Takes bytes (sized p.0) p.1 × (length p.0 < 2 ^ 32)) g.1 (whole, omega (arith, t.1, len))
+    subst (λ (p : List ℕ × List ℕ). TakesText bytes (sized p.0) p.1 × (length p.0 < 2 ^ 32)) g.1 (whole, omega (arith, t.1, len))
 
 pub piece_again : (text rest : List ℕ) → length text < 2 ^ 32 → piece (sized text ++ rest) ≡ Ok (text, rest)
 unfolding piece
@@ -132,17 +132,17 @@ piece_again text rest lt =
 IsBytes-rest : (b : ℕ) (bytes : List ℕ) → IsBytes (b ∷ bytes) → IsBytes bytes
 IsBytes-rest b bytes h i = h (suc i)
 
-pub byte_takes : (bytes : List ℕ) (b : ℕ) (rest : List ℕ) → IsBytes bytes → byte bytes ≡ Ok (b, rest) → Takes bytes (b ∷ []) rest
+pub byte_takes : (bytes : List ℕ) (b : ℕ) (rest : List ℕ) → IsBytes bytes → byte bytes ≡ Ok (b, rest) → TakesText bytes (b ∷ []) rest
 byte_takes [] b rest fits e = absurd cc
 byte_takes (a ∷ bytes) b rest fits e =
-    subst (λ (p : ℕ × List ℕ). Takes (a ∷ bytes) (p.0 ∷ []) p.1) (ok_is (a, bytes) (b, rest) e) (record { parts = refl; rest_fits = IsBytes-rest a bytes fits })
+    subst (λ (p : ℕ × List ℕ). TakesText (a ∷ bytes) (p.0 ∷ []) p.1) (ok_is (a, bytes) (b, rest) e) (record { parts = refl; rest_fits = IsBytes-rest a bytes fits })
 
-pub flag_takes : (bytes : List ℕ) (f : Bool) (rest : List ℕ) → IsBytes bytes → flag bytes ≡ Ok (f, rest) → Takes bytes (flag_part f) rest
+pub flag_takes : (bytes : List ℕ) (f : Bool) (rest : List ℕ) → IsBytes bytes → flag bytes ≡ Ok (f, rest) → TakesText bytes (flag_part f) rest
 flag_takes [] f rest fits e = absurd cc
 flag_takes (zero ∷ bytes) f rest fits e =
-    subst (λ (p : Bool × List ℕ). Takes (0 ∷ bytes) (flag_part p.0) p.1) (ok_is (false, bytes) (f, rest) e) (record { parts = refl; rest_fits = IsBytes-rest 0 bytes fits })
+    subst (λ (p : Bool × List ℕ). TakesText (0 ∷ bytes) (flag_part p.0) p.1) (ok_is (false, bytes) (f, rest) e) (record { parts = refl; rest_fits = IsBytes-rest 0 bytes fits })
 flag_takes (suc zero ∷ bytes) f rest fits e =
-    subst (λ (p : Bool × List ℕ). Takes (1 ∷ bytes) (flag_part p.0) p.1) (ok_is (true, bytes) (f, rest) e) (record { parts = refl; rest_fits = IsBytes-rest 1 bytes fits })
+    subst (λ (p : Bool × List ℕ). TakesText (1 ∷ bytes) (flag_part p.0) p.1) (ok_is (true, bytes) (f, rest) e) (record { parts = refl; rest_fits = IsBytes-rest 1 bytes fits })
 flag_takes (suc (suc b) ∷ bytes) f rest fits e = absurd cc
 
 pub flag_again : (f : Bool) (rest : List ℕ) → flag (flag_part f ++ rest) ≡ Ok (f, rest)
@@ -151,7 +151,7 @@ flag_again false rest = refl
 
 -- ---- marks
 
-pub mark_takes : (text bytes rest : List ℕ) → IsBytes bytes → mark text bytes ≡ Ok rest → Takes bytes text rest
+pub mark_takes : (text bytes rest : List ℕ) → IsBytes bytes → mark text bytes ≡ Ok rest → TakesText bytes text rest
 mark_takes text bytes rest fits e =
     let g = pass_ok (starts_with nat_eq bytes text) (length bytes) (drop (length text) bytes) rest e in
     let same : text ≡ take (length text) bytes = same_bytes text (take (length text) bytes) g.0 in

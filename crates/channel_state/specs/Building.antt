@@ -17,13 +17,13 @@ abbrev pub IsBytes : List ℕ → Type 0
 IsBytes bytes = (i : ℕ) → slice_index bytes i < 256
 
 -- The bytes before are this text and then those behind.
-pub record Takes (before text behind : List ℕ) : Type 0 where
+pub record TakesText (before text behind : List ℕ) : Type 0 where
   pub parts : before ≡ text ++ behind
   pub rest_fits : IsBytes behind
 
 -- These items, each as it has to be, are what the bytes before spell, up to those behind.
 pub record IsRead {X : Type 0} (part : X → List ℕ) (P : X → Type 0) (before behind : List ℕ) (items : List X) : Type 0 where
-  pub spelled : Takes before (flat_map part items) behind
+  pub spelled : TakesText before (flat_map part items) behind
   pub each : All P items
 
 -- A source of an image is at its end, where the image is the last.
@@ -72,25 +72,25 @@ pub record AreTakes (job : Job) (e b : ℕ) (before behind : List ℕ) (takes : 
 
 -- The runs of task b behind edge e.
 pub record AreRunsRead (job : Job) (e b : ℕ) (before behind : List ℕ) (runs : List TakeRun) : Type 0 where
-  pub spelled : Takes before (counted run_part runs) behind
+  pub spelled : TakesText before (counted run_part runs) behind
   pub count : length runs < 2 ^ 32
   pub runs_are : AreRuns job e b runs
 
 -- So many runs of task b behind edge e.
 pub record AreRunsSoFar (job : Job) (e b many : ℕ) (before behind : List ℕ) (runs : List TakeRun) : Type 0 where
-  pub spelled : Takes before (flat_map run_part runs) behind
+  pub spelled : TakesText before (flat_map run_part runs) behind
   pub count : length runs ≡ many
   pub runs_are : AreRuns job e b runs
 
 -- So many rows of a table.
 pub record AreRows (many : ℕ) (before behind : List ℕ) (table : Values) : Type 0 where
-  pub spelled : Takes before (flat_map row_part (entries table)) behind
+  pub spelled : TakesText before (flat_map row_part (entries table)) behind
   pub count : length (entries table) ≡ many
   pub keys : HasShortKeys table
 
 -- A table.
 pub record IsTableRead (before behind : List ℕ) (table : Values) : Type 0 where
-  pub spelled : Takes before (table_part table) behind
+  pub spelled : TakesText before (table_part table) behind
   pub is_table : IsTable table
 
 -- The image is one that these bytes spell.

@@ -2,7 +2,8 @@
 //! again.
 //!
 //! It stands on plain_machine, whose definitions say what an image means and how it is spelled, on job_text,
-//! since an image holds the text of its job, and on record_spans, as what it saves are records. Contracts see an image by what it holds.
+//! since an image holds the text of its job, and on record_spans, as what it saves are records. Contracts see
+//! an image by what it holds.
 #![tactic(auto)]
 
 mod check;

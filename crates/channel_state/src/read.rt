@@ -9,7 +9,7 @@ ghost use Rattle.plain_machine.specs.Images.{HasShortKeys};
 ghost use Rattle.plain_machine.specs.Spelling.{row_part, spelling, CanSpell};
 ghost use Rattle.channel_state.specs.Contents.{FitsItsText, HasRange};
 ghost use Rattle.channel_state.specs.ImageFaults.{image_fault};
-ghost use Rattle.channel_state.specs.Building.{IsBytes, Takes, IsRead, IsTable, table_part, AreRows, IsTableRead, AreSources, AreTakes, AreRunsRead, AreRunsSoFar, AreSaved, IsSpelledBy};
+ghost use Rattle.channel_state.specs.Building.{IsBytes, TakesText, IsRead, IsTable, table_part, AreRows, IsTableRead, AreSources, AreTakes, AreRunsRead, AreRunsSoFar, AreSaved, IsSpelledBy};
 
 use crate::ImageFault;
 use crate::check::check;
@@ -127,7 +127,7 @@ fn read_sources(
 
 fn read_counts(alloc: Global, cursor: &mut Cursor, many: usize) -> Result<ListOf<u64>, Stop>
     ensures read { IfOk result (λ counts. IsBytes cursor.old.rest.now →
-        Takes cursor.old.rest.now (flat_map (to_be_bytes w64) counts.items) cursor.new.rest.now) }
+        TakesText cursor.old.rest.now (flat_map (to_be_bytes w64) counts.items) cursor.new.rest.now) }
     ensures count { IfOk result (λ counts. length counts.items ≡ many) }
 {
     let mut counts = ListOf::new(alloc);

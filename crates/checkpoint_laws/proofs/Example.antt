@@ -25,7 +25,7 @@ use Rattle.plain_machine.specs.Images.{HasShortKeys, AllEnded, saved, IsStart, F
 use Rattle.plain_machine.specs.Histories.{of_sender}
 use Rattle.plain_machine.specs.Chains.{Chain}
 use Rattle.checkpoint_laws.specs.Puts.{stretches, put_before}
-use Rattle.checkpoint_laws.specs.Chapters.{Emits, Takes, Chapter, SourceStep, Account}
+use Rattle.checkpoint_laws.specs.Chapters.{Emits, RunsTake, Chapter, SourceStep, Account}
 use Rattle.checkpoint_laws.specs.Collecting.{piece, IsMadeOf, Collected}
 use Rattle.checkpoint_laws.specs.Runs.{IsInterval, image_at, took_before, IsToldRun}
 use Rattle.checkpoint_laws.proofs.Told.{Laws, ends, told_is_chain, told_ends_in_tally, unchanged_at_start}
@@ -361,7 +361,7 @@ none_cut : (later : List (List ℕ)) → stretches (Data (0 ∷ 0 ∷ 0 ∷ 1 �
 none_cut later e = cc
 
 -- a record that was taken and not noted
-none_hidden : Takes its_job 0 0 (record { «from» = 0; count = 1 } ∷ []) ((0, codes "a") ∷ (0, codes "b") ∷ []) → ⊥
+none_hidden : RunsTake its_job 0 0 (record { «from» = 0; count = 1 } ∷ []) ((0, codes "a") ∷ (0, codes "b") ∷ []) → ⊥
 none_hidden takes = let both = takes.senders_are in omega (arith, ap length both)
 
 -- a snapshot that was left out

@@ -23,7 +23,7 @@ use Rattle.plain_machine.specs.Histories.{run_senders, senders, records, of_send
 use Rattle.plain_machine.specs.Recorded.{put_on, Recorded}
 use Rattle.plain_machine.specs.Theorems as machine
 use Rattle.checkpoint_laws.specs.Puts.{put_before}
-use Rattle.checkpoint_laws.specs.Chapters.{Linked, GoesOn, Emits, Takes, applied, Chapter, shown, opening, Step}
+use Rattle.checkpoint_laws.specs.Chapters.{Linked, OffsetGoesOn, Emits, RunsTake, applied, Chapter, shown, opening, Step}
 use Rattle.checkpoint_laws.specs.Collecting.{piece, IsLast}
 use Rattle.checkpoint_laws.specs.Runs.{IsInterval, image_at, took_before, AreWorkers, IsToldRun}
 use Rattle.checkpoint_laws.specs.Theorems.{StretchesAreRecords, SnapshotEndsChapter, ToldIsChain, ToldEndsInWorth, ToldEndsInTally}
@@ -72,22 +72,22 @@ none_of job e a b (t ∷ took) all isnt =
       | false ↦ λ h. none_of job e a b took all.1 isnt
     ] refl
 
-none_from : (job : Job) (e a b : ℕ) (runs : List TakeRun) (took : List (ℕ × List ℕ)) → Takes job e b runs took → is_channel job e a b ≡ false → of_sender a took ≡ []
+none_from : (job : Job) (e a b : ℕ) (runs : List TakeRun) (took : List (ℕ × List ℕ)) → RunsTake job e b runs took → is_channel job e a b ≡ false → of_sender a took ≡ []
 none_from job e a b runs took is isnt = none_of job e a b took (subst (AllByRecursion (λ x. is_channel job e x b ≡ true)) is.senders_are (all_senders job e b runs is.are_runs)) isnt
 
 -- ---- how far the sources go
 
-goes_within : (every : Option ℕ) (all old new : ℕ) (ended : Bool) → GoesOn every all old new ended → old ≤ all → (old ≤ new) × (new ≤ all)
+goes_within : (every : Option ℕ) (all old new : ℕ) (ended : Bool) → OffsetGoesOn every all old new ended → old ≤ all → (old ≤ new) × (new ≤ all)
 goes_within None all old new ended goes low = (omega arith, omega arith)
 goes_within (Some interval) all old new ended goes low = (omega arith, omega arith)
 
 -- One that was ended is ended again.
-ended_again : (every : Option ℕ) (all old new : ℕ) (ended : Bool) → GoesOn every all old new ended → IsInterval every → old ≡ all → ended ≡ true
+ended_again : (every : Option ℕ) (all old new : ℕ) (ended : Bool) → OffsetGoesOn every all old new ended → IsInterval every → old ≡ all → ended ≡ true
 ended_again None all old new ended goes positive at = goes.1
 ended_again (Some interval) all old new ended goes positive at = let some : 1 ≤ interval = positive interval refl in goes.1 ∙ lt-ltb all (old + interval) (omega arith)
 
 -- One that is ended is at its end.
-ended_at : (every : Option ℕ) (all old new : ℕ) (ended : Bool) → GoesOn every all old new ended → ended ≡ true → new ≡ all
+ended_at : (every : Option ℕ) (all old new : ℕ) (ended : Bool) → OffsetGoesOn every all old new ended → ended ≡ true → new ≡ all
 ended_at None all old new ended goes is = goes.0
 ended_at (Some interval) all old new ended goes is = let past : all < old + interval = ltb-true all (old + interval) (sym goes.1 ∙ is) in omega (arith, goes.0, past)
 
@@ -222,11 +222,11 @@ module _ (laws : Laws) (job : Job) (lines : ℕ → List (List ℕ)) (every : Op
   step : (i a k : ℕ) → i ≤ suc (last_edge job) → a < tasks job i → k < n → Step job lines every i a (get_or (opening job base i a ∷ chapters i a) k (opening job base i a)) (chapter i a k)
   step i a k h there low = linked_at (Step job lines every i a) (opening job base i a) (chapters i a) k (opening job base i a) (told.workers.accounts i a h there).steps (here i a k h there low).0
 
-  goes : (k a : ℕ) → k < n → a < tasks job 0 → GoesOn every (length (lines a)) (slice_index (image k).offsets.items a) (slice_index (image (suc k)).offsets.items a) (snapshot k 0 a).ended
+  goes : (k a : ℕ) → k < n → a < tasks job 0 → OffsetGoesOn every (length (lines a)) (slice_index (image k).offsets.items a) (slice_index (image (suc k)).offsets.items a) (snapshot k 0 a).ended
   goes k a low h =
-      subst (λ x. GoesOn every (length (lines a)) x (slice_index (image (suc k)).offsets.items a) (snapshot k 0 a).ended) (offsets a h k (omega arith))
-      (subst (λ x. GoesOn every (length (lines a)) (at 0 a k).offset x (snapshot k 0 a).ended) (offsets a h (suc k) low)
-      (subst (λ (x : Bool). GoesOn every (length (lines a)) (at 0 a k).offset (at 0 a (suc k)).offset x) (ap (λ (s : Snapshot). s.ended) (here 0 a k (omega arith) h low).1) (step 0 a k (omega arith) h low).goes))
+      subst (λ x. OffsetGoesOn every (length (lines a)) x (slice_index (image (suc k)).offsets.items a) (snapshot k 0 a).ended) (offsets a h k (omega arith))
+      (subst (λ x. OffsetGoesOn every (length (lines a)) (at 0 a k).offset x (snapshot k 0 a).ended) (offsets a h (suc k) low)
+      (subst (λ (x : Bool). OffsetGoesOn every (length (lines a)) (at 0 a k).offset (at 0 a (suc k)).offset x) (ap (λ (s : Snapshot). s.ended) (here 0 a k (omega arith) h low).1) (step 0 a k (omega arith) h low).goes))
 
   all_emit : (k e a : ℕ) → k < n → e ≤ last_edge job → a < tasks job e → Emits job e a ((cut_of job (image k)).emitted e a) ((cut_of job (image (suc k))).emitted e a) (gave k e a) (chapter e a k).put
   all_emit k zero a low h there =
@@ -236,9 +236,9 @@ module _ (laws : Laws) (job : Job) (lines : ℕ → List (List ℕ)) (every : Op
   all_emit k (suc e) b low h there =
       emits_same job (suc e) b _ _ _ _ _ _ (chapter (suc e) b k).put (counts (suc e) b h there k (omega arith)) (counts (suc e) b h there (suc k) low) refl ((step (suc e) b k (omega arith) there low).emits h)
 
-  all_take : (k e b : ℕ) → k < n → e ≤ last_edge job → b < tasks job (suc e) → Takes job e b (takes_of job (image (suc k)) (suc e) b) (took k e b)
+  all_take : (k e b : ℕ) → k < n → e ≤ last_edge job → b < tasks job (suc e) → RunsTake job e b (takes_of job (image (suc k)) (suc e) b) (took k e b)
   all_take k e b low h there =
-      subst (λ x. Takes job e b x (took k e b)) (ap (λ (s : Snapshot). s.takes.items) (here (suc e) b k (omega arith) there low).1 ∙ sym ((told.workers.made k low).takes e b h there)) (step (suc e) b k (omega arith) there low).takes
+      subst (λ x. RunsTake job e b x (took k e b)) (ap (λ (s : Snapshot). s.takes.items) (here (suc e) b k (omega arith) there low).1 ∙ sym ((told.workers.made k low).takes e b h there)) (step (suc e) b k (omega arith) there low).takes
 
   all_count : (k b : ℕ) → k < n → b < tasks job (suc (last_edge job)) → (cut_of job (image (suc k))).tables b ≡ add_all job.agg ((cut_of job (image k)).tables b) (records (took k (last_edge job) b))
   all_count k b low h =
@@ -321,7 +321,7 @@ module _ (laws : Laws) (job : Job) (lines : ℕ → List (List ℕ)) (every : Op
     flag_at a h = of_some _ _ (sym (get_at (image (suc k)).ended.items a false (let many = (told.workers.collected k low).ended in omega (arith, many, h))) ∙ flag a h)
 
     abbrev EachGoes : Option ℕ → Type 0
-    EachGoes x = (a : ℕ) → a < tasks job 0 → GoesOn x (length (lines a)) (slice_index (image k).offsets.items a) (slice_index (image (suc k)).offsets.items a) (snapshot k 0 a).ended
+    EachGoes x = (a : ℕ) → a < tasks job 0 → OffsetGoesOn x (length (lines a)) (slice_index (image k).offsets.items a) (slice_index (image (suc k)).offsets.items a) (snapshot k 0 a).ended
 
     all_flags : ((a : ℕ) → a < tasks job 0 → (snapshot k 0 a).ended ≡ true) → AllEnded (image (suc k))
     all_flags each =

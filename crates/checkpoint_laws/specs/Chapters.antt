@@ -28,9 +28,9 @@ Linked R x (y ∷ ys) = R x y × Linked R y ys
 
 -- How far a source goes that has so many lines: without an interval to its end. With one it goes so many
 -- lines or to its end, and is ended where it could not go the whole interval.
-abbrev pub GoesOn : Option ℕ → ℕ → ℕ → ℕ → Bool → Type 0
-GoesOn None all old new ended = (new ≡ all) × (ended ≡ true)
-GoesOn (Some interval) all old new ended = (new ≡ min (old + interval) all) × (ended ≡ nat_lt all (old + interval))
+abbrev pub OffsetGoesOn : Option ℕ → ℕ → ℕ → ℕ → Bool → Type 0
+OffsetGoesOn None all old new ended = (new ≡ all) × (ended ≡ true)
+OffsetGoesOn (Some interval) all old new ended = (new ≡ min (old + interval) all) × (ended ≡ nat_lt all (old + interval))
 
 -- Task a of stage e emits these records: the counts before and after them, and the bytes that it puts on
 -- the channel to each receiving task.
@@ -39,7 +39,7 @@ pub record Emits (job : Job) (e a old new : ℕ) (emitted : List (List ℕ)) (pu
   pub puts : (b : ℕ) → is_channel job e a b ≡ true → IsSpans (put b) (emit (receiver_on job e a) old emitted b)
 
 -- Task b behind edge e takes these records, each with its sender, and notes them in these runs.
-pub record Takes (job : Job) (e b : ℕ) (runs : List TakeRun) (took : List (ℕ × List ℕ)) : Type 0 where
+pub record RunsTake (job : Job) (e b : ℕ) (runs : List TakeRun) (took : List (ℕ × List ℕ)) : Type 0 where
   pub senders_are : run_senders runs ≡ senders took
   pub are_runs : AreRuns job e b runs
   pub short : AllByRecursion IsShort (records took)
@@ -83,14 +83,14 @@ opening job image i a = record { took = []; put = λ b. []; snapshot = shown job
 pub record SourceStep (job : Job) (lines : List (List ℕ)) (every : Option ℕ) (a : ℕ) (old new : Chapter) : Type 0 where
   pub task : new.snapshot.task ≡ task_at 0 a
   pub number : new.snapshot.number ≡ old.snapshot.number + 1
-  pub goes : GoesOn every (length lines) old.snapshot.offset new.snapshot.offset new.snapshot.ended
+  pub goes : OffsetGoesOn every (length lines) old.snapshot.offset new.snapshot.offset new.snapshot.ended
   pub emits : Emits job 0 a old.snapshot.emitted new.snapshot.emitted (slice_range lines old.snapshot.offset new.snapshot.offset) new.put
 
 -- Task b behind edge e goes on: a stateless one emits, and one of the aggregate counts.
 pub record TakerStep (job : Job) (e b : ℕ) (old new : Chapter) : Type 0 where
   pub task : new.snapshot.task ≡ task_at (suc e) b
   pub number : new.snapshot.number ≡ old.snapshot.number + 1
-  pub takes : Takes job e b new.snapshot.takes.items new.took
+  pub takes : RunsTake job e b new.snapshot.takes.items new.took
   pub emits : suc e ≤ last_edge job → Emits job (suc e) b old.snapshot.emitted new.snapshot.emitted (applied job e new.took) new.put
   pub counts : e ≡ last_edge job → new.snapshot.table ≡ add_all job.agg old.snapshot.table (records new.took)
 

@@ -15,7 +15,7 @@ use Rattle.plain_machine.specs.Emitting.{receiver_on, emit, count_after}
 use Rattle.plain_machine.specs.Images.{AreRuns}
 use Rattle.plain_machine.specs.Histories.{run_senders}
 use Rattle.checkpoint_laws.specs.Puts.{stretches}
-use Rattle.checkpoint_laws.specs.Chapters.{Emits, Takes, Chapter, opening, Step, Account}
+use Rattle.checkpoint_laws.specs.Chapters.{Emits, RunsTake, Chapter, opening, Step, Account}
 
 -- The last of these chapters, or the one before them where there is none.
 abbrev pub last_chapter : Chapter → List Chapter → Chapter
@@ -97,5 +97,5 @@ MoreIsEmitted =
 abbrev pub OneIsTaken : Type 0
 OneIsTaken =
     (job : Job) (e b a : ℕ) (r : List ℕ) (runs now : List TakeRun) (took : List (ℕ × List ℕ)) →
-    Takes job e b runs took → IsShort r → run_senders now ≡ run_senders runs ++ a ∷ [] → AreRuns job e b now →
-    Takes job e b now (took ++ (a, r) ∷ [])
+    RunsTake job e b runs took → IsShort r → run_senders now ≡ run_senders runs ++ a ∷ [] → AreRuns job e b now →
+    RunsTake job e b now (took ++ (a, r) ∷ [])

@@ -20,7 +20,7 @@ use Rattle.collecting_worker.specs.declared.worker.Worker.{Worker}
 use Rattle.collecting_worker.specs.Accounts.{IsCollectCause}
 use Rattle.collecting_worker.specs.Images.{IsNext, stored_of}
 use Rattle.collecting_worker.specs.Gathering.{IsComplete}
-use Rattle.collecting_worker.specs.Steps.{BreaksFor, HasKept, IsReady}
+use Rattle.collecting_worker.specs.Steps.{BreaksFor, HasKept, IsImageReady}
 
 not_risen : HasRisen 0 0 → ⊥
 not_risen risen = ⊎_elim (λ (low : 0 < 0). omega (arith, low)) (λ (low : 18446744073709551615 ≤ 0). omega (arith, low)) risen
@@ -48,7 +48,7 @@ complete_at job job' received cp image same h = subst (λ j. IsComplete j receiv
 
 -- ---- an image is stored
 
-ready_still : (mid new : Worker) (cp : Checkpoint) (image : Image) (bytes : Items ℕ) → new.gathering ≡ mid.gathering → new.job ≡ mid.job → IsReady mid cp image bytes → IsReady new cp image bytes
+ready_still : (mid new : Worker) (cp : Checkpoint) (image : Image) (bytes : Items ℕ) → new.gathering ≡ mid.gathering → new.job ≡ mid.job → IsImageReady mid cp image bytes → IsImageReady new cp image bytes
 ready_still mid new cp image bytes gathering job h = record {
   complete = subst (λ (g : Gathering). IsComplete new.job.now (received_by g.pass) cp image) (sym gathering) (subst (λ j. IsComplete j (received_by mid.gathering.pass) cp image) (ap (λ j. j.now) (sym job)) h.complete);
   sound = subst (λ j. IsFaultOf j image None) (ap (λ j. j.now) (sym job)) h.sound;
@@ -57,9 +57,9 @@ ready_still mid new cp image bytes gathering job h = record {
   bytes_are = h.bytes_are;
 }
 
-pub stored_by : (old mid new : Worker) (cp : Checkpoint) (image : Image) (bytes : Items ℕ) (before after : Option (List KeptImage)) (r : Result Bool Cause) → IsReady mid cp image bytes → new.gathering ≡ mid.gathering → new.job ≡ mid.job
+pub stored_by : (old mid new : Worker) (cp : Checkpoint) (image : Image) (bytes : Items ℕ) (before after : Option (List KeptImage)) (r : Result Bool Cause) → IsImageReady mid cp image bytes → new.gathering ≡ mid.gathering → new.job ≡ mid.job
     → mid.last_pass ≡ old.last_pass → mine mid.stop_pass ≡ mine old.stop_pass → IfOk r (HasKept mid new before after image)
-    → IfOk r (λ all_ended. (x : Image) × (x' : Items ℕ) × IsReady new cp x x' × HasKept old new before after x all_ended)
+    → IfOk r (λ all_ended. (x : Image) × (x' : Items ℕ) × IsImageReady new cp x x' × HasKept old new before after x all_ended)
 stored_by old mid new cp image bytes before after (Err cause) ready gathering job last stop h = tt
 stored_by old mid new cp image bytes before after (Ok all_ended) ready gathering job last stop h = (
   image,

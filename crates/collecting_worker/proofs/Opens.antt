@@ -26,7 +26,7 @@ use Rattle.snapshot_channel.specs.Passes.{IsCollecting, opening, opening_of, rec
 use Rattle.snapshot_channel.specs.declared.views.Opening.{Opening}
 use Rattle.collecting_worker.specs.declared.gathering.Gathering.{Gathering}
 use Rattle.collecting_worker.specs.Images.{IsSnapshotFor}
-use Rattle.collecting_worker.specs.Gathering.{AreReceived, AreTwo, HadEnded, MayBeLast, IsGathering, IsBetween, IsKept, IsMissing, HasOpen, IsOpen, IsInHand, IsComplete, job_of, every_of}
+use Rattle.collecting_worker.specs.Gathering.{AreReceived, AreTwo, HadEnded, MayBeLast, IsGathering, IsBetween, IsSnapshotKept, IsMissing, HasOpen, IsOpen, IsInHand, IsComplete, job_of, every_of}
 use Rattle.collecting_worker.proofs.Members.{In, contains_in, in_contained}
 use Rattle.collecting_worker.proofs.Receipts.{larger, received_more}
 

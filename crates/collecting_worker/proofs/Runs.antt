@@ -20,7 +20,7 @@ use Rattle.collecting_worker.specs.declared.worker.Worker.{Worker}
 use Rattle.collecting_worker.specs.Accounts.{CollectAccount}
 use Rattle.collecting_worker.specs.Images.{AreStored}
 use Rattle.collecting_worker.specs.Gathering.{IsComplete}
-use Rattle.collecting_worker.specs.Steps.{BreaksFor, HasBroken, HasKept, IsReady}
+use Rattle.collecting_worker.specs.Steps.{BreaksFor, HasBroken, HasKept, IsImageReady}
 use Rattle.collecting_worker.proofs.Breaks.{cause_of, complete_at}
 use Rattle.collecting_worker.proofs.Going.{IsGoing, goes_on, last_is_it, next_image, one_more, still_stored}
 
@@ -47,7 +47,7 @@ module _ (law : SnapshotsMakeFitting) (job : Job) (every : Option ℕ) (old new 
             low (subst (λ j. BreaksFor j received cp count rose met cause) job_is why);
       }
 
-  module _ (image : Image) (bytes : Items ℕ) (all_ended : Bool) (ready : IsReady new cp image bytes) (kept : HasKept old new mid after image all_ended) where
+  module _ (image : Image) (bytes : Items ℕ) (all_ended : Bool) (ready : IsImageReady new cp image bytes) (kept : HasKept old new mid after image all_ended) where
     complete : IsComplete job received cp image
     complete = complete_at new.job.now job received cp image job_is ready.complete
 

@@ -63,8 +63,8 @@ pub record IsGathering (g : Gathering) : Type 0 where
   pub once : AllPairs AreTwo g.ahead.items
 
 -- It is for a checkpoint before k, or it waits, or its task has acknowledged with it.
-abbrev pub IsKept : ℕ → Gathering → Snapshot → Type 0
-IsKept k g x = (x.number < k) ⊎ (Contains g.ahead.items x ⊎ (acknowledged g.collector x.task.stage x.task.index ≡ Some x))
+abbrev pub IsSnapshotKept : ℕ → Gathering → Snapshot → Type 0
+IsSnapshotKept k g x = (x.number < k) ⊎ (Contains g.ahead.items x ⊎ (acknowledged g.collector x.task.stage x.task.index ≡ Some x))
 
 -- No checkpoint is open, and those that were received for checkpoint k or a later one wait.
 pub record IsBetween (k : ℕ) (g : Gathering) : Type 0 where
@@ -87,7 +87,7 @@ pub record HasOpen (checkpoint : Checkpoint) (g : Gathering) : Type 0 where
 -- And no snapshot that was received is lost.
 pub record IsOpen (checkpoint : Checkpoint) (g : Gathering) : Type 0 where
   pub has_open : HasOpen checkpoint g
-  pub kept : (x : Snapshot) → Contains (received_by g.pass) x → IsKept checkpoint.number g x
+  pub kept : (x : Snapshot) → Contains (received_by g.pass) x → IsSnapshotKept checkpoint.number g x
 
 -- A snapshot was received, and is neither acknowledged nor waits. No other one is lost.
 pub record IsInHand (checkpoint : Checkpoint) (g : Gathering) (x : Snapshot) : Type 0 where
@@ -95,7 +95,7 @@ pub record IsInHand (checkpoint : Checkpoint) (g : Gathering) (x : Snapshot) : T
   pub received_it : Contains (received_by g.pass) x
   pub missing : IsMissing g.collector checkpoint.number x
   pub other : All (AreTwo x) g.ahead.items
-  pub kept : (y : Snapshot) → Contains (received_by g.pass) y → IsKept checkpoint.number g y ⊎ (x ≡ y)
+  pub kept : (y : Snapshot) → Contains (received_by g.pass) y → IsSnapshotKept checkpoint.number g y ⊎ (x ≡ y)
 
 -- It gathers for the same job from the same channel, and what was received is so still.
 pub record IsSameGathering (old new : Gathering) : Type 0 where

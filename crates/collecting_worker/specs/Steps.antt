@@ -62,7 +62,7 @@ pub record IsSameWorker (old new : Worker) : Type 0 where
   pub stop_number : number new.stop_pass ≡ number old.stop_pass
 
 -- The image of the checkpoint is complete, has no fault and can be spelled and read again, and these bytes spell it.
-pub record IsReady (w : Worker) (checkpoint : Checkpoint) (image : Image) (bytes : Items ℕ) : Type 0 where
+pub record IsImageReady (w : Worker) (checkpoint : Checkpoint) (image : Image) (bytes : Items ℕ) : Type 0 where
   pub complete : IsComplete w.job.now (received_by w.gathering.pass) checkpoint image
   pub sound : IsFaultOf w.job.now image None
   pub can : CanSpell image

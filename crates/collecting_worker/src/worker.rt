@@ -8,7 +8,7 @@ ghost use Rattle.outside.specs.Keepers.{IsAboveLast};
 ghost use Rattle.outside.specs.Stops.{told_of};
 ghost use Rattle.collecting_worker.specs.Accounts.{CollectAccount};
 ghost use Rattle.collecting_worker.specs.Gathering.{MayBeLast, every_of};
-ghost use Rattle.collecting_worker.specs.Steps.{BreaksFor, HasBroken, HasKept, HasOwnPasses, IsReady, IsSameWorker, IsWorker};
+ghost use Rattle.collecting_worker.specs.Steps.{BreaksFor, HasBroken, HasKept, HasOwnPasses, IsImageReady, IsSameWorker, IsWorker};
 
 use crate::gathering::Gathering;
 use crate::image_store::ImageStore;
@@ -98,7 +98,7 @@ impl<'a> Worker<'a> {
         ensures never_falls { K.faults keeper.old ≤ K.faults keeper.new }
         ensures worker { OnOk result (IsWorker (checkpoint.number + 1) self.new) }
         ensures above { OnOk result ((more : ℕ) → checkpoint.number < more → IsAboveLast (K.images keeper.new) more) }
-        ensures stored { IfOk result (λ all_ended. (image : _) × (bytes : _) × IsReady self.new checkpoint image bytes × HasKept self.old self.new (K.images keeper.old) (K.images keeper.new) image all_ended) }
+        ensures stored { IfOk result (λ all_ended. (image : _) × (bytes : _) × IsImageReady self.new checkpoint image bytes × HasKept self.old self.new (K.images keeper.old) (K.images keeper.new) image all_ended) }
         ensures broken { IfErr result (HasBroken self.old self.new (K.images keeper.old) (K.images keeper.new)) }
         ensures fault { IfErr result (BreaksFor self.new.job.now (received_by self.new.gathering.pass) checkpoint (K.faults keeper.old) (K.faults keeper.new) (seen self.new.stop_pass)) }
     {
@@ -122,7 +122,7 @@ impl<'a> Worker<'a> {
         ensures own { HasOwnPasses self.new }
         ensures still { (self.new.last_pass ≡ self.old.last_pass) × (self.new.last ≡ self.old.last) }
         ensures worker { OnOk result (IsWorker (checkpoint.number + 1) self.new) }
-        ensures ready { IfOk result (λ made. IsReady self.new checkpoint made.image made.bytes) }
+        ensures ready { IfOk result (λ made. IsImageReady self.new checkpoint made.image made.bytes) }
         ensures untold { OnOk result (mine self.new.stop_pass ≡ mine self.old.stop_pass) }
         ensures told { IfErr result (λ cause. mine self.new.stop_pass ≡ mine self.old.stop_pass ++ told_of cause) }
         ensures fault { IfErr result (λ cause. (fell rose : ℕ) → BreaksFor self.new.job.now (received_by self.new.gathering.pass) checkpoint fell rose (seen self.new.stop_pass) cause) }

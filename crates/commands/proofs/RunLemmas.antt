@@ -19,7 +19,7 @@ use Rattle.job_text.specs.JobFaults.{first_fault}
 use Rattle.commands.specs.declared.run.TheConstants.{JOB_MAX}
 use Rattle.command_parts.specs.declared.fault.Fault.{Fault}
 use Rattle.command_parts.specs.declared.fault.Fault.TheVariants.{Usage, JobLine, ScriptLine, JobInput, ScriptInput, SourceInput, Keeper, Output, HoldsImage, HoldsNoImage, NotImage, LongJob, LongScript, LongLine, BigSource, BigImage, TooFewSegments, Link, OverCredit, Peer, Memory}
-use Rattle.job_plan.specs.Plans.{IsReady, CanRun}
+use Rattle.job_plan.specs.Plans.{IsStageReady, CanRun}
 use Rattle.command_parts.specs.Sources.{TellsSources, IsSourceFault}
 use Rattle.job_command.specs.RunFaults.{HasLargeImage, IsRunFault}
 use Rattle.commands.specs.SelfRuns.{IsSelfFault, NamesSelfRun}
@@ -33,7 +33,7 @@ use Rattle.job_command.specs.Pools.{HasPool, HasSmallPool}
 use Rattle.command_parts.specs.Sources.{AreWithinLimits}
 
 -- stages with arguments and functions are ready
-all_ready : (functions : Functions) (stages : List Stage) → AllByRecursion (λ (s : Stage). IsArgument s.kind s.arg.items) stages → AllByRecursion (λ (s : Stage). HasStage functions s.kind) stages → AllByRecursion (IsReady functions) stages
+all_ready : (functions : Functions) (stages : List Stage) → AllByRecursion (λ (s : Stage). IsArgument s.kind s.arg.items) stages → AllByRecursion (λ (s : Stage). HasStage functions s.kind) stages → AllByRecursion (IsStageReady functions) stages
 all_ready functions [] arguments known = tt
 all_ready functions (s ∷ stages) arguments known = (record { argument = arguments.0; function = known.0 }, all_ready functions stages arguments.1 known.1)
 

@@ -28,7 +28,7 @@ use Rattle.command_parts.specs.FaultTexts.{fault_line}
 use Rattle.command_parts.specs.Front.{GotFront}
 use Rattle.outside.specs.Keepers.{KeptImage, last_image}
 use Rattle.command_parts.specs.Held.{HoldsLast, HoldsNone, TellsLast}
-use Rattle.inspect_command.specs.Inspects.{Shows, IsKept, IsNoImageAt, HasNoneToShow}
+use Rattle.inspect_command.specs.Inspects.{Shows, IsImageKept, IsNoImageAt, HasNoneToShow}
 use Rattle.inspect_command.proofs.InspectLemmas.{none_and_last, told_last, none_shown, is_shown}
 use Rattle.job_plan.specs.Limits.{HasLongLine, IsOverLimit}
 use Rattle.job_outcome.specs.Storing.{IsTooLarge}

@@ -25,7 +25,7 @@ use Rattle.command_parts.specs.FaultTexts.{fault_line}
 use Rattle.command_parts.specs.Front.{GotFront}
 use Rattle.outside.specs.Keepers.{KeptImage, last_image}
 use Rattle.command_parts.specs.Held.{HoldsLast, HoldsNone, TellsLast}
-use Rattle.inspect_command.specs.Inspects.{Shows, IsKept, IsNoImageAt, HasNoneToShow}
+use Rattle.inspect_command.specs.Inspects.{Shows, IsImageKept, IsNoImageAt, HasNoneToShow}
 use Rattle.inspect_command.proofs.InspectLemmas.{none_and_last, told_last, none_shown, is_shown}
 use Rattle.job_plan.specs.Limits.{HasLongLine, IsOverLimit}
 use Rattle.job_outcome.specs.Storing.{IsTooLarge}
@@ -652,7 +652,7 @@ module _ (words : List (List ℕ)) (functions : Functions) (contents : List ℕ 
     inspect_refused none (Peer peer) (inr self) = absurd (no_self_show inspect self.0)
     inspect_refused none Memory is = (2, omega arith, refl)
 
-    pub inspect_completes : (kept : KeptImage) (image : Image) → last_image images ≡ Some kept → IsKept kept image → (fault : Fault) → (status_of fault ≡ 5 → ⊥) → (status_of fault ≡ 7 → ⊥) →
+    pub inspect_completes : (kept : KeptImage) (image : Image) → last_image images ≡ Some kept → IsImageKept kept image → (fault : Fault) → (status_of fault ≡ 5 → ⊥) → (status_of fault ≡ 7 → ⊥) →
         IsFaultOf words functions contents held fault → Contains (0 ∷ 70 ∷ []) (status_of fault)
     inspect_completes kept image last is_kept (Usage kind) keeper output is = absurd (no_usage_too kind is)
     inspect_completes kept image last is_kept (JobLine line kind) keeper output (inl is) = absurd (no_job_named _ is)

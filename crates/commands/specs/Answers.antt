@@ -21,7 +21,7 @@ use Rattle.command_parts.specs.Front.{GotFront}
 use Rattle.command_parts.specs.Held.{TellsLast}
 use Rattle.command_parts.specs.Sources.{AreWithinLimits, TellsSources}
 use Rattle.command_parts.specs.declared.fault.Fault.TheVariants.{Memory}
-use Rattle.inspect_command.specs.Inspects.{HasNoneToShow, IsKept}
+use Rattle.inspect_command.specs.Inspects.{HasNoneToShow, IsImageKept}
 use Rattle.script_command.specs.Scripts.{NamesScript, HasEnough, IsNoScript, IsScriptWith, PassesScriptLimit, TellsScript}
 use Rattle.job_command.specs.Pools.{HasPool}
 use Rattle.commands.specs.Run.{NamesCommand, NamesJob, StartsJob, HasChain, HasDone, HasDoneInPart, HasToldOverCredit, EndsWith, IsHindered, IsNoJob, IsTold, PassesLimit, TellsJob, TellsRun}
@@ -118,7 +118,7 @@ pub record IsAnswer (words : List (List ℕ)) (functions : Functions) (before af
       (HasRisen before.input_faults after.input_faults → ⊥) → (HasRisen before.output_faults after.output_faults → ⊥) →
       Contains (0 ∷ 70 ∷ []) status
   pub complete_inspect : (kept : KeptImage) (image : Image) → IsInspect words → TellsLast before.images kept →
-      IsKept kept image → (HasRisen before.keeper_faults after.keeper_faults → ⊥) →
+      IsImageKept kept image → (HasRisen before.keeper_faults after.keeper_faults → ⊥) →
       (HasRisen before.output_faults after.output_faults → ⊥) → Contains (0 ∷ 70 ∷ []) status
   pub known : Contains (0 ∷ 2 ∷ 3 ∷ 4 ∷ 5 ∷ 7 ∷ 8 ∷ 10 ∷ 11 ∷ 12 ∷ 70 ∷ []) status
   -- With another status than 0 and 7 the output got nothing, and with 7 a front of what status 0 writes.

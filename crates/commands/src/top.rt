@@ -16,7 +16,7 @@ ghost use Rattle.job_outcome.specs.Storing.{HasKept};
 ghost use Rattle.job_text.specs.Words.{IsGen, IsSelfRun, IsInspect};
 ghost use Rattle.job_text.specs.declared.words.RunOptions.{RunOptions};
 ghost use Rattle.command_parts.specs.Held.{TellsLast};
-ghost use Rattle.inspect_command.specs.Inspects.{HasNoneToShow, IsKept};
+ghost use Rattle.inspect_command.specs.Inspects.{HasNoneToShow, IsImageKept};
 ghost use Rattle.commands.specs.Answers.{IsAnswer};
 ghost use Rattle.commands.specs.Run.{NamesCommand, NamesJob, StartsJob, HasChain, HasDone, HasDoneInPart, HasToldOverCredit, EndsWith, IsHindered, IsNoJob, IsTold, PassesLimit, TellsJob, TellsRun};
 ghost use Rattle.job_command.specs.Pools.{HasPool};
@@ -183,7 +183,7 @@ where
         (HasRisen (F.faults files.old) (F.faults files.new) → ⊥) → (HasRisen (O.faults out.old) (O.faults out.new) → ⊥) →
         Contains (0 ∷ 70 ∷ []) result }
     ensures complete_inspect { (kept : KeptImage) (image : Image) → IsInspect words.now.items → TellsLast (K.images keeper.old) kept →
-        IsKept kept image → (HasRisen (K.faults keeper.old) (K.faults keeper.new) → ⊥) →
+        IsImageKept kept image → (HasRisen (K.faults keeper.old) (K.faults keeper.new) → ⊥) →
         (HasRisen (O.faults out.old) (O.faults out.new) → ⊥) → Contains (0 ∷ 70 ∷ []) result }
     ensures known { Contains (0 ∷ 2 ∷ 3 ∷ 4 ∷ 5 ∷ 7 ∷ 8 ∷ 10 ∷ 11 ∷ 12 ∷ 70 ∷ []) result }
 

@@ -16,7 +16,7 @@ use Rattle.segment_pool.specs.declared.pass.PoolPass.{PoolPass}
 use Rattle.segment_pool.specs.Passes.{out}
 use Rattle.segment_pool.specs.Pools as pools
 use Rattle.conn_harness.specs.Ends.{AreNewTasks}
-use Rattle.conn_harness.specs.Groups.{IsReady}
+use Rattle.conn_harness.specs.Groups.{IsPassReady}
 
 module _ {A : Type 0} where
   in_front : (xs ys : List A) (k : ℕ) (x : A) → slice_get xs k ≡ Some x → slice_get (xs ++ ys) k ≡ Some x
@@ -46,7 +46,7 @@ module _ {S E F : Type 0} (cells : List (TurnCell S E F)) (passes rest : List (P
   pub within : length rest < length cells
   within = let l = ap length is in let m = length-append rest (last ∷ []) in let n = tasks.few in omega (arith, l, m, n)
 
-pub all_ready : (pool : Pool) (passes : List PoolPass) → pools.AreFresh pool passes → All (λ p. out p ≡ 0) passes → All (IsReady pool) passes
+pub all_ready : (pool : Pool) (passes : List PoolPass) → pools.AreFresh pool passes → All (λ p. out p ≡ 0) passes → All (IsPassReady pool) passes
 all_ready pool passes fresh none k d less = ((fresh.0.1 k (get_or passes k d) (elem_at passes k d less)).0, none k d less)
 
 -- The passes of tasks that have made no entry.

@@ -11,8 +11,8 @@ use Rattle.conn_parts.specs.Shares.{AreOwn, AreNew}
 use Rattle.conn_harness.specs.declared.group.Group.{Group}
 
 -- A pass of this pool that has nothing out.
-abbrev pub IsReady : Pool → PoolPass → Type 0
-IsReady pool pass = IsPassOf pool pass × (out pass ≡ 0)
+abbrev pub IsPassReady : Pool → PoolPass → Type 0
+IsPassReady pool pass = IsPassOf pool pass × (out pass ≡ 0)
 
 module _ {S E F : Type 0} where
   -- The passes are those of the cells, by their numbers, and have made no entry.

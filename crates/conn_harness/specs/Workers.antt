@@ -1,9 +1,9 @@
 -- What the workers of a connection are lent, each what its contract asks for. This is this project's own choice.
 use Rattle.turn_cell.specs.Passes.{IsPassOf}
-use Rattle.conn_send.specs.Sending.{MaySendItems}
-use Rattle.conn_grant.specs.Granting.{MayReadControl}
-use Rattle.conn_receive.specs.Receiving.{MayReadItems}
-use Rattle.conn_announce.specs.Announcing.{MaySendControl}
+use Rattle.conn_send_items.specs.Sending.{MaySendItems}
+use Rattle.conn_read_control.specs.Controlling.{MayReadControl}
+use Rattle.conn_read_items.specs.Receiving.{MayReadItems}
+use Rattle.conn_send_control.specs.Announcing.{MaySendControl}
 use Rattle.conn_harness.specs.declared.cells.Cells.{Cells}
 use Rattle.conn_harness.specs.declared.workers.Workers.{Workers}
 use Rattle.conn_harness.specs.Ends.{MayPut, MayTake}

@@ -6,13 +6,13 @@ ghost use Rattle.segment_pool.specs.Stocks.{IsSize};
 ghost use Rattle.outside.specs.Links.{IsUnfinished};
 ghost use Rattle.outside.specs.Stops.{is_fault};
 ghost use Rattle.conn_harness.specs.declared.pools.TheConstants.{CHANNELS_MAX};
-ghost use Rattle.conn_send.specs.Sending.{MaySendItems};
-ghost use Rattle.conn_grant.specs.Granting.{MayReadControl};
-ghost use Rattle.conn_receive.specs.Receiving.{MayReadItems};
-ghost use Rattle.conn_announce.specs.Announcing.{MaySendControl};
+ghost use Rattle.conn_send_items.specs.Sending.{MaySendItems};
+ghost use Rattle.conn_read_control.specs.Controlling.{MayReadControl};
+ghost use Rattle.conn_read_items.specs.Receiving.{MayReadItems};
+ghost use Rattle.conn_send_control.specs.Announcing.{MaySendControl};
 ghost use Rattle.turn_cell.specs.Passes.{IsPassOf};
 ghost use Rattle.conn_harness.specs.Ends.{MayPut, MayPutOr, MayTake};
-ghost use Rattle.conn_harness.specs.Groups.{IsReady};
+ghost use Rattle.conn_harness.specs.Groups.{IsPassReady};
 
 use crate::carrying::{EndOf, Putting, receive, send};
 use crate::opening::open;
@@ -62,7 +62,7 @@ pub struct Carried<O: Drop> {
 /// pools. None is a size or a count out of range, or want of memory.
 pub fn open_pool(alloc: Global, channels: u32, size: u32) -> Option<(Pool, ListOf<PoolPass>)>
     ensures pool { IfSome result (λ r. limits_of r.0 ≡ []) }
-    ensures passes { IfSome result (λ r. All (IsReady r.0) r.1.items) }
+    ensures passes { IfSome result (λ r. All (IsPassReady r.0) r.1.items) }
     ensures count { IfSome result (λ r. length r.1.items ≡ channels + 1) }
     ensures channels { IfSome result (λ _. (1 ≤ channels) × (channels ≤ CHANNELS_MAX)) }
 {
@@ -197,7 +197,7 @@ where
     I: LinkIn + Send + Drop,
     R: Threads + Wait + Sync,
     requires pool { limits_of pool.now ≡ [] }
-    requires passes { All (IsReady pool.now) passes.items }
+    requires passes { All (IsPassReady pool.now) passes.items }
     requires count { length passes.items ≡ plan.channels + 1 }
     requires channels { (1 ≤ plan.channels) × (plan.channels ≤ CHANNELS_MAX) }
     requires met { IfSome plan.met (λ cause. is_fault cause ≡ true) }

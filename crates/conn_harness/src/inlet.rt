@@ -4,7 +4,7 @@ ghost use Rattle.turn_cell.specs.Passes.{IsPassOf, IsTurnOf, HasEntered, opened_
 ghost use Rattle.input_channel.specs.declared.entry.ReceiveEntry.TheVariants.{Poll, Returned};
 ghost use Rattle.input_channel.specs.Answers.{gave_of};
 ghost use Rattle.input_channel.specs.Legal.{polled_with, returned};
-ghost use Rattle.input_channel.specs.States.{StandsFor};
+ghost use Rattle.input_channel.specs.States.{ChannelStandsFor};
 ghost use Rattle.conn_harness.specs.Inlets.{IsEven, HasLength};
 
 use input_channel::laws::{answers_tell, channels_stand_for_histories, passes_tell};
@@ -18,7 +18,7 @@ use turn_cell::{Named, Pass, Turn, TurnCell};
 fn leave_polled<E: Named<ReceiveEntry>>(turn: Turn<InputChannel>, polled: &Polled)
     requires entry { E.entry ≡ Poll false (gave_of polled.now) }
     requires turn { IsTurnOf turn.cell.now turn.pass.now }
-    requires state { StandsFor turn.state (seen turn.pass.now ++ (number turn.pass.now, Poll false (gave_of polled.now)) ∷ []) }
+    requires state { ChannelStandsFor turn.state (seen turn.pass.now ++ (number turn.pass.now, Poll false (gave_of polled.now)) ∷ []) }
     requires size { turn.state.size ≡ (opened_with turn.cell.now).size }
     ensures pass { IsPassOf turn.entry.cell.now turn.exit.1.0.now }
     ensures entered { HasEntered (Poll false (gave_of polled.now)) turn.entry.pass.now turn.exit.1.0.now }
@@ -31,7 +31,7 @@ fn leave_polled<E: Named<ReceiveEntry>>(turn: Turn<InputChannel>, polled: &Polle
 fn leave_returned<E: Named<ReceiveEntry>>(turn: Turn<InputChannel>, exclusive: bool)
     requires entry { E.entry ≡ Returned exclusive }
     requires turn { IsTurnOf turn.cell.now turn.pass.now }
-    requires state { StandsFor turn.state (seen turn.pass.now ++ (number turn.pass.now, Returned exclusive) ∷ []) }
+    requires state { ChannelStandsFor turn.state (seen turn.pass.now ++ (number turn.pass.now, Returned exclusive) ∷ []) }
     requires size { turn.state.size ≡ (opened_with turn.cell.now).size }
     ensures pass { IsPassOf turn.entry.cell.now turn.exit.1.0.now }
     ensures entered { HasEntered (Returned exclusive) turn.entry.pass.now turn.exit.1.0.now }

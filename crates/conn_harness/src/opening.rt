@@ -8,7 +8,7 @@ ghost use Rattle.credit_reader.specs.Senders.{AreDistinct};
 ghost use Rattle.reader_state.specs.Turning.{channels_in, IsReaderPass};
 ghost use Rattle.conn_harness.specs.declared.pools.TheConstants.{CHANNELS_MAX};
 ghost use Rattle.conn_harness.specs.Cells.{AreCells, AreHands, AreStopsOf};
-ghost use Rattle.conn_harness.specs.Groups.{IsReady};
+ghost use Rattle.conn_harness.specs.Groups.{IsPassReady};
 
 use crate::cells::{Cells, Hands, Stops};
 use crate::group::Group;
@@ -91,7 +91,7 @@ pub fn open<'p, R: Wait>(
     channels: u32,
 ) -> Result<(Cells<'p>, Hands<'p>), AllocError>
     requires pool { limits_of pool.now ≡ [] }
-    requires passes { All (IsReady pool.now) passes.items }
+    requires passes { All (IsPassReady pool.now) passes.items }
     requires count { length passes.items ≡ channels + 1 }
     requires channels { channels ≤ CHANNELS_MAX }
     ensures cells { IfOk result (λ r. AreCells r.0) }

@@ -4,7 +4,7 @@ ghost use Rattle.turn_cell.specs.Passes.{IsPassOf, IsTurnOf, HasEntered, opened_
 ghost use Rattle.subpartition.specs.declared.entry.SendEntry.TheVariants.{Put};
 ghost use Rattle.subpartition.specs.Queues.{last_bytes};
 ghost use Rattle.subpartition.specs.Sending.{is_finished};
-ghost use Rattle.subpartition.specs.Standing.{StandsFor};
+ghost use Rattle.subpartition.specs.Standing.{QueueStandsFor};
 
 use std::marker::Brand;
 use std::sync::Wait;
@@ -16,7 +16,7 @@ use turn_cell::{Named, Pass, Turn, TurnCell};
 fn leave_put<E: Named<SendEntry>>(turn: Turn<Subpartition>)
     requires entry { E.entry ≡ Put (last_bytes turn.state.items) }
     requires turn { IsTurnOf turn.cell.now turn.pass.now }
-    requires state { StandsFor turn.state (seen turn.pass.now ++ (number turn.pass.now, Put (last_bytes turn.state.items)) ∷ []) }
+    requires state { QueueStandsFor turn.state (seen turn.pass.now ++ (number turn.pass.now, Put (last_bytes turn.state.items)) ∷ []) }
     requires size { turn.state.size ≡ (opened_with turn.cell.now).size }
     ensures pass { IsPassOf turn.entry.cell.now turn.exit.1.0.now }
     ensures entered { HasEntered (Put (last_bytes turn.entry.state.items)) turn.entry.pass.now turn.exit.1.0.now }

@@ -7,7 +7,7 @@ ghost use Rattle.local_pool.specs.Helds.{pool_of};
 ghost use Rattle.local_pool.specs.Locals.{IsLocalOf};
 ghost use Rattle.input_channel.specs.States.{opening};
 ghost use Rattle.conn_harness.specs.declared.pools.TheConstants.{CHANNELS_MAX, BUFFERS_MAX};
-ghost use Rattle.conn_harness.specs.Groups.{AreMade, IsReady};
+ghost use Rattle.conn_harness.specs.Groups.{AreMade, IsPassReady};
 
 use crate::group::Group;
 use flow_defs::ListOf;
@@ -56,7 +56,7 @@ fn local_pool_of<R: Wait>(
     most: u32,
 ) -> Result<LocalPool, AllocError>
     requires pool { limits_of pool.now ≡ [] }
-    requires pass { IsReady pool.now pass }
+    requires pass { IsPassReady pool.now pass }
     requires most { need ≤ most }
     ensures { IfOk result (λ local. IsLocalOf pool.now local) }
 {
@@ -77,7 +77,7 @@ pub fn partitions_of<'p, R: Wait>(
     passes: ListOf<PoolPass>,
 ) -> Result<Group<HeldPool<'p>>, AllocError>
     requires pool { limits_of pool.now ≡ [] }
-    requires passes { All (IsReady pool.now) passes.items }
+    requires passes { All (IsPassReady pool.now) passes.items }
     ensures { IfOk result (AreMade (λ held. size_of (pool_of held) ≡ size_of pool.now) (length passes.items)) }
 {
     let mut rest = passes;
@@ -145,7 +145,7 @@ pub fn gate_of<'p, R: Wait>(
     channels: u32,
 ) -> Result<Gate<'p>, AllocError>
     requires pool { limits_of pool.now ≡ [] }
-    requires pass { IsReady pool.now pass }
+    requires pass { IsPassReady pool.now pass }
     requires few { channels ≤ CHANNELS_MAX }
     ensures inputs { IfOk result (λ gate. AreMade (λ input. input.size ≡ size_of pool.now) channels gate.inputs) }
     ensures pools { IfOk result (λ gate. AreMade (λ held. size_of (pool_of held) ≡ size_of pool.now) 1 gate.pools) }

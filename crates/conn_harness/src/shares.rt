@@ -3,10 +3,10 @@ ghost use Rattle.std.specs.Prelude.{◌≡◌, []};
 ghost use Rattle.turn_cell.specs.Passes.{IsPassOf, mine};
 ghost use Rattle.reader_state.specs.Turning.{IsReaderPass};
 ghost use Rattle.conn_parts.specs.Shares.{AreOf, AreOwn};
-ghost use Rattle.conn_send.specs.Sending.{MaySendItems};
-ghost use Rattle.conn_grant.specs.Granting.{MayReadControl};
-ghost use Rattle.conn_receive.specs.Receiving.{MayReadItems};
-ghost use Rattle.conn_announce.specs.Announcing.{MaySendControl};
+ghost use Rattle.conn_send_items.specs.Sending.{MaySendItems};
+ghost use Rattle.conn_read_control.specs.Controlling.{MayReadControl};
+ghost use Rattle.conn_read_items.specs.Receiving.{MayReadItems};
+ghost use Rattle.conn_send_control.specs.Announcing.{MaySendControl};
 ghost use Rattle.conn_harness.specs.Cells.{AreCells};
 
 use crate::cells::Cells;

@@ -14,7 +14,7 @@ use Rattle.conn_parts.specs.Shares.{mine_at}
 use Rattle.conn_parts.specs.Messages.{Message, closing, is_from_sender, items_on}
 use Rattle.conn_parts.specs.Writing.{Wrote}
 use Rattle.conn_parts.specs.Theorems.{ReadIsWritten, FrontsCarryFronts}
-use Rattle.conn_receive.specs.Receiving.{EndedBy}
+use Rattle.conn_read_items.specs.Receiving.{EndedBy}
 use Rattle.conn_run.specs.Theorems.{ItemsArrive}
 
 pub some_is : {A : Type 0} (x y : A) → Some x ≡ Some y → x ≡ y

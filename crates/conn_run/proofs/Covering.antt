@@ -20,25 +20,25 @@ use Rattle.input_channel.specs.Inboxes.{pushed}
 use Rattle.conn_parts.specs.Shares.{mine_at}
 use Rattle.conn_parts.specs.Messages.{Message, is_from_sender, is_from_receiver, items_on, credit_in, credit_on, is_request, requests_of}
 use Rattle.conn_parts.specs.Theorems.{ReadIsWritten, FrontsCarryFronts}
-use Rattle.conn_send.specs.Sending.{kind_of}
-use Rattle.conn_grant.specs.Granting.{entries_in}
-use Rattle.conn_announce.specs.Announcing.{BeginsWithRequests}
+use Rattle.conn_send_items.specs.Sending.{sent_kind}
+use Rattle.conn_read_control.specs.Controlling.{entries_in}
+use Rattle.conn_send_control.specs.Announcing.{BeginsWithRequests}
 use Rattle.conn_run.specs.Theorems.{CreditCoversData}
 use Rattle.conn_run.proofs.Arriving.{some_is, front_sent}
 
 -- ---- data
 
-kinds_of_data : (p : Parcel) → laws.is_data (kind_of p) ≡ is_data p
+kinds_of_data : (p : Parcel) → laws.is_data (sent_kind p) ≡ is_data p
 kinds_of_data (Data bytes) = refl
 kinds_of_data (Barrier k barrier.Inline) = refl
 kinds_of_data (Barrier k barrier.Front) = refl
 kinds_of_data End = refl
 
-data_told : (ps : List Parcel) → count_by laws.is_data (map kind_of ps) ≡ count_by is_data ps
+data_told : (ps : List Parcel) → count_by laws.is_data (map sent_kind ps) ≡ count_by is_data ps
 data_told [] = refl
 data_told (p ∷ ps) =
-    sum_by-cons (λ (k : SentKind). cond (laws.is_data k) 1 0) (kind_of p) (map kind_of ps)
-    ∙ ap (λ b. cond b 1 0 + count_by laws.is_data (map kind_of ps)) (kinds_of_data p)
+    sum_by-cons (λ (k : SentKind). cond (laws.is_data k) 1 0) (sent_kind p) (map sent_kind ps)
+    ∙ ap (λ b. cond b 1 0 + count_by laws.is_data (map sent_kind ps)) (kinds_of_data p)
     ∙ ap (λ n. cond (is_data p) 1 0 + n) (data_told ps)
     ∙ sym (sum_by-cons (λ (q : Parcel). cond (is_data q) 1 0) p ps)
 

@@ -16,10 +16,10 @@ use Rattle.reader_state.specs.Theorems.{IsLegal}
 use Rattle.conn_parts.specs.declared.share.ConnShare.{ConnShare}
 use Rattle.conn_parts.specs.declared.share.SharePasses.{SharePasses}
 use Rattle.conn_parts.specs.Shares.{mine_at, seen_at}
-use Rattle.conn_send.specs.Sending.{SendAccount, told_readers as told_items}
-use Rattle.conn_grant.specs.Granting.{ControlAccount, told_readers as told_control}
-use Rattle.conn_announce.specs.Announcing.{AnnounceAccount}
-use Rattle.conn_receive.specs.Receiving.{ItemsAccount}
+use Rattle.conn_send_items.specs.Sending.{SendAccount, told_readers as told_items}
+use Rattle.conn_read_control.specs.Controlling.{ControlAccount, told_readers as told_control}
+use Rattle.conn_send_control.specs.Announcing.{AnnounceAccount}
+use Rattle.conn_read_items.specs.Receiving.{ItemsAccount}
 
 -- What arrived begins what was taken, and is all of it where the reader of items is done.
 pub record Arrived (taken pushed : List Parcel) (cause : Cause) : Type 0 where

@@ -12,7 +12,7 @@ use Rattle.std.proofs.lemmas.Option.{none-some}
 use Rattle.flow_defs.specs.declared.task.ChannelId.{ChannelId}
 use Rattle.credit_reader.specs.declared.reader.Reader.{Reader}
 use Rattle.credit_reader.specs.declared.places.Found.{Found}
-use Rattle.credit_reader.specs.Readers.{can_send, is_due, KeepsRanges, Happening, Asked, Granted, Resumed, Ready, Sent, Announced, after}
+use Rattle.credit_reader.specs.Readers.{can_send, is_due, KeepsRanges, Happening, Asked, Granted, Resumed, Ready, Sent, Announced, reader_next}
 use Rattle.credit_reader.specs.Senders.{Sender, is_same, reader_of, is_able, after_at, queue_after, happened}
 use Rattle.credit_reader.specs.Places.{reader_at, channel_at, seen, HaveOwnChannels, IsQueue, IsFound, Fits, put_at, turned_at}
 use Rattle.credit_reader.specs.Laws.{ChangesOne}
@@ -60,7 +60,7 @@ module _ (rs : List Reader) (places : List ℕ) (capacity : ℕ) (queue : IsQueu
 
 -- ---- what happens to one reader
 
-pub channel_stays : (r : Reader) (h : Happening) → (after r h).channel ≡ r.channel
+pub channel_stays : (r : Reader) (h : Happening) → (reader_next r h).channel ≡ r.channel
 channel_stays r (Asked n) = refl
 channel_stays r (Granted n) = refl
 channel_stays r Resumed = refl
@@ -70,17 +70,17 @@ channel_stays r Announced = refl
 
 -- a reader after what happens to that of a channel
 abbrev pub touched : ChannelId → Happening → Reader → Reader
-touched c h r = cond (is_same r.channel c) (after r h) r
+touched c h r = cond (is_same r.channel c) (reader_next r h) r
 
 touched_channel : (c : ChannelId) (h : Happening) (r : Reader) → (touched c h r).channel ≡ r.channel
-touched_channel c h r = elim (is_same r.channel c) as (λ b. (cond b (after r h) r).channel ≡ r.channel) [ true ↦ channel_stays r h | false ↦ refl ]
+touched_channel c h r = elim (is_same r.channel c) as (λ b. (cond b (reader_next r h) r).channel ≡ r.channel) [ true ↦ channel_stays r h | false ↦ refl ]
 
-pub reader_after : (c : ChannelId) (h : Happening) (d : ChannelId) (rs : List Reader) → reader_of d (after_at c h rs) ≡ option_map (λ r. cond (is_same d c) (after r h) r) (reader_of d rs)
+pub reader_after : (c : ChannelId) (h : Happening) (d : ChannelId) (rs : List Reader) → reader_of d (after_at c h rs) ≡ option_map (λ r. cond (is_same d c) (reader_next r h) r) (reader_of d rs)
 reader_after c h d [] = refl
 reader_after c h d (r ∷ rs) =
     ap (λ e. cond (is_same e d) (Some (touched c h r)) (reader_of d (after_at c h rs))) (touched_channel c h r)
-    ∙ (elim (is_same r.channel d) as (λ b. is_same r.channel d ≡ b → cond b (Some (touched c h r)) (reader_of d (after_at c h rs)) ≡ option_map (λ r. cond (is_same d c) (after r h) r) (cond b (Some r) (reader_of d rs))) [
-      | true ↦ λ is. ap (λ e. Some (cond (is_same e c) (after r h) r)) (same_channel _ _ is)
+    ∙ (elim (is_same r.channel d) as (λ b. is_same r.channel d ≡ b → cond b (Some (touched c h r)) (reader_of d (after_at c h rs)) ≡ option_map (λ r. cond (is_same d c) (reader_next r h) r) (cond b (Some r) (reader_of d rs))) [
+      | true ↦ λ is. ap (λ e. Some (cond (is_same e c) (reader_next r h) r)) (same_channel _ _ is)
       | false ↦ λ is. reader_after c h d rs
     ] refl)
 
@@ -92,46 +92,46 @@ pub changes_one : (c : ChannelId) (h : Happening) (rs : List Reader) → Changes
 changes_one c h rs = record { each = λ d. reader_after c h d rs; channels = channels_after c h rs }
 
 -- the readers after it are the old ones with the new one in its place
-pub after_at_place : (rs : List Reader) → HaveOwnChannels rs → (i : ℕ) → i < length rs → (c : ChannelId) (h : Happening) → channel_at rs i ≡ c → set rs i (after (reader_at rs i) h) ≡ after_at c h rs
+pub after_at_place : (rs : List Reader) → HaveOwnChannels rs → (i : ℕ) → i < length rs → (c : ChannelId) (h : Happening) → channel_at rs i ≡ c → set rs i (reader_next (reader_at rs i) h) ≡ after_at c h rs
 after_at_place rs own i in_range c h is =
     ext_get_or nobody _ _ (length-set rs i _ ∙ sym (length-map rs (touched c h))) (λ j j_in.
-    let j_there : j < length rs = omega (arith, length-set rs i (after (reader_at rs i) h)) in
+    let j_there : j < length rs = omega (arith, length-set rs i (reader_next (reader_at rs i) h)) in
     let mapped = get_or-map (touched c h) rs j nobody nobody j_there in
     elim (cases_eq j i) [
-      | inl same ↦ subst (λ k. get_or (set rs i (after (reader_at rs i) h)) k nobody ≡ touched c h (get_or rs k nobody)) (sym same)
+      | inl same ↦ subst (λ k. get_or (set rs i (reader_next (reader_at rs i) h)) k nobody ≡ touched c h (get_or rs k nobody)) (sym same)
           (get_or-set_same rs i _ nobody in_range ∙ sym (cond-true _ _ _ (is_same_of _ _ is))) ∙ sym mapped
       | inr other ↦ get_or-set_other rs i j _ nobody other ∙ sym (cond-false _ _ _ (is_other _ _ (λ same. other (own_place rs own j i j_there in_range (same ∙ sym is))))) ∙ sym mapped
     ])
 
 module _ (s : Sender) (c : ChannelId) (found : Found) (is : IsFound s c found) (h : Happening) where
-  new_channel : (after found.reader h).channel ≡ c
+  new_channel : (reader_next found.reader h).channel ≡ c
   new_channel = channel_stays found.reader h ∙ is.channel_is
 
   place_channel : channel_at s.readers found.place ≡ c
   place_channel = ap (λ (r : Reader). r.channel) is.stands ∙ is.channel_is
 
-  readers_are : set s.readers found.place (after found.reader h) ≡ after_at c h s.readers
-  readers_are = ap (λ r. set s.readers found.place (after r h)) (sym is.stands) ∙ after_at_place s.readers is.distinct found.place is.within c h place_channel
+  readers_are : set s.readers found.place (reader_next found.reader h) ≡ after_at c h s.readers
+  readers_are = ap (λ r. set s.readers found.place (reader_next r h)) (sym is.stands) ∙ after_at_place s.readers is.distinct found.place is.within c h place_channel
 
   able_was : can_send (reader_at s.readers found.place) ≡ is_able c s.readers
   able_was = ap can_send is.stands ∙ sym (ap (λ o. option_map_or can_send o false) is.reader_is)
 
-  pub able_now : can_send (after found.reader h) ≡ is_able c (after_at c h s.readers)
+  pub able_now : can_send (reader_next found.reader h) ≡ is_able c (after_at c h s.readers)
   able_now = sym (ap (λ o. option_map_or can_send o false) (
-      reader_after c h c s.readers ∙ ap (option_map (λ r. cond (is_same c c) (after r h) r)) is.reader_is ∙ ap Some (cond-true _ _ _ (is_same_self c))))
+      reader_after c h c s.readers ∙ ap (option_map (λ r. cond (is_same c c) (reader_next r h) r)) is.reader_is ∙ ap Some (cond-true _ _ _ (is_same_self c))))
 
-  pub fits_in : KeepsRanges (after found.reader h) → Fits s found.place (after found.reader h)
+  pub fits_in : KeepsRanges (reader_next found.reader h) → Fits s found.place (reader_next found.reader h)
   fits_in ranges = record { within = is.within; channel_is = place_channel ∙ sym new_channel; ranges = ranges }
 
-  pub put_happens : put_at found.place (after found.reader h) s ≡ happened c h s
+  pub put_happens : put_at found.place (reader_next found.reader h) s ≡ happened c h s
   put_happens =
-      ap (λ d. sender (set s.readers found.place (after found.reader h)) (queue_after d (can_send (reader_at s.readers found.place)) (can_send (after found.reader h)) s.queue)) new_channel
-      ∙ ap (λ w. sender (set s.readers found.place (after found.reader h)) (queue_after c w (can_send (after found.reader h)) s.queue)) able_was
-      ∙ ap (λ n. sender (set s.readers found.place (after found.reader h)) (queue_after c (is_able c s.readers) n s.queue)) able_now
+      ap (λ d. sender (set s.readers found.place (reader_next found.reader h)) (queue_after d (can_send (reader_at s.readers found.place)) (can_send (reader_next found.reader h)) s.queue)) new_channel
+      ∙ ap (λ w. sender (set s.readers found.place (reader_next found.reader h)) (queue_after c w (can_send (reader_next found.reader h)) s.queue)) able_was
+      ∙ ap (λ n. sender (set s.readers found.place (reader_next found.reader h)) (queue_after c (is_able c s.readers) n s.queue)) able_now
       ∙ ap (λ rs. sender rs (queue_after c (is_able c s.readers) (is_able c (after_at c h s.readers)) s.queue)) readers_are
 
-  pub turn_happens : turned_at found.place (after found.reader h) s ≡ (record { readers = after_at c h s.readers; queue = drop 1 s.queue ++ cond (is_able c (after_at c h s.readers)) (c ∷ []) [] })
+  pub turn_happens : turned_at found.place (reader_next found.reader h) s ≡ (record { readers = after_at c h s.readers; queue = drop 1 s.queue ++ cond (is_able c (after_at c h s.readers)) (c ∷ []) [] })
   turn_happens =
-      ap (λ d. sender (set s.readers found.place (after found.reader h)) (drop 1 s.queue ++ cond (can_send (after found.reader h)) (d ∷ []) [])) new_channel
-      ∙ ap (λ n. sender (set s.readers found.place (after found.reader h)) (drop 1 s.queue ++ cond n (c ∷ []) [])) able_now
+      ap (λ d. sender (set s.readers found.place (reader_next found.reader h)) (drop 1 s.queue ++ cond (can_send (reader_next found.reader h)) (d ∷ []) [])) new_channel
+      ∙ ap (λ n. sender (set s.readers found.place (reader_next found.reader h)) (drop 1 s.queue ++ cond n (c ∷ []) [])) able_now
       ∙ ap (λ rs. sender rs (drop 1 s.queue ++ cond (is_able c (after_at c h s.readers)) (c ∷ []) [])) readers_are

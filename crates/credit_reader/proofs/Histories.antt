@@ -7,7 +7,7 @@ use Rattle.flow_defs.specs.declared.task.ChannelId.{ChannelId}
 use Rattle.flow_defs.specs.declared.task.Head.{Head}
 use Rattle.credit_reader.specs.declared.reader.Reader.{Reader}
 use Rattle.credit_reader.specs.declared.reader.SentKind.{SentKind}
-use Rattle.credit_reader.specs.Readers.{fresh, Happening, Sent, May, after}
+use Rattle.credit_reader.specs.Readers.{fresh, Happening, Sent, May, reader_next}
 use Rattle.credit_reader.specs.Senders.{Sender, is_same, reader_of, after_at, MayHappen, happened, has_sent}
 use Rattle.credit_reader.specs.Laws.{MayAll, after_all, AddsUp, History, after_history, of_channel, HasHistory}
 use Rattle.credit_reader.proofs.Queues.{same_channel}
@@ -16,13 +16,13 @@ use Rattle.credit_reader.proofs.Adding.{adds_up}
 
 -- ---- one more happening
 
-after_all_more : (r : Reader) (hs : List Happening) (h : Happening) → after_all r (hs ++ h ∷ []) ≡ after (after_all r hs) h
+after_all_more : (r : Reader) (hs : List Happening) (h : Happening) → after_all r (hs ++ h ∷ []) ≡ reader_next (after_all r hs) h
 after_all_more r [] h = refl
-after_all_more r (g ∷ hs) h = after_all_more (after r g) hs h
+after_all_more r (g ∷ hs) h = after_all_more (reader_next r g) hs h
 
 may_more : (r : Reader) (hs : List Happening) (h : Happening) → MayAll r hs → May (after_all r hs) h → MayAll r (hs ++ h ∷ [])
 may_more r [] h may one = (one, tt)
-may_more r (g ∷ hs) h may one = (may.0, may_more (after r g) hs h may.1 one)
+may_more r (g ∷ hs) h may one = (may.0, may_more (reader_next r g) hs h may.1 one)
 
 after_history_more : (rs : List Reader) (history : History) (c : ChannelId) (h : Happening) → after_history rs (history ++ (c, h) ∷ []) ≡ after_at c h (after_history rs history)
 after_history_more rs [] c h = refl
@@ -39,12 +39,12 @@ of_channel_more d (e ∷ es) c h =
 
 -- ---- each reader is what its own happenings make of it
 
-cond_map : (b : Bool) (r : Reader) (h : Happening) (hs : List Happening) → after_all (cond b (after r h) r) hs ≡ after_all r (cond b (h ∷ hs) hs)
+cond_map : (b : Bool) (r : Reader) (h : Happening) (hs : List Happening) → after_all (cond b (reader_next r h) r) hs ≡ after_all r (cond b (h ∷ hs) hs)
 cond_map true r h hs = refl
 cond_map false r h hs = refl
 
 map_after : (o : Option Reader) (b : Bool) (h : Happening) (hs : List Happening)
-    → option_map (λ r. after_all r hs) (option_map (λ r. cond b (after r h) r) o) ≡ option_map (λ r. after_all r (cond b (h ∷ hs) hs)) o
+    → option_map (λ r. after_all r hs) (option_map (λ r. cond b (reader_next r h) r) o) ≡ option_map (λ r. after_all r (cond b (h ∷ hs) hs)) o
 map_after None b h hs = refl
 map_after (Some r) b h hs = ap Some (cond_map b r h hs)
 

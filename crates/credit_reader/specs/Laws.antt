@@ -6,7 +6,7 @@ use Rattle.flow_defs.specs.declared.task.Head.{Head}
 use Rattle.flow_defs.specs.declared.task.Head.TheVariants as heads
 use Rattle.credit_reader.specs.declared.reader.Reader.{Reader}
 use Rattle.credit_reader.specs.declared.reader.SentKind.{SentKind}
-use Rattle.credit_reader.specs.Readers.{fresh, can_send, cost, May, Happening, Asked, Granted, Sent, after}
+use Rattle.credit_reader.specs.Readers.{fresh, can_send, cost, May, Happening, Asked, Granted, Sent, reader_next}
 use Rattle.credit_reader.specs.Senders.{Sender, sender_of, is_same, reader_of, is_able, after_at, MayHappen, happened, has_sent}
 
 -- The queue holds exactly the readers that can send, each once.
@@ -26,12 +26,12 @@ FirstCanSend s = (c : ChannelId) → slice_get s.queue 0 ≡ Some c → (r : Rea
 -- The reader after a list of happenings, one after another.
 abbrev pub after_all : Reader → List Happening → Reader
 after_all r [] = r
-after_all r (h ∷ hs) = after_all (after r h) hs
+after_all r (h ∷ hs) = after_all (reader_next r h) hs
 
 -- Each of the happenings may come where it comes.
 abbrev pub MayAll : Reader → List Happening → Type 0
 MayAll r [] = Unit {0}
-MayAll r (h ∷ hs) = May r h × MayAll (after r h) hs
+MayAll r (h ∷ hs) = May r h × MayAll (reader_next r h) hs
 
 -- The credit that a happening grants, the items that it sends, and the data buffers among them.
 abbrev pub credit_in : Happening → ℕ
@@ -60,7 +60,7 @@ AllAddUp = (c : ChannelId) (hs : List Happening) → MayAll (fresh c) hs → Add
 
 -- What happens to one reader changes no other, and keeps the channels.
 pub record ChangesOne (c : ChannelId) (h : Happening) (readers : List Reader) : Type 0 where
-  pub each : (d : ChannelId) → reader_of d (after_at c h readers) ≡ option_map (λ r. if is_same d c then after r h else r) (reader_of d readers)
+  pub each : (d : ChannelId) → reader_of d (after_at c h readers) ≡ option_map (λ r. if is_same d c then reader_next r h else r) (reader_of d readers)
   pub channels : map (λ r. r.channel) (after_at c h readers) ≡ map (λ r. r.channel) readers
 
 abbrev pub AllChangeOne : Type 0

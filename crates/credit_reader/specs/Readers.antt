@@ -57,14 +57,14 @@ pub data Happening : Type 0 where
   Announced : Happening
 
 -- The reader after it.
-abbrev pub after : Reader → Happening → Reader
-after r (Asked credit) = record r { requested = true; credit = credit }
-after r (Granted n) = record r { credit = r.credit + n }
-after r Resumed = record r { blocked = false }
-after r (Ready head backlog) = record r { head = head; backlog = backlog }
-after r (Sent what head backlog) =
+abbrev pub reader_next : Reader → Happening → Reader
+reader_next r (Asked credit) = record r { requested = true; credit = credit }
+reader_next r (Granted n) = record r { credit = r.credit + n }
+reader_next r Resumed = record r { blocked = false }
+reader_next r (Ready head backlog) = record r { head = head; backlog = backlog }
+reader_next r (Sent what head backlog) =
     record r { blocked = blocks what; credit = r.credit - cost what; head = head; backlog = backlog; told = backlog; sequence = (r.sequence + 1) % 2 ^ 32 }
-after r Announced = record r { told = r.backlog }
+reader_next r Announced = record r { told = r.backlog }
 
 -- What may happen to a reader: it is requested once, gets credit only after that, and sends data only
 -- where it has credit.

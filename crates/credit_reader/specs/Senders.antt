@@ -6,7 +6,7 @@ use Rattle.flow_defs.specs.declared.task.ChannelId.{ChannelId}
 use Rattle.flow_defs.specs.declared.task.Head.{Head}
 use Rattle.credit_reader.specs.declared.reader.Reader.{Reader}
 use Rattle.credit_reader.specs.declared.reader.SentKind.{SentKind}
-use Rattle.credit_reader.specs.Readers.{fresh, can_send, Happening, Sent, May, after}
+use Rattle.credit_reader.specs.Readers.{fresh, can_send, Happening, Sent, May, reader_next}
 
 -- The readers, in the order of their channels, and the channels of the queue, the first one first.
 pub record Sender : Type 0 where
@@ -39,7 +39,7 @@ is_able c readers = option_map_or can_send (reader_of c readers) false
 
 -- The readers, after something has happened to that of a channel.
 abbrev pub after_at : ChannelId → Happening → List Reader → List Reader
-after_at c happening readers = map (λ r. if is_same r.channel c then after r happening else r) readers
+after_at c happening readers = map (λ r. if is_same r.channel c then reader_next r happening else r) readers
 
 -- The queue, where the reader of a channel was able to send or not, and now is or isn't: one that becomes
 -- able joins at the back, one that no longer is leaves, and the others keep their order.

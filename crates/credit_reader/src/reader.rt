@@ -1,6 +1,6 @@
 // A reader of one channel.
 ghost use Rattle.std.specs.Prelude.{◌≡◌, ◌+◌, ◌≤◌};
-ghost use Rattle.credit_reader.specs.Readers.{can_send, is_due, may_go, cost, fresh, after, Asked, Granted, Resumed, Ready, Sent, Announced};
+ghost use Rattle.credit_reader.specs.Readers.{can_send, is_due, may_go, cost, fresh, reader_next, Asked, Granted, Resumed, Ready, Sent, Announced};
 ghost use Rattle.flow_defs.specs.Limits.{credit_max};
 
 use flow_defs::{ChannelId, Head};
@@ -77,7 +77,7 @@ impl Reader {
 
     // The reader once its channel is requested.
     pub(crate) fn asked(self, credit: u32) -> Self
-        ensures { result ≡ after self (Asked credit) }
+        ensures { result ≡ reader_next self (Asked credit) }
     {
         Reader {
             requested: true,
@@ -89,7 +89,7 @@ impl Reader {
     // The reader with more credit.
     pub(crate) fn granted(self, n: u32) -> Self
         requires { self.credit + n ≤ credit_max }
-        ensures { result ≡ after self (Granted n) }
+        ensures { result ≡ reader_next self (Granted n) }
     {
         Reader {
             credit: self.credit + n,
@@ -99,7 +99,7 @@ impl Reader {
 
     // The reader once consumption is resumed.
     pub(crate) fn resumed(self) -> Self
-        ensures { result ≡ after self Resumed }
+        ensures { result ≡ reader_next self Resumed }
     {
         Reader {
             blocked: false,
@@ -109,7 +109,7 @@ impl Reader {
 
     // The reader once it is told what stands first, and how many data buffers wait.
     pub(crate) fn ready(self, head: Head, backlog: u32) -> Self
-        ensures { result ≡ after self (Ready head backlog) }
+        ensures { result ≡ reader_next self (Ready head backlog) }
     {
         Reader {
             head,
@@ -121,7 +121,7 @@ impl Reader {
     // The reader after it has sent an item, with what stands first then and how many data buffers wait.
     pub(crate) fn sent(self, what: SentKind, head: Head, backlog: u32) -> Self
         requires { cost what ≤ self.credit }
-        ensures { result ≡ after self (Sent what head backlog) }
+        ensures { result ≡ reader_next self (Sent what head backlog) }
     {
         Reader {
             blocked: what == SentKind::Inline,
@@ -136,7 +136,7 @@ impl Reader {
 
     // The reader after its backlog was announced.
     pub(crate) fn announced(self) -> Self
-        ensures { result ≡ after self Announced }
+        ensures { result ≡ reader_next self Announced }
     {
         Reader {
             told: self.backlog,

@@ -11,7 +11,7 @@ use Rattle.input_channel.specs.declared.arrival.ArrivalKind.{ArrivalKind}
 use Rattle.input_channel.specs.declared.arrival.ArrivalKind.TheVariants as kinds
 use Rattle.input_channel.specs.declared.entry.ReceiveEntry.TheVariants as entries
 use Rattle.input_channel.specs.Answers.{parcel_in, refused}
-use Rattle.input_channel.specs.States.{ChannelState, after}
+use Rattle.input_channel.specs.States.{ChannelState, channel_next}
 use Rattle.exchange_world.specs.Lanes as lanes
 use Rattle.exchange_world.specs.Lanes.{ITEMS_MAX, floating_here}
 use Rattle.exchange_world.specs.Worlds as worlds
@@ -53,7 +53,7 @@ floating_taken (suc f) held =
     omega (arith, more, same)
 
 -- an arrival takes no floating buffer from the gate, nor gives one
-pub floating_pushed : (inbox : ChannelState) (p : Parcel) (backlog : ℕ) → floating_here (after inbox (entries.Push p backlog)) ≡ floating_here inbox
+pub floating_pushed : (inbox : ChannelState) (p : Parcel) (backlog : ℕ) → floating_here (channel_next inbox (entries.Push p backlog)) ≡ floating_here inbox
 floating_pushed inbox (parcels.Data bytes) backlog = floating_taken inbox.counts.floating inbox.counts.held
 floating_pushed inbox (parcels.Barrier k kind) backlog = refl
 floating_pushed inbox parcels.End backlog = refl

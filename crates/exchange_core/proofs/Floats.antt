@@ -2,7 +2,7 @@
 use Rattle.std.proofs.Common.{◌≡◌, ℕ, zero, suc, ◌+◌, ◌-◌, replicate, sym, ap, ◌∙◌, arith}
 use Rattle.input_channel.specs.declared.entry.ReceiveEntry.TheVariants as entries
 use Rattle.input_channel.specs.Counts.{wants}
-use Rattle.input_channel.specs.States.{ChannelState, after}
+use Rattle.input_channel.specs.States.{ChannelState, channel_next}
 use Rattle.exchange_world.specs.Lanes.{floating_here}
 use Rattle.exchange_world.specs.Steps.{after_all}
 use Rattle.exchange_core.specs.Inlets.{floats, with_floats}
@@ -21,12 +21,12 @@ pub added_none : (inbox : ChannelState) → inbox ≡ added 0 inbox
 added_none inbox = counted_same inbox _ _ _ _ (omega arith) (omega arith)
 
 -- one more
-pub added_more : (n : ℕ) (inbox : ChannelState) → after (added n inbox) entries.Added ≡ added (n + 1) inbox
+pub added_more : (n : ℕ) (inbox : ChannelState) → channel_next (added n inbox) entries.Added ≡ added (n + 1) inbox
 added_more n inbox = counted_same inbox _ _ _ _ (omega arith) (omega arith)
 
 pub after_added : (n : ℕ) (inbox : ChannelState) → after_all inbox (replicate n entries.Added) ≡ added n inbox
 after_added zero inbox = added_none inbox
-after_added (suc n) inbox = after_added n (after inbox entries.Added) ∙ counted_same inbox _ _ _ _ (omega arith) (omega arith)
+after_added (suc n) inbox = after_added n (channel_next inbox entries.Added) ∙ counted_same inbox _ _ _ _ (omega arith) (omega arith)
 
 pub wants_less : (n : ℕ) (inbox : ChannelState) → wants (added n inbox).room (added n inbox).counts ≡ wants inbox.room inbox.counts - n
 wants_less n inbox = omega arith

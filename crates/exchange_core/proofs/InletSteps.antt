@@ -9,7 +9,7 @@ use Rattle.input_channel.specs.declared.entry.ReceiveEntry.{ReceiveEntry}
 use Rattle.input_channel.specs.declared.entry.ReceiveEntry.TheVariants as entries
 use Rattle.input_channel.specs.declared.entry.Gave.TheVariants as gaves
 use Rattle.input_channel.specs.Counts.{told}
-use Rattle.input_channel.specs.States.{after}
+use Rattle.input_channel.specs.States.{channel_next}
 use Rattle.local_pool.specs.Shares.{share_of}
 use Rattle.script_text.specs.Scripts.{IsChannel}
 use Rattle.script_text.specs.declared.event.Event.TheVariants as events
@@ -56,8 +56,8 @@ module _ (w : World) (c : ℕ) (low : 1 ≤ c) (high : c ≤ length w.lanes) whe
       ∙ put_twice x (record x { inbox = with_floats (gate_limit v) (gate_lent v) x.inbox })
       ∙ ap (λ n. with_lane w c (record x { inbox = with_floats n (gate_lent v) x.inbox })) (limit_same x)
 
-  receives_is : (l : Lane) (e : ReceiveEntry) → lane_of w c ≡ l → receives w c e ≡ with_lane w c (record l { inbox = after l.inbox e })
-  receives_is l e is = ap (λ (x : Lane). with_lane w c (record x { inbox = after x.inbox e })) is
+  receives_is : (l : Lane) (e : ReceiveEntry) → lane_of w c ≡ l → receives w c e ≡ with_lane w c (record l { inbox = channel_next l.inbox e })
+  receives_is l e is = ap (λ (x : Lane). with_lane w c (record x { inbox = channel_next x.inbox e })) is
 
 -- ---- credit and resumptions
 
@@ -65,7 +65,7 @@ not_zero : (n : ℕ) → (n ≡ 0 → ⊥) → eqb n 0 ≡ false
 not_zero n some = false_from_ne_true (eqb n 0) (λ test. some (eqb-true n 0 test))
 
 abbrev credited : World → ℕ → Lane → ℕ → World × Reply
-credited w c l n = (record (with_lane w c (record l { inbox = after l.inbox (entries.Credit n) })) { controls = w.controls ++ AddCredit c n ∷ [] }, replies.Credit c n)
+credited w c l n = (record (with_lane w c (record l { inbox = channel_next l.inbox (entries.Credit n) })) { controls = w.controls ++ AddCredit c n ∷ [] }, replies.Credit c n)
 
 abbrev credits_by : World → ℕ → Lane → ℕ → World × Reply
 credits_by w c l n = cond (eqb n 0) (w, replies.Absent) (credited w c l n)
@@ -77,20 +77,20 @@ pub credits_none : (w : World) (c n : ℕ) (l : Lane) → lane_of w c ≡ l → 
 credits_none w c n l is n_is none = ap (λ (x : Lane). credits_by w c x (told x.inbox.counts)) is ∙ ap (credits_by w c l) (sym n_is) ∙ cond-true (eqb n 0) _ _ (eq-eqb n 0 none)
 
 abbrev resumed : World → ℕ → Lane → World × Reply
-resumed w c l = (record (with_lane w c (record l { inbox = after (after l.inbox entries.Ask) entries.Resume })) { controls = w.controls ++ Resumption c ∷ [] }, replies.Done)
+resumed w c l = (record (with_lane w c (record l { inbox = channel_next (channel_next l.inbox entries.Ask) entries.Resume })) { controls = w.controls ++ Resumption c ∷ [] }, replies.Done)
 
 abbrev resumes_by : World → ℕ → ℕ → World × Reply
 resumes_by w c n = cond (eqb n 0) (w, replies.Refused) (record (receives (receives w c entries.Ask) c entries.Resume) { controls = w.controls ++ Resumption c ∷ [] }, replies.Done)
 
 pub resumes_some : (w : World) (c : ℕ) (l : Lane) → 1 ≤ c → c ≤ length w.lanes → lane_of w c ≡ l → (l.inbox.owed ≡ 0 → ⊥) → resumes w c ≡ resumed w c l
 resumes_some w c l low high is some =
-    let v = with_lane w c (record l { inbox = after l.inbox entries.Ask }) in
+    let v = with_lane w c (record l { inbox = channel_next l.inbox entries.Ask }) in
     ap (λ (x : Lane). resumes_by w c x.inbox.owed) is
     ∙ cond-false (eqb l.inbox.owed 0) _ _ (not_zero l.inbox.owed some)
     ∙ ap (λ (u : World). let d : World × Reply = (record u { controls = w.controls ++ Resumption c ∷ [] }, replies.Done) in d)
     (ap (λ (u : World). receives u c entries.Resume) (receives_is w c low high l entries.Ask is)
-    ∙ ap (λ (x : Lane). with_lane v c (record x { inbox = after x.inbox entries.Resume })) (put_here w c low high (record l { inbox = after l.inbox entries.Ask }))
-    ∙ put_twice w c low high _ (record l { inbox = after (after l.inbox entries.Ask) entries.Resume }))
+    ∙ ap (λ (x : Lane). with_lane v c (record x { inbox = channel_next x.inbox entries.Resume })) (put_here w c low high (record l { inbox = channel_next l.inbox entries.Ask }))
+    ∙ put_twice w c low high _ (record l { inbox = channel_next (channel_next l.inbox entries.Ask) entries.Resume }))
 
 pub resumes_none : (w : World) (c : ℕ) (l : Lane) → lane_of w c ≡ l → l.inbox.owed ≡ 0 → resumes w c ≡ (w, replies.Refused)
 resumes_none w c l is none = ap (λ (x : Lane). resumes_by w c x.inbox.owed) is ∙ cond-true (eqb l.inbox.owed 0) _ _ (eq-eqb l.inbox.owed 0 none)
@@ -123,14 +123,14 @@ module _ (w : World) (c : ℕ) (l : Lane) (low : 1 ≤ c) (high : c ≤ length w
 -- ---- arrivals
 
 -- a channel takes an entry that leaves its floating buffers as they are, and asks for more
-pub asks_received : (w : World) (c : ℕ) (l : Lane) (e : ReceiveEntry) → 1 ≤ c → c ≤ length w.lanes → lane_of w c ≡ l → floating_here (after l.inbox e) ≡ floating_here l.inbox
-    → asks (receives w c e) c ≡ with_lane w c (record l { inbox = with_floats (gate_limit w) (gate_lent w) (after l.inbox e) })
+pub asks_received : (w : World) (c : ℕ) (l : Lane) (e : ReceiveEntry) → 1 ≤ c → c ≤ length w.lanes → lane_of w c ≡ l → floating_here (channel_next l.inbox e) ≡ floating_here l.inbox
+    → asks (receives w c e) c ≡ with_lane w c (record l { inbox = with_floats (gate_limit w) (gate_lent w) (channel_next l.inbox e) })
 asks_received w c l e low high is stays =
-    let x : Lane = record l { inbox = after l.inbox e } in
+    let x : Lane = record l { inbox = channel_next l.inbox e } in
     let follows = lent_follows w c low high x in
     let own : floating_here (lane_of w c).inbox ≡ floating_here l.inbox = ap (λ (y : Lane). floating_here y.inbox) is in
     let lent : gate_lent (with_lane w c x) ≡ gate_lent w = omega (arith, follows, own, stays) in
-    ap (λ (v : World). asks v c) (receives_is w c low high l e is) ∙ asks_is w c low high x ∙ ap (λ n. with_lane w c (record x { inbox = with_floats (gate_limit w) n (after l.inbox e) })) lent
+    ap (λ (v : World). asks v c) (receives_is w c low high l e is) ∙ asks_is w c low high x ∙ ap (λ n. with_lane w c (record x { inbox = with_floats (gate_limit w) n (channel_next l.inbox e) })) lent
 
 pub polls_sound : (m : ℕ) (w : World) (c : ℕ) (hold : Bool) → StepsKeepSound → IsSound m w → IsChannel m c → IsSound m (polls w c hold).0
 polls_sound m w c true keeps sound channel = keeps m w (events.Hold c) sound channel

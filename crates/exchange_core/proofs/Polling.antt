@@ -13,7 +13,7 @@ use Rattle.input_channel.specs.declared.entry.Gave.{Gave}
 use Rattle.input_channel.specs.declared.entry.Gave.TheVariants as gaves
 use Rattle.input_channel.specs.Counts.{gave_by}
 use Rattle.input_channel.specs.Inboxes.{due, is_barrier, poll_gives}
-use Rattle.input_channel.specs.States.{ChannelState, after}
+use Rattle.input_channel.specs.States.{ChannelState, channel_next}
 use Rattle.exchange_world.specs.Lanes.{floating_here, behind_records}
 use Rattle.exchange_world.specs.Steps.{is_exclusive}
 use Rattle.exchange_core.specs.declared.lane.Lane.{Lane}
@@ -39,33 +39,33 @@ kind_told true = refl
 kind_told false = refl
 
 pub exclusive_is : (hold : Bool) (bytes : List ℕ) (exclusive : Bool) (inbox : ChannelState) → gave_by (Some (parcels.Data bytes)) inbox.counts.held ≡ cond exclusive gaves.Exclusive gaves.Floating
-    → after (after inbox (entries.Poll hold (cond exclusive gaves.Exclusive gaves.Floating))) (entries.Returned exclusive) ≡ polled_back hold bytes inbox
+    → channel_next (channel_next inbox (entries.Poll hold (cond exclusive gaves.Exclusive gaves.Floating))) (entries.Returned exclusive) ≡ polled_back hold bytes inbox
 exclusive_is hold bytes exclusive inbox gave =
-    ap (λ e. after (after inbox (entries.Poll hold (cond exclusive gaves.Exclusive gaves.Floating))) (entries.Returned e)) (sym (kind_told exclusive))
-    ∙ ap (λ (g : Gave). after (after inbox (entries.Poll hold g)) (entries.Returned (is_exclusive g))) (sym gave)
+    ap (λ e. channel_next (channel_next inbox (entries.Poll hold (cond exclusive gaves.Exclusive gaves.Floating))) (entries.Returned e)) (sym (kind_told exclusive))
+    ∙ ap (λ (g : Gave). channel_next (channel_next inbox (entries.Poll hold g)) (entries.Returned (is_exclusive g))) (sym gave)
 
 abbrev with_held : ChannelState → List Bool → ℕ
 with_held inbox held = inbox.counts.floating + count_by not held
 
 pub floating_polled : (hold exclusive : Bool) (rest : List Bool) (inbox : ChannelState) → inbox.counts.held ≡ exclusive ∷ rest
-    → floating_here (after inbox (entries.Poll hold (cond exclusive gaves.Exclusive gaves.Floating))) + floating_out exclusive ≡ floating_here inbox
+    → floating_here (channel_next inbox (entries.Poll hold (cond exclusive gaves.Exclusive gaves.Floating))) + floating_out exclusive ≡ floating_here inbox
 floating_polled hold true rest inbox is =
     let cons = sum_by-cons (λ (x : Bool). cond (not x) 1 0) true rest in
     let had : floating_here inbox ≡ with_held inbox (true ∷ rest) = ap (with_held inbox) is in
-    let has : floating_here (after inbox (entries.Poll hold gaves.Exclusive)) ≡ with_held inbox rest = ap (λ (xs : List Bool). with_held inbox (drop 1 xs)) is in
+    let has : floating_here (channel_next inbox (entries.Poll hold gaves.Exclusive)) ≡ with_held inbox rest = ap (λ (xs : List Bool). with_held inbox (drop 1 xs)) is in
     omega (arith, cons, had, has)
 floating_polled hold false rest inbox is =
     let cons = sum_by-cons (λ (x : Bool). cond (not x) 1 0) false rest in
     let had : floating_here inbox ≡ with_held inbox (false ∷ rest) = ap (with_held inbox) is in
-    let has : floating_here (after inbox (entries.Poll hold gaves.Floating)) ≡ with_held inbox rest = ap (λ (xs : List Bool). with_held inbox (drop 1 xs)) is in
+    let has : floating_here (channel_next inbox (entries.Poll hold gaves.Floating)) ≡ with_held inbox rest = ap (λ (xs : List Bool). with_held inbox (drop 1 xs)) is in
     omega (arith, cons, had, has)
 
 pub owed_polled : (hold : Bool) (inbox : ChannelState) (bytes : List ℕ) → poll_gives hold inbox.queue ≡ Some (parcels.Data bytes) → (polled_back hold bytes inbox).owed ≡ inbox.owed
 owed_polled hold inbox bytes given =
-    returned_owed (is_exclusive (gave_by (Some (parcels.Data bytes)) inbox.counts.held)) (after inbox (entries.Poll hold (gave_by (Some (parcels.Data bytes)) inbox.counts.held)))
+    returned_owed (is_exclusive (gave_by (Some (parcels.Data bytes)) inbox.counts.held)) (channel_next inbox (entries.Poll hold (gave_by (Some (parcels.Data bytes)) inbox.counts.held)))
     ∙ ap (λ p. inbox.owed + inline_in (option_to_list p)) given ∙ omega arith
   where
-    returned_owed : (e : Bool) (s : ChannelState) → (after s (entries.Returned e)).owed ≡ s.owed
+    returned_owed : (e : Bool) (s : ChannelState) → (channel_next s (entries.Returned e)).owed ≡ s.owed
     returned_owed e s = refl
 
 made : Lane → ChannelState → ℕ → List ℕ → Lane

@@ -9,7 +9,7 @@ use Rattle.segment_pool.specs.declared.pool.Pool.{Pool}
 use Rattle.segment_pool.specs.declared.pass.PoolPass.{PoolPass}
 use Rattle.segment_pool.specs.Passes.{number, out}
 use Rattle.segment_pool.specs.Pools.{AreFresh, limits_of}
-use Rattle.exchange_core.specs.Opening.{lane_share, gate_share, shares, IsReady}
+use Rattle.exchange_core.specs.Opening.{lane_share, gate_share, shares, IsPoolReady}
 
 module _ {X : Type 0} where
   found_before : (xs ys : List X) (i : ℕ) (d : X) → i < length xs → get_elem? (xs ++ ys) i ≡ some (get_or xs i d)
@@ -36,7 +36,7 @@ module _ (pool : Pool) (m p g : ℕ) (passes rest : List PoolPass) (gate : PoolP
   limit_last : slice_index (replicate m p ++ g ∷ []) m ≡ g
   limit_last = ap (λ k. get_or (replicate m p ++ g ∷ []) k 0) (sym (length-replicate m p)) ∙ get_or-append_seam (replicate m p) g [] 0
 
-  pub lanes_ready : All (IsReady pool p) rest
+  pub lanes_ready : All (IsPoolReady pool p) rest
   lanes_ready k d low =
       let low_m : k < m = let n = rest_count in omega arith in
       let made = fresh.0.1 k (get_or rest k d) (ap (λ l. get_elem? l k) popped ∙ found_before rest (gate ∷ []) k d low) in
@@ -48,7 +48,7 @@ module _ (pool : Pool) (m p g : ℕ) (passes rest : List PoolPass) (gate : PoolP
         granted = omega (arith, granted);
       }
 
-  pub gate_ready : IsReady pool g gate
+  pub gate_ready : IsPoolReady pool g gate
   gate_ready =
       let made = fresh.0.1 m gate (ap (λ l. get_elem? l m) popped ∙ ap (λ k. get_elem? (rest ++ gate ∷ []) k) (sym rest_count) ∙ found_last rest gate) in
       let none : out (get_or (rest ++ gate ∷ []) (length rest) gate) ≡ 0 = All-get_or (λ pass. out pass ≡ 0) (rest ++ gate ∷ []) (length rest) gate (let n = length_push rest gate in omega arith) all_none_out in

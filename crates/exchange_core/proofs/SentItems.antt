@@ -17,7 +17,7 @@ use Rattle.exchange_world.specs.Lanes as lanes
 use Rattle.exchange_world.specs.Lanes.{channel_id, head_in, backlog_in, content_len}
 use Rattle.exchange_world.specs.Worlds as worlds
 use Rattle.exchange_world.specs.Worlds.{World, lane_of, with_lane}
-use Rattle.exchange_world.specs.Steps.{number_of, kind_of, sequence_of, sends_first, sends_of}
+use Rattle.exchange_world.specs.Steps.{number_of, sent_kind, sequence_of, sends_first, sends_of}
 use Rattle.exchange_world.specs.Sound.{IsSound}
 use Rattle.exchange_world.specs.Laws.{HasTurn}
 use Rattle.exchange_core.specs.declared.connection.Connection.{Connection}
@@ -71,8 +71,8 @@ module _ (c : Connection) (id : ChannelId) (turn : HasTurn (length c.lanes.items
   pub first_is : (turn.first ≡ taken.first) × (turn.rest ≡ (world_lane after).items)
   first_is = heads turn.first taken.first turn.rest (world_lane after).items (sym turn.items ∙ ap (λ (l : lanes.Lane). l.items) is ∙ taken.items)
 
-  pub kind_sent : sent.kind ≡ kind_of turn.first
-  kind_sent = taken.is_sent.kind_is ∙ ap kind_of (sym first_is.0)
+  pub kind_sent : sent.kind ≡ sent_kind turn.first
+  kind_sent = taken.is_sent.kind_is ∙ ap sent_kind (sym first_is.0)
 
   after_is : world_lane after ≡ record (lane_of (world_of c) (number_of id)) { items = turn.rest }
   after_is = taken.rest ∙ ap (λ ps. record (world_lane lane) { items = ps }) (sym first_is.1) ∙ ap (λ (l : lanes.Lane). record l { items = turn.rest }) (sym is)
@@ -86,8 +86,8 @@ module _ (c : Connection) (id : ChannelId) (turn : HasTurn (length c.lanes.items
 
     pub may_send : MayHappen id (SentItem sent.kind head backlog) c.readers
     may_send = subst (λ k. MayHappen id (SentItem k head backlog) c.readers) (sym kind_sent)
-        (subst (λ h. MayHappen id (SentItem (kind_of turn.first) h backlog) c.readers) (sym head_left)
-        (subst (λ n. MayHappen id (SentItem (kind_of turn.first) (head_in turn.rest) n) c.readers) (sym backlog_left) turn.may))
+        (subst (λ h. MayHappen id (SentItem (sent_kind turn.first) h backlog) c.readers) (sym head_left)
+        (subst (λ n. MayHappen id (SentItem (sent_kind turn.first) (head_in turn.rest) n) c.readers) (sym backlog_left) turn.may))
 
     module _ (d : Connection) (k sequence : ℕ) (whole : IsWhole c) (base : IsSameBase c d) (queue : slice_get c.readers.queue 0 ≡ Some id) (k_is : k ≡ number_of id)
         (lanes_are : d.lanes.items ≡ set c.lanes.items (number_of id - 1) after) (here : IsLaneOf c.pool c.partition_limit after)
@@ -113,7 +113,7 @@ module _ (c : Connection) (id : ChannelId) (turn : HasTurn (length c.lanes.items
 
       world_sent : world_of d ≡ (sends_first (world_of c) (number_of id) (turn.first ∷ turn.rest)).0
       world_sent = world_by_parts d (sends_first (world_of c) (number_of id) (turn.first ∷ turn.rest)).0 base.size base.total lanes_sent
-          (sender_is ∙ same_sender id (channel_id (number_of id)) sent.kind (kind_of turn.first) head (head_in turn.rest) backlog (backlog_in turn.rest) c.readers (sym turn.id_is) kind_sent head_left backlog_left)
+          (sender_is ∙ same_sender id (channel_id (number_of id)) sent.kind (sent_kind turn.first) head (head_in turn.rest) backlog (backlog_in turn.rest) c.readers (sym turn.id_is) kind_sent head_left backlog_left)
           frames_sent (ap (map world_control) controls_are)
 
       world_done : world_of d ≡ (sends_of (world_of c) c.readers.queue).0
@@ -123,6 +123,6 @@ module _ (c : Connection) (id : ChannelId) (turn : HasTurn (length c.lanes.items
       send_acted = record {
         whole = whole_lane_put c d (number_of id) after turn.low turn.high lanes_are whole base here (ap (λ (l : lanes.Lane). l.inbox) after_is) (subst (IsSound (length c.lanes.items)) (sym world_done) sound);
         world = world_done;
-        replied = same_reply k (number_of id) sequence (sequence_of (world_of c) (number_of id)) backlog (backlog_in turn.rest) sent.len (content_len turn.first) sent.kind (kind_of turn.first)
+        replied = same_reply k (number_of id) sequence (sequence_of (world_of c) (number_of id)) backlog (backlog_in turn.rest) sent.len (content_len turn.first) sent.kind (sent_kind turn.first)
             k_is (sym sequence_is) kind_sent (taken.is_sent.len_is ∙ ap content_len (sym first_is.0)) backlog_left ∙ sym (ap (λ (p : World × Reply). p.1) done_is);
       }

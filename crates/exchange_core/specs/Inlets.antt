@@ -9,7 +9,7 @@ use Rattle.local_pool.specs.Locals.{IsLocalOf, IsSameLocal, lent_of}
 use Rattle.input_channel.specs.declared.entry.ReceiveEntry.TheVariants as entries
 use Rattle.input_channel.specs.declared.entry.Gave.TheVariants as gaves
 use Rattle.input_channel.specs.Counts.{wants, gave_by}
-use Rattle.input_channel.specs.States.{ChannelState, after}
+use Rattle.input_channel.specs.States.{ChannelState, channel_next}
 use Rattle.script_text.specs.declared.reply.Reply.{Reply}
 use Rattle.script_text.specs.declared.reply.Reply.TheVariants as replies
 use Rattle.exchange_world.specs.Lanes.{floating_here, records_in, behind_records}
@@ -46,7 +46,7 @@ floating_out exclusive = if exclusive then 0 else 1
 abbrev pub polled_back : Bool → List ℕ → ChannelState → ChannelState
 polled_back hold bytes inbox =
     let gave = gave_by (Some (parcels.Data bytes)) inbox.counts.held in
-    after (after inbox (entries.Poll hold gave)) (entries.Returned (is_exclusive gave))
+    channel_next (channel_next inbox (entries.Poll hold gave)) (entries.Returned (is_exclusive gave))
 
 -- The receiving end once this was polled, where the gate's pool has lent so many and lends up to that limit.
 abbrev pub polled_inbox : ℕ → ℕ → Bool → ChannelState → Option Parcel → ChannelState
@@ -54,8 +54,8 @@ polled_inbox limit lent hold inbox None = inbox
 polled_inbox limit lent hold inbox (Some (parcels.Data bytes)) =
     let back = polled_back hold bytes inbox in
     with_floats limit (lent_then lent inbox back) back
-polled_inbox limit lent hold inbox (Some (parcels.Barrier k kind)) = after inbox (entries.Poll hold gaves.NoBuffer)
-polled_inbox limit lent hold inbox (Some parcels.End) = after inbox (entries.Poll hold gaves.NoBuffer)
+polled_inbox limit lent hold inbox (Some (parcels.Barrier k kind)) = channel_next inbox (entries.Poll hold gaves.NoBuffer)
+polled_inbox limit lent hold inbox (Some parcels.End) = channel_next inbox (entries.Poll hold gaves.NoBuffer)
 
 -- The bytes that are of no whole record then.
 abbrev pub polled_rest : List ℕ → Option Parcel → List ℕ

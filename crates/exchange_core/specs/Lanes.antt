@@ -10,7 +10,7 @@ use Rattle.segment_pool.specs.Pools.{size_of}
 use Rattle.local_pool.specs.Locals.{lent_of}
 use Rattle.exchange_world.specs.Lanes as lanes
 use Rattle.exchange_world.specs.Lanes.{content_len, records_in, behind_records}
-use Rattle.exchange_world.specs.Steps.{pieces, kind_of, with_items}
+use Rattle.exchange_world.specs.Steps.{pieces, sent_kind, with_items}
 use Rattle.exchange_core.specs.declared.lane.Lane.{Lane}
 use Rattle.exchange_core.specs.declared.sent.Sent.{Sent}
 use Rattle.exchange_core.specs.Exchanges.{brought, world_lane, IsLaneOf}
@@ -29,7 +29,7 @@ pub record HasPut (pool : Pool) (limit : ℕ) (before after : Lane) (bytes : Lis
 
 -- This is sent of an item.
 pub record IsSent (p : Parcel) (sent : Sent) : Type 0 where
-  pub kind_is : sent.kind ≡ kind_of p
+  pub kind_is : sent.kind ≡ sent_kind p
   pub brings : brought sent.what sent.content.items ≡ p
   pub len_is : sent.len ≡ content_len p
 

@@ -26,7 +26,7 @@ abbrev pub shares : ℕ → ℕ → List ℕ
 shares channels total = replicate channels (lane_share channels total) ++ gate_share channels total ∷ []
 
 -- A pass of this pool that has nothing out, and may have so many out.
-pub record IsReady (pool : Pool) (limit : ℕ) (pass : PoolPass) : Type 0 where
+pub record IsPoolReady (pool : Pool) (limit : ℕ) (pass : PoolPass) : Type 0 where
   pub of_pool : IsPassOf pool pass
   pub none_out : out pass ≡ 0
   pub granted : limit ≤ granted_to pool pass

@@ -10,7 +10,7 @@ ghost use Rattle.exchange_world.specs.Lanes.{channel_id, new_lane};
 ghost use Rattle.exchange_world.specs.Worlds.{opened, requested, pool_wants};
 ghost use Rattle.exchange_core.specs.declared.start_fault.StartFault.TheVariants as start_faults;
 ghost use Rattle.exchange_core.specs.Exchanges.{IsWhole, IsLaneOf, world_of, world_lane};
-ghost use Rattle.exchange_core.specs.Opening.{lane_share, gate_share, IsReady, IsPoolOf, AreNewLanes};
+ghost use Rattle.exchange_core.specs.Opening.{lane_share, gate_share, IsPoolReady, IsPoolOf, AreNewLanes};
 
 use crate::connection::Connection;
 use crate::lane::Lane;
@@ -91,8 +91,8 @@ fn pool_of(
     requires limits { limits.now ≡ map (share_of (pool_wants channels) total) (pool_wants channels) }
     requires within { sum limits.now ≤ total }
     ensures pool { IfOk result (λ r. IsLimited r.0 × (size_of r.0 ≡ size) × (total_of r.0 ≡ total)) }
-    ensures gate { IfOk result (λ r. IsReady r.0 (gate_share channels total) r.1) }
-    ensures lanes { IfOk result (λ r. All (IsReady r.0 (lane_share channels total)) r.2.items) }
+    ensures gate { IfOk result (λ r. IsPoolReady r.0 (gate_share channels total) r.1) }
+    ensures lanes { IfOk result (λ r. All (IsPoolReady r.0 (lane_share channels total)) r.2.items) }
     ensures count { IfOk result (λ r. length r.2.items ≡ channels) }
 {
     let (pool, mut passes) = Pool::new_limited(alloc, total, size, limits)?;
@@ -112,7 +112,7 @@ fn local_of<R: Wait>(
     limit: u32,
 ) -> Result<LocalPool, AllocError>
     requires pool { IsLimited pool.now }
-    requires pass { IsReady pool.now limit pass }
+    requires pass { IsPoolReady pool.now limit pass }
     requires limit { need ≤ limit }
     ensures { IfOk result (IsPoolOf pool.now need limit 0) }
 {
@@ -174,7 +174,7 @@ fn open_lanes<R: Wait>(
     requires pool { IsLimited pool.now }
     requires gate { IsLocalOf pool.now gate.old }
     requires buffers { lent_of gate.old + 2 * length passes.items ≤ limit_of gate.old }
-    requires passes { All (IsReady pool.now limit) passes.items }
+    requires passes { All (IsPoolReady pool.now limit) passes.items }
     requires limit { 2 ≤ limit }
     ensures gate { IfOk result (λ _. IsPoolOf pool.now (need_of gate.old) (limit_of gate.old) (lent_of gate.old + 2 * length passes.items) gate.new) }
     ensures lanes { IfOk result (λ lanes. AreNewLanes pool.now limit lanes.items) }

@@ -6,7 +6,7 @@ ghost use Rattle.input_channel.specs.declared.entry.ReceiveEntry.TheVariants as 
 ghost use Rattle.input_channel.specs.Answers.{parcel_in, refused};
 ghost use Rattle.input_channel.specs.Contents.{content};
 ghost use Rattle.input_channel.specs.Inboxes.{poll_gives};
-ghost use Rattle.input_channel.specs.States.{after, exclusive_here};
+ghost use Rattle.input_channel.specs.States.{channel_next, exclusive_here};
 ghost use Rattle.script_text.specs.Scripts.{IsChannel};
 ghost use Rattle.exchange_world.specs.Lanes.{floating_here, records_in, behind_records};
 ghost use Rattle.exchange_world.specs.Steps.{bare, delivers, credits, resumes, polls};
@@ -39,8 +39,8 @@ fn take_arrival<R: Wait>(
     requires size { inbox.old.size ≡ size_of pool.now }
     requires accepted { refused inbox.old a bytes.now ≡ None }
     requires backlog { a.backlog < 2 ^ 31 }
-    ensures gate { OnOk result (GateFollows pool.now gate.old gate.new (floating_here (after inbox.old (entries.Push (parcel_in a.what bytes.now) a.backlog))) (floating_here inbox.new)) }
-    ensures inbox { OnOk result (inbox.new ≡ with_floats (limit_of gate.old) (lent_of gate.old) (after inbox.old (entries.Push (parcel_in a.what bytes.now) a.backlog))) }
+    ensures gate { OnOk result (GateFollows pool.now gate.old gate.new (floating_here (channel_next inbox.old (entries.Push (parcel_in a.what bytes.now) a.backlog))) (floating_here inbox.new)) }
+    ensures inbox { OnOk result (inbox.new ≡ with_floats (limit_of gate.old) (lent_of gate.old) (channel_next inbox.old (entries.Push (parcel_in a.what bytes.now) a.backlog))) }
 {
     match inbox.accept(a, bytes) {
         Ok(()) => {}
@@ -64,7 +64,7 @@ fn take_back<R: Wait>(
     requires given { buf.exclusive ≡ true → exclusive_here inbox.old < 2 }
     requires lent { floating_here inbox.old + floating_out buf.exclusive ≤ lent_of gate.old }
     ensures gate { GateFollows pool.now gate.old gate.new (floating_here inbox.old + floating_out buf.exclusive) (floating_here inbox.new) }
-    ensures inbox { inbox.new ≡ after inbox.old (entries.Returned buf.exclusive) }
+    ensures inbox { inbox.new ≡ channel_next inbox.old (entries.Returned buf.exclusive) }
 {
     if let Some(segment) = inbox.recycle(buf) {
         gate.give(rt, pool, segment);
@@ -83,7 +83,7 @@ fn read_buffer(alloc: Global, lane: &mut Lane, buf: &HeldBuf) -> Result<ListOf<B
 // A channel of which an inline barrier was polled is resumed.
 fn resume_lane(lane: &mut Lane)
     requires { (0 < lane.old.owed) × (lane.old.owed ≡ lane.old.inbox.owed) }
-    ensures { lane.new ≡ with_inbox lane.old (after (after lane.old.inbox entries.Ask) entries.Resume) lane.old.reader }
+    ensures { lane.new ≡ with_inbox lane.old (channel_next (channel_next lane.old.inbox entries.Ask) entries.Resume) lane.old.reader }
 {
     lane.inbox.ask_resume();
     lane.owed -= 1;

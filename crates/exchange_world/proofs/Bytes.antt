@@ -21,12 +21,6 @@ use Rattle.exchange_world.proofs.PuttingLemmas.{length_bytes-length}
 
 -- ---- laid end to end
 
-pub data_of-append : (ps qs : List Parcel) → data_of (ps ++ qs) ≡ data_of ps ++ data_of qs
-data_of-append [] qs = refl
-data_of-append (Data bytes ∷ ps) qs = ap (λ xs. bytes ++ xs) (data_of-append ps qs) ∙ sym (append_assoc bytes (data_of ps) (data_of qs))
-data_of-append (Barrier k kind ∷ ps) qs = data_of-append ps qs
-data_of-append (End ∷ ps) qs = data_of-append ps qs
-
 pub encoded-append : (xs ys : List (List ℕ)) → all_encoded (xs ++ ys) ≡ all_encoded xs ++ all_encoded ys
 encoded-append xs ys = flat_map-append encoded xs ys
 

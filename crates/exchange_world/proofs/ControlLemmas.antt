@@ -10,7 +10,7 @@ use Rattle.std.proofs.lemmas.List.{append-nil}
 use Rattle.std.proofs.lemmas.Option.{none-some, same_Some}
 use Rattle.flow_defs.specs.declared.parcel.Parcel.{Parcel}
 use Rattle.credit_reader.specs.declared.reader.Reader.{Reader}
-use Rattle.credit_reader.specs.Readers.{Happening, Granted, Resumed, Announced, is_due, after}
+use Rattle.credit_reader.specs.Readers.{Happening, Granted, Resumed, Announced, is_due, reader_next}
 use Rattle.credit_reader.specs.Senders.{is_same, reader_of, happened}
 use Rattle.credit_reader.specs.Answers.{due_first}
 use Rattle.script_text.specs.declared.event.Event.TheVariants as events
@@ -34,7 +34,7 @@ module _ (m c : ℕ) (w : World) (h : Happening) (frames : List DataFrame) (cont
       → ((d : ℕ) → (d ≡ c → ⊥) → resumptions_coming d controls ≡ resumptions_coming d w.controls)
       → AreOfChannels m frames → ControlsAreOfChannels m controls
       → ((r : Reader) → SoundOn w.size (partition_limit w) (lane_of w c) r (responses c w.frames) (credit_coming c w.controls) (resumptions_coming c w.controls)
-      → SoundOn w.size (partition_limit w) (lane_of w c) (after r h) (responses c w.frames) (credit_coming c controls) (resumptions_coming c controls))
+      → SoundOn w.size (partition_limit w) (lane_of w c) (reader_next r h) (responses c w.frames) (credit_coming c controls) (resumptions_coming c controls))
       → IsSound m with_happening
   keeps_happening sound low high way credit resumptions data_of control_of here =
       let s = sound.each c low high in
@@ -49,14 +49,14 @@ module _ (m c : ℕ) (w : World) (h : Happening) (frames : List DataFrame) (cont
         credit = λ d d_low d_high other. credit d other;
         resumptions = λ d d_low d_high other. resumptions d other;
       }) (happened_holds (channel_id c) h w.sender sound.queue) data_of control_of
-      (λ c_low c_high. is_sound_lane c with_happening w.size (partition_limit w) (lane_of w c) (after s.reader h) (responses c w.frames) (credit_coming c controls) (resumptions_coming c controls)
+      (λ c_low c_high. is_sound_lane c with_happening w.size (partition_limit w) (lane_of w c) (reader_next s.reader h) (responses c w.frames) (credit_coming c controls) (resumptions_coming c controls)
       refl refl refl (reader_here (channel_id c) h w.sender.readers s.reader s.found) (way c) refl refl (here s.reader (sound_on c w s)))
       sound.gate
 
 -- ---- more credit, and resuming
 
 granted_sound : (size limit n : ℕ) (lane : Lane) (r : Reader) (way : List (ℕ × Parcel)) (credit resumptions : ℕ)
-    → SoundOn size limit lane r way (n + credit) resumptions → SoundOn size limit lane (after r (Granted n)) way credit resumptions
+    → SoundOn size limit lane r way (n + credit) resumptions → SoundOn size limit lane (reader_next r (Granted n)) way credit resumptions
 granted_sound size limit n lane r way credit resumptions s = record {
   sender = record { requested = s.sender.requested; head_is = s.sender.head_is; backlog_is = s.sender.backlog_is };
   inbox = s.inbox;
@@ -81,7 +81,7 @@ none_left true n k e = omega arith
 none_left false n k e = absurd (omega arith)
 
 resumed_sound : (size limit : ℕ) (lane : Lane) (r : Reader) (way : List (ℕ × Parcel)) (credit resumptions : ℕ)
-    → SoundOn size limit lane r way credit (suc resumptions) → SoundOn size limit lane (after r Resumed) way credit resumptions
+    → SoundOn size limit lane r way credit (suc resumptions) → SoundOn size limit lane (reader_next r Resumed) way credit resumptions
 resumed_sound size limit lane r way credit resumptions s = record {
   sender = record { requested = s.sender.requested; head_is = s.sender.head_is; backlog_is = s.sender.backlog_is };
   inbox = s.inbox;
@@ -163,7 +163,7 @@ first_is_found p a (suc n) (s ∷ rs) r low channels found =
     ] found
 
 announced_sound : (size limit : ℕ) (lane : Lane) (r : Reader) (way : List (ℕ × Parcel)) (credit resumptions : ℕ)
-    → SoundOn size limit lane r way credit resumptions → SoundOn size limit lane (after r Announced) way credit resumptions
+    → SoundOn size limit lane r way credit resumptions → SoundOn size limit lane (reader_next r Announced) way credit resumptions
 announced_sound size limit lane r way credit resumptions s = record {
   sender = record { requested = s.sender.requested; head_is = s.sender.head_is; backlog_is = s.sender.backlog_is };
   inbox = s.inbox;

@@ -10,7 +10,7 @@ use Rattle.flow_defs.specs.declared.task.ChannelId.{ChannelId}
 use Rattle.flow_defs.specs.declared.parcel.Parcel.{Parcel}
 use Rattle.flow_defs.specs.declared.parcel.Parcel.TheVariants.{Data, Barrier, End}
 use Rattle.credit_reader.specs.declared.reader.Reader.{Reader}
-use Rattle.credit_reader.specs.Readers.{Happening, Granted, Resumed, Ready, Sent, Announced, after, can_send, cost}
+use Rattle.credit_reader.specs.Readers.{Happening, Granted, Resumed, Ready, Sent, Announced, reader_next, can_send, cost}
 use Rattle.credit_reader.specs.Senders.{is_same, reader_of, after_at, happened}
 use Rattle.credit_reader.specs.Answers.{due_first}
 use Rattle.input_channel.specs.Inboxes.{poll_gives}
@@ -21,7 +21,7 @@ use Rattle.script_text.specs.declared.reply.Reply.{Reply}
 use Rattle.script_text.specs.declared.reply.Reply.TheVariants as replies
 use Rattle.exchange_world.specs.Lanes.{Lane, ITEMS_MAX, channel_id, backlog_in, head_in}
 use Rattle.exchange_world.specs.Worlds.{World, DataFrame, Response, Announcement, ControlFrame, AddCredit, Resumption, lane_of, partition_limit, partition_lent}
-use Rattle.exchange_world.specs.Steps.{step, buffers_of, with_items, puts, emits, number_of, kind_of, sends_first, sends_of, announces, obeys, receives, delivers, polls_item, polls}
+use Rattle.exchange_world.specs.Steps.{step, buffers_of, with_items, puts, emits, number_of, sent_kind, sends_first, sends_of, announces, obeys, receives, delivers, polls_item, polls}
 use Rattle.exchange_world.specs.Theorems.{is_buffer, sent_in, granted_in, announced_in}
 use Rattle.exchange_world.specs.Sound.{IsSound, ControlsAreOfChannels, credit_coming}
 use Rattle.exchange_world.proofs.LaneLemmas.{other_channel, reader_after, reader_here, reader_there}
@@ -40,12 +40,12 @@ abbrev pub credit_of : ℕ → World → ℕ
 credit_of c w = credit_in (reader_of (channel_id c) w.sender.readers)
 
 -- what keeps a reader's credit keeps that of each
-keeps_one : (h : Happening) → ((r : Reader) → (after r h).credit ≡ r.credit) → (b : Bool) (o : Option Reader) → credit_in (option_map (λ r. cond b (after r h) r) o) ≡ credit_in o
+keeps_one : (h : Happening) → ((r : Reader) → (reader_next r h).credit ≡ r.credit) → (b : Bool) (o : Option Reader) → credit_in (option_map (λ r. cond b (reader_next r h) r) o) ≡ credit_in o
 keeps_one h keeps b None = refl
 keeps_one h keeps true (Some r) = keeps r
 keeps_one h keeps false (Some r) = refl
 
-keeps_credit : (id d : ChannelId) (h : Happening) (rs : List Reader) → ((r : Reader) → (after r h).credit ≡ r.credit) → credit_in (reader_of d (after_at id h rs)) ≡ credit_in (reader_of d rs)
+keeps_credit : (id d : ChannelId) (h : Happening) (rs : List Reader) → ((r : Reader) → (reader_next r h).credit ≡ r.credit) → credit_in (reader_of d (after_at id h rs)) ≡ credit_in (reader_of d rs)
 keeps_credit id d h rs keeps = ap credit_in (reader_after id h d rs) ∙ keeps_one h keeps (is_same d id) (reader_of d rs)
 
 -- ---- what is paid
@@ -196,27 +196,27 @@ module _ (m : ℕ) (w : World) (sound : IsSound m w) (c : ℕ) (low : 1 ≤ c) (
   -- ---- data go
 
   -- what an item costs is paid from the credit that there is
-  costs_one : (p : Parcel) → cost (kind_of p) ≡ cond (is_buffer (kind_of p)) 1 0
+  costs_one : (p : Parcel) → cost (sent_kind p) ≡ cond (is_buffer (sent_kind p)) 1 0
   costs_one (Data bytes) = refl
   costs_one (Barrier k Inline) = refl
   costs_one (Barrier k Front) = refl
   costs_one End = refl
 
   sends_sender : (d : ℕ) → 1 ≤ d → (r : Reader) → reader_of (channel_id d) w.sender.readers ≡ Some r → can_send r ≡ true → (p : Parcel) (items : List Parcel) → (lane_of w d).items ≡ p ∷ items
-      → credit_of c w ≡ cond (eqb d c && is_buffer (kind_of p)) 1 0 + credit_of c (sends_first w d (p ∷ items)).0
+      → credit_of c w ≡ cond (eqb d c && is_buffer (sent_kind p)) 1 0 + credit_of c (sends_first w d (p ∷ items)).0
   sends_sender d d_low r found can p items are =
-      let what = Sent (kind_of p) (head_in items) (backlog_in items) in
+      let what = Sent (sent_kind p) (head_in items) (backlog_in items) in
       let v = (sends_first w d (p ∷ items)).0 in
-      by_channel d c (λ b x. credit_of x w ≡ cond (b && is_buffer (kind_of p)) 1 0 + credit_of x v)
+      by_channel d c (λ b x. credit_of x w ≡ cond (b && is_buffer (sent_kind p)) 1 0 + credit_of x v)
       (λ is.
       let s = sound.each d d_low (omega (arith, is, high)) in
       let same : r ≡ s.reader = same_Some _ _ (sym found ∙ s.found) in
       let parts = can_send_parts s.reader (subst (λ t. can_send t ≡ true) same can) in
-      let pays : cost (kind_of p) ≤ s.reader.credit = costs p items s.reader.head s.reader.credit (s.sender.head_is ∙ ap head_in are) parts.goes in
+      let pays : cost (sent_kind p) ≤ s.reader.credit = costs p items s.reader.head s.reader.credit (s.sender.head_is ∙ ap head_in are) parts.goes in
       let was : credit_of d w ≡ s.reader.credit = ap credit_in s.found in
-      let now : credit_of d v ≡ s.reader.credit - cost (kind_of p) = ap credit_in (reader_here (channel_id d) what w.sender.readers s.reader s.found) in
+      let now : credit_of d v ≡ s.reader.credit - cost (sent_kind p) = ap credit_in (reader_here (channel_id d) what w.sender.readers s.reader s.found) in
       let one = costs_one p in
-      let all : credit_of d w ≡ cond (is_buffer (kind_of p)) 1 0 + credit_of d v = omega (arith, pays, was, now, one) in
+      let all : credit_of d w ≡ cond (is_buffer (sent_kind p)) 1 0 + credit_of d v = omega (arith, pays, was, now, one) in
       all)
       (λ other.
       let same : credit_of c v ≡ credit_of c w = ap credit_in (reader_there (channel_id d) what w.sender.readers (channel_id c) (other_channel d c d_low low other)) in
@@ -229,7 +229,7 @@ module _ (m : ℕ) (w : World) (sound : IsSound m w) (c : ℕ) (low : 1 ≤ c) (
       let v = (sends_first w d (p ∷ items)).0 in
       let paid = sends_sender d d_low r found can p items are in
       record {
-        sender = let e : credit_of c w + 0 ≡ cond (eqb d c && is_buffer (kind_of p)) 1 0 + credit_of c v = omega (arith, paid) in e;
+        sender = let e : credit_of c w + 0 ≡ cond (eqb d c && is_buffer (sent_kind p)) 1 0 + credit_of c v = omega (arith, paid) in e;
         controls = let e : credit_coming c w.controls + 0 ≡ 0 + credit_coming c w.controls = omega arith in e;
       }
 

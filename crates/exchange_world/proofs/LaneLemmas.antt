@@ -10,7 +10,7 @@ use Rattle.flow_defs.specs.declared.task.ChannelId.{ChannelId}
 use Rattle.flow_defs.specs.declared.parcel.Parcel.{Parcel}
 use Rattle.flow_defs.specs.Parcels.{barriers_of, has_end}
 use Rattle.credit_reader.specs.declared.reader.Reader.{Reader}
-use Rattle.credit_reader.specs.Readers.{Happening, Asked, Granted, Resumed, Ready, Sent, Announced, after}
+use Rattle.credit_reader.specs.Readers.{Happening, Asked, Granted, Resumed, Ready, Sent, Announced, reader_next}
 use Rattle.credit_reader.specs.Senders.{is_same, reader_of, after_at}
 use Rattle.input_channel.specs.Legal.{inline_in}
 use Rattle.exchange_world.specs.Lanes.{Lane, ITEMS_MAX, new_lane, channel_id, backlog_in}
@@ -58,7 +58,7 @@ lanes_stay w c lane = length-set w.lanes (c - 1) lane
 
 -- ---- what happens to one reader
 
-pub channel_stays : (r : Reader) (h : Happening) → (after r h).channel ≡ r.channel
+pub channel_stays : (r : Reader) (h : Happening) → (reader_next r h).channel ≡ r.channel
 channel_stays r (Asked n) = refl
 channel_stays r (Granted n) = refl
 channel_stays r Resumed = refl
@@ -68,17 +68,17 @@ channel_stays r Announced = refl
 
 -- a reader after what happens to that of a channel
 abbrev touched : ChannelId → Happening → Reader → Reader
-touched c h r = cond (is_same r.channel c) (after r h) r
+touched c h r = cond (is_same r.channel c) (reader_next r h) r
 
 touched_channel : (c : ChannelId) (h : Happening) (r : Reader) → (touched c h r).channel ≡ r.channel
-touched_channel c h r = elim (is_same r.channel c) as (λ b. (cond b (after r h) r).channel ≡ r.channel) [ true ↦ channel_stays r h | false ↦ refl ]
+touched_channel c h r = elim (is_same r.channel c) as (λ b. (cond b (reader_next r h) r).channel ≡ r.channel) [ true ↦ channel_stays r h | false ↦ refl ]
 
-pub reader_after : (c : ChannelId) (h : Happening) (d : ChannelId) (rs : List Reader) → reader_of d (after_at c h rs) ≡ option_map (λ r. cond (is_same d c) (after r h) r) (reader_of d rs)
+pub reader_after : (c : ChannelId) (h : Happening) (d : ChannelId) (rs : List Reader) → reader_of d (after_at c h rs) ≡ option_map (λ r. cond (is_same d c) (reader_next r h) r) (reader_of d rs)
 reader_after c h d [] = refl
 reader_after c h d (r ∷ rs) =
     ap (λ e. cond (is_same e d) (Some (touched c h r)) (reader_of d (after_at c h rs))) (touched_channel c h r)
-    ∙ (elim (is_same r.channel d) as (λ b. is_same r.channel d ≡ b → cond b (Some (touched c h r)) (reader_of d (after_at c h rs)) ≡ option_map (λ r. cond (is_same d c) (after r h) r) (cond b (Some r) (reader_of d rs))) [
-      | true ↦ λ is. ap (λ e. Some (cond (is_same e c) (after r h) r)) (same_channel _ _ is)
+    ∙ (elim (is_same r.channel d) as (λ b. is_same r.channel d ≡ b → cond b (Some (touched c h r)) (reader_of d (after_at c h rs)) ≡ option_map (λ r. cond (is_same d c) (reader_next r h) r) (cond b (Some r) (reader_of d rs))) [
+      | true ↦ λ is. ap (λ e. Some (cond (is_same e c) (reader_next r h) r)) (same_channel _ _ is)
       | false ↦ λ is. reader_after c h d rs
     ] refl)
 
@@ -101,13 +101,13 @@ map_same None = refl
 map_same (Some r) = refl
 
 module _ (c : ChannelId) (h : Happening) (rs : List Reader) where
-  pub reader_here : (r : Reader) → reader_of c rs ≡ Some r → reader_of c (after_at c h rs) ≡ Some (after r h)
+  pub reader_here : (r : Reader) → reader_of c rs ≡ Some r → reader_of c (after_at c h rs) ≡ Some (reader_next r h)
   reader_here r found =
-      reader_after c h c rs ∙ ap (option_map (λ r. cond (is_same c c) (after r h) r)) found ∙ ap Some (cond-true _ _ _ (is_same_self c))
+      reader_after c h c rs ∙ ap (option_map (λ r. cond (is_same c c) (reader_next r h) r)) found ∙ ap Some (cond-true _ _ _ (is_same_self c))
 
   pub reader_there : (d : ChannelId) → is_same d c ≡ false → reader_of d (after_at c h rs) ≡ reader_of d rs
   reader_there d other =
-      reader_after c h d rs ∙ ap (λ b. option_map (λ r. cond b (after r h) r) (reader_of d rs)) other ∙ map_same (reader_of d rs)
+      reader_after c h d rs ∙ ap (λ b. option_map (λ r. cond b (reader_next r h) r) (reader_of d rs)) other ∙ map_same (reader_of d rs)
 
 -- ---- one channel, apart from the world
 

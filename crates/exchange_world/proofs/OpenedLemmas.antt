@@ -6,7 +6,7 @@ use Rattle.std.proofs.lemmas.List.{length-replicate, get_or-replicate}
 use Rattle.std.proofs.lemmas.List.Sums.{sum_by-cons}
 use Rattle.flow_defs.specs.declared.task.ChannelId.{ChannelId}
 use Rattle.credit_reader.specs.declared.reader.Reader.{Reader}
-use Rattle.credit_reader.specs.Readers.{fresh, Asked, after}
+use Rattle.credit_reader.specs.Readers.{fresh, Asked, reader_next}
 use Rattle.credit_reader.specs.Senders.{Sender, sender_of, is_same, reader_of, happened}
 use Rattle.input_channel.specs.States.{opening}
 use Rattle.exchange_world.specs.Lanes.{Lane, BUFFERS_MAX, new_lane, channel_id, floating_here}
@@ -39,7 +39,7 @@ requested_there a (suc n) c s low before =
     requested_there (a + 1) n c (happened (channel_id a) (Asked 2) s) low (omega arith)
     ∙ reader_there (channel_id a) (Asked 2) s.readers (channel_id c) (other_channel a c (omega arith) low (λ (e : c ≡ a). absurd (omega arith)))
 
-requested_here : (a n c : ℕ) (s : Sender) (r : Reader) → 1 ≤ a → a ≤ c → c < a + n → reader_of (channel_id c) s.readers ≡ Some r → reader_of (channel_id c) (requested (range_with_len a n) s).readers ≡ Some (after r (Asked 2))
+requested_here : (a n c : ℕ) (s : Sender) (r : Reader) → 1 ≤ a → a ≤ c → c < a + n → reader_of (channel_id c) s.readers ≡ Some r → reader_of (channel_id c) (requested (range_with_len a n) s).readers ≡ Some (reader_next r (Asked 2))
 requested_here a zero c s r low from to found = absurd (omega arith)
 requested_here a (suc n) c s r low from to found = elim (cases_eq c a) [
   | inl is ↦ requested_there (a + 1) n c (happened (channel_id a) (Asked 2) s) (omega arith) (omega arith)
@@ -65,7 +65,7 @@ inbox_opened size = record {
   resumed = refl;
 }
 
-lane_opened : (size limit c : ℕ) → SoundOn size limit (new_lane size) (after (fresh (channel_id c)) (Asked 2)) [] 0 0
+lane_opened : (size limit c : ℕ) → SoundOn size limit (new_lane size) (reader_next (fresh (channel_id c)) (Asked 2)) [] 0 0
 lane_opened size limit c = record {
   sender = record { requested = refl; head_is = refl; backlog_is = refl };
   inbox = inbox_opened size;
@@ -100,7 +100,7 @@ opened_is_sound m size total can = record {
   frames = tt;
   controls = tt;
   each = λ c low high.
-      is_sound_lane c (opened m size total) size (partition_limit (opened m size total)) (new_lane size) (after (fresh (channel_id c)) (Asked 2)) [] 0 0 refl refl
+      is_sound_lane c (opened m size total) size (partition_limit (opened m size total)) (new_lane size) (reader_next (fresh (channel_id c)) (Asked 2)) [] 0 0 refl refl
       (get_or-replicate m (c - 1) (new_lane size) (new_lane size) (omega arith))
       (requested_here 1 m c (sender_of (map channel_id (range_with_len 1 m))) (fresh (channel_id c)) (omega arith) low (omega arith) (fresh_found 1 m c (omega arith) low (omega arith)))
       refl refl refl (lane_opened size (partition_limit (opened m size total)) c);

@@ -6,7 +6,7 @@ use Rattle.std.proofs.lemmas.Bool.{cases_eq, eqb-true, eqb-false}
 use Rattle.flow_defs.specs.declared.parcel.Parcel.{Parcel}
 use Rattle.flow_defs.specs.Parcels.{data_of}
 use Rattle.flow_defs.specs.Records.{IsShort, all_encoded}
-use Rattle.input_channel.specs.States.{ChannelState, after}
+use Rattle.input_channel.specs.States.{ChannelState, channel_next}
 use Rattle.input_channel.specs.declared.entry.ReceiveEntry.TheVariants.{Added}
 use Rattle.script_text.specs.declared.reply.Reply.{Reply}
 use Rattle.exchange_world.specs.Lanes.{Lane, records_in, behind_records}
@@ -119,7 +119,7 @@ lane_quiet w d lane c d_low low high queue items rest = elim (cases_eq d c) [
 
 added_queue : (n : ℕ) (inbox : ChannelState) → (after_all inbox (replicate n Added)).queue ≡ inbox.queue
 added_queue zero inbox = refl
-added_queue (suc n) inbox = added_queue n (after inbox Added)
+added_queue (suc n) inbox = added_queue n (channel_next inbox Added)
 
 -- a channel that asks for floating buffers keeps its bytes
 pub asks_quiet : (w : World) (d c : ℕ) → 1 ≤ d → 1 ≤ c → c ≤ length w.lanes → IsQuiet c w (asks w d)

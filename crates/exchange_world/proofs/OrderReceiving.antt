@@ -1,6 +1,7 @@
 -- What the events of the receiving end and of the receiving task do to the bytes of a channel.
 use Rattle.std.proofs.Common.{◌≡◌, ℕ, ◌≤◌, eqb, true, false, cond, Bool, List, [], ◌∷◌, ◌++◌, length, drop, map, Option, Some, None, refl, sym, ap, subst, ◌∙◌, append_assoc, append-nil, arith}
 use Rattle.std.proofs.lemmas.Bool.{cond_both}
+use Rattle.flow_defs.proofs.ParcelLemmas.{data_of-append}
 use Rattle.flow_defs.specs.Items.{Items}
 use Rattle.flow_defs.specs.declared.parcel.Parcel.{Parcel}
 use Rattle.flow_defs.specs.declared.parcel.Parcel.TheVariants.{Data, Barrier, End}
@@ -11,7 +12,7 @@ use Rattle.input_channel.specs.declared.entry.ReceiveEntry.{ReceiveEntry}
 use Rattle.input_channel.specs.declared.entry.ReceiveEntry.TheVariants as entries
 use Rattle.input_channel.specs.Inboxes.{poll_gives, poll_leaves}
 use Rattle.input_channel.specs.Counts.{told, gave_by}
-use Rattle.input_channel.specs.States.{ChannelState, after}
+use Rattle.input_channel.specs.States.{ChannelState, channel_next}
 use Rattle.script_text.specs.declared.event.Event.TheVariants as events
 use Rattle.script_text.specs.declared.reply.Reply.{Reply}
 use Rattle.script_text.specs.declared.reply.Reply.TheVariants as replies
@@ -23,7 +24,6 @@ use Rattle.exchange_world.specs.Sound.{IsSound, AreOfChannels, responses, coming
 use Rattle.exchange_world.proofs.LaneLemmas.{lane_put, lane_stays, lanes_stay}
 use Rattle.exchange_world.proofs.ReceivingWays.{response_here, response_there}
 use Rattle.exchange_world.proofs.ReceivingPolls.{TakesFirst, takes_first}
-use Rattle.exchange_world.proofs.Bytes.{data_of-append}
 use Rattle.exchange_world.proofs.OrderMoves.{Reads, reads_records, waits, waits_of, Moves, MovesNone, IsQuiet, quiet, quiet_twice, quiet_there, moves_none, moves_then, by_channel, lane_quiet, asks_quiet}
 
 -- the records of a reply are those that it lists
@@ -38,7 +38,7 @@ module _ (w : World) (c : ℕ) (low : 1 ≤ c) (high : c ≤ length w.lanes) whe
       → IsQuiet d w (receives (record w { frames = frames }) d (entries.Push p backlog))
   arrived_here d sequence backlog p frames are d_low is =
       let lane = lane_of w d in
-      let now : Lane = record lane { inbox = after lane.inbox (entries.Push p backlog) } in
+      let now : Lane = record lane { inbox = channel_next lane.inbox (entries.Push p backlog) } in
       let v = receives (record w { frames = frames }) d (entries.Push p backlog) in
       let there : lane_of v d ≡ now = lane_put (record w { frames = frames }) d now d_low (omega (arith, is, high)) in
       let way : coming d w ≡ p ∷ coming d v = ap (λ fs. map (λ (r : ℕ × Parcel). r.1) (responses d fs)) are ∙ ap (map (λ (r : ℕ × Parcel). r.1)) (response_here d sequence backlog p frames) in
@@ -55,12 +55,12 @@ module _ (w : World) (c : ℕ) (low : 1 ≤ c) (high : c ≤ length w.lanes) whe
   arrived d sequence backlog p frames are d_low =
       let v = receives (record w { frames = frames }) d (entries.Push p backlog) in
       by_channel d c (λ b x. IsQuiet x w v) (λ is. arrived_here d sequence backlog p frames are d_low is) (λ other.
-      quiet_there c w v (lane_stays (record w { frames = frames }) d (record (lane_of w d) { inbox = after (lane_of w d).inbox (entries.Push p backlog) }) d_low c low other)
+      quiet_there c w v (lane_stays (record w { frames = frames }) d (record (lane_of w d) { inbox = channel_next (lane_of w d).inbox (entries.Push p backlog) }) d_low c low other)
       (sym (ap (responses c) are ∙ response_there c d sequence backlog p frames other)))
 
   -- an entry that keeps what waits
-  receives_quiet : (d : ℕ) (e : ReceiveEntry) → 1 ≤ d → (after (lane_of w d).inbox e).queue ≡ (lane_of w d).inbox.queue → IsQuiet c w (receives w d e)
-  receives_quiet d e d_low queue = lane_quiet w d (record (lane_of w d) { inbox = after (lane_of w d).inbox e }) c d_low low high (ap data_of queue) refl refl
+  receives_quiet : (d : ℕ) (e : ReceiveEntry) → 1 ≤ d → (channel_next (lane_of w d).inbox e).queue ≡ (lane_of w d).inbox.queue → IsQuiet c w (receives w d e)
+  receives_quiet d e d_low queue = lane_quiet w d (record (lane_of w d) { inbox = channel_next (lane_of w d).inbox e }) c d_low low high (ap data_of queue) refl refl
 
 module _ (m : ℕ) (w : World) (c : ℕ) (low : 1 ≤ c) (high : c ≤ length w.lanes) where
   delivers_moves : (frames : List DataFrame) → w.frames ≡ frames → AreOfChannels m frames → MovesNone c w (delivers w frames)
@@ -69,14 +69,14 @@ module _ (m : ℕ) (w : World) (c : ℕ) (low : 1 ≤ c) (high : c ≤ length w.
       let u = receives (record w { frames = frames }) d (entries.Push p backlog) in
       let v = (delivers w (Response d sequence p backlog ∷ frames)).0 in
       moves_none c w v (quiet_twice c w u v (arrived w c low high d sequence backlog p frames are of.0)
-      (asks_quiet u d c of.0 low (let same = lanes_stay w d (record (lane_of w d) { inbox = after (lane_of w d).inbox (entries.Push p backlog) }) in omega (arith, same, high))))
+      (asks_quiet u d c of.0 low (let same = lanes_stay w d (record (lane_of w d) { inbox = channel_next (lane_of w d).inbox (entries.Push p backlog) }) in omega (arith, same, high))))
   delivers_moves (Announcement d n ∷ frames) are of =
       let w0 : World = record w { frames = frames } in
       let u = receives w0 d (entries.Backlog n) in
       let v = (delivers w (Announcement d n ∷ frames)).0 in
       moves_none c w v (quiet_twice c w w0 v (quiet_there c w w0 refl (sym (ap (responses c) are)))
       (quiet_twice c w0 u v (receives_quiet w0 c low high d (entries.Backlog n) of.0 refl)
-      (asks_quiet u d c of.0 low (let same = lanes_stay w d (record (lane_of w d) { inbox = after (lane_of w d).inbox (entries.Backlog n) }) in omega (arith, same, high)))))
+      (asks_quiet u d c of.0 low (let same = lanes_stay w d (record (lane_of w d) { inbox = channel_next (lane_of w d).inbox (entries.Backlog n) }) in omega (arith, same, high)))))
 
   pub deliver_moves : AreOfChannels m w.frames → MovesNone c w (step w events.Deliver)
   deliver_moves of = delivers_moves w.frames refl of
@@ -96,7 +96,7 @@ module _ (w : World) (c : ℕ) (low : 1 ≤ c) (high : c ≤ length w.lanes) (d 
   resume_moves =
       let u = receives w d entries.Ask in
       let v : World = record (receives u d entries.Resume) { controls = w.controls ++ Resumption d ∷ [] } in
-      let asked = lanes_stay w d (record (lane_of w d) { inbox = after (lane_of w d).inbox entries.Ask }) in
+      let asked = lanes_stay w d (record (lane_of w d) { inbox = channel_next (lane_of w d).inbox entries.Ask }) in
       cond_both (eqb (lane_of w d).inbox.owed 0) (w, replies.Refused) (v, replies.Done) (MovesNone c w) (λ none. moves_none c w w (quiet c w)) (λ some.
       let q = quiet_twice c w u (receives u d entries.Resume) (receives_quiet w c low high d entries.Ask d_low refl) (receives_quiet u c low (omega (arith, asked, high)) d entries.Resume d_low refl) in
       moves_none c w v (record { waits_are = q.waits_are; rest_is = q.rest_is }))
@@ -120,7 +120,7 @@ module _ (w : World) (c : ℕ) (low : 1 ≤ c) (high : c ≤ length w.lanes) (d 
     event_moves : (reply : Reply) → data_of (p ∷ []) ≡ [] → polled_in c reply ≡ [] → MovesPolled [] (receives w d (entries.Poll hold NoBuffer), reply)
     event_moves reply no_data none =
         polled_none reply (receives w d (entries.Poll hold NoBuffer))
-        (lane_quiet w d (record (lane_of w d) { inbox = after (lane_of w d).inbox (entries.Poll hold NoBuffer) }) c d_low low high
+        (lane_quiet w d (record (lane_of w d) { inbox = channel_next (lane_of w d).inbox (entries.Poll hold NoBuffer) }) c d_low low high
         (sym (left_is ∙ ap (λ xs. xs ++ data_of (poll_leaves hold (lane_of w d).inbox.queue)) no_data)) refl refl) none
 
   -- a channel of which a buffer was read
@@ -128,9 +128,9 @@ module _ (w : World) (c : ℕ) (low : 1 ≤ c) (high : c ≤ length w.lanes) (d 
   read_lane hold bytes =
       let lane = lane_of w d in
       let gave = gave_by (Some (Data bytes)) lane.inbox.counts.held in
-      record lane { inbox = after (after lane.inbox (entries.Poll hold gave)) (entries.Returned (is_exclusive gave)); rest = behind_records (lane.rest ++ bytes) }
+      record lane { inbox = channel_next (channel_next lane.inbox (entries.Poll hold gave)) (entries.Returned (is_exclusive gave)); rest = behind_records (lane.rest ++ bytes) }
 
-  queue_left : (inbox : ChannelState) (hold : Bool) (gave : Gave) (exclusive : Bool) → (after (after inbox (entries.Poll hold gave)) (entries.Returned exclusive)).queue ≡ poll_leaves hold inbox.queue
+  queue_left : (inbox : ChannelState) (hold : Bool) (gave : Gave) (exclusive : Bool) → (channel_next (channel_next inbox (entries.Poll hold gave)) (entries.Returned exclusive)).queue ≡ poll_leaves hold inbox.queue
   queue_left inbox hold gave exclusive = refl
 
   reads_here : (hold : Bool) (bytes : List ℕ) → TakesFirst hold (lane_of w d).inbox.queue (Data bytes) → d ≡ c

@@ -4,6 +4,7 @@ use Rattle.std.specs.Prelude.{◌||◌, ◌&&◌}
 use Rattle.std.specs.List.{AllByRecursion}
 use Rattle.std.proofs.lemmas.Bool.{cond_both}
 use Rattle.std.proofs.lemmas.List.{map-append}
+use Rattle.flow_defs.proofs.ParcelLemmas.{data_of-append}
 use Rattle.flow_defs.specs.declared.task.BarrierKind.TheVariants.{Inline}
 use Rattle.flow_defs.specs.declared.task.ChannelId.{ChannelId}
 use Rattle.flow_defs.specs.declared.parcel.Parcel.{Parcel}
@@ -24,7 +25,7 @@ use Rattle.exchange_world.proofs.LaneLemmas.{lane_put, lane_stays}
 use Rattle.exchange_world.proofs.WorldLemmas.{responses-append}
 use Rattle.exchange_world.proofs.PuttingLemmas.{more}
 use Rattle.exchange_world.proofs.SendingLemmas.{response_here, response_there}
-use Rattle.exchange_world.proofs.Bytes.{data_of-append, pieces_whole}
+use Rattle.exchange_world.proofs.Bytes.{pieces_whole}
 use Rattle.exchange_world.proofs.OrderMoves.{Reads, reads_none, waits, Moves, MovesNone, IsQuiet, quiet, quiet_there, moves_none, by_channel}
 
 -- ---- something is put on a channel

@@ -5,6 +5,7 @@ use Rattle.std.specs.List.{range_with_len}
 use Rattle.std.proofs.lemmas.Bool.{cond_both, or_parts, not-false, eqb-true, ltb-true, ltb-false, true≢false}
 use Rattle.std.proofs.lemmas.List.{length-take, map-append}
 use Rattle.std.proofs.lemmas.List.Sums.{sum_by-append, sum_by-cons}
+use Rattle.flow_defs.proofs.ParcelLemmas.{barriers_of-append, end_behind}
 use Rattle.flow_defs.specs.Records.{length_bytes, encoded}
 use Rattle.flow_defs.specs.declared.task.BarrierKind.{BarrierKind}
 use Rattle.flow_defs.specs.declared.task.BarrierKind.TheVariants.{Inline, Front}
@@ -13,7 +14,7 @@ use Rattle.flow_defs.specs.declared.parcel.Parcel.TheVariants.{Data, Barrier, En
 use Rattle.flow_defs.specs.Parcels.{is_data, barriers_of, has_end}
 use Rattle.flow_defs.specs.Items.{Items}
 use Rattle.credit_reader.specs.declared.reader.Reader.{Reader}
-use Rattle.credit_reader.specs.Readers.{Ready, after}
+use Rattle.credit_reader.specs.Readers.{Ready, reader_next}
 use Rattle.credit_reader.specs.Senders.{happened}
 use Rattle.script_text.specs.declared.event.Event.TheVariants as events
 use Rattle.script_text.specs.declared.reply.Reply.{Reply}
@@ -28,18 +29,6 @@ use Rattle.exchange_world.proofs.QueueLemmas.{happened_holds}
 use Rattle.exchange_world.proofs.WorldLemmas.{keeps_sound, limit_stays, gate_limit_stays, gate_lent_stays}
 
 -- ---- parcels behind others
-
-pub barriers_of-append : (ps qs : List Parcel) → barriers_of (ps ++ qs) ≡ barriers_of ps ++ barriers_of qs
-barriers_of-append [] qs = refl
-barriers_of-append (Data bytes ∷ ps) qs = barriers_of-append ps qs
-barriers_of-append (Barrier k kind ∷ ps) qs = ap (λ bs. (k, kind) ∷ bs) (barriers_of-append ps qs)
-barriers_of-append (End ∷ ps) qs = barriers_of-append ps qs
-
-pub has_end-append : (ps qs : List Parcel) → has_end ps ≡ false → has_end (ps ++ qs) ≡ has_end qs
-has_end-append [] qs none = refl
-has_end-append (Data bytes ∷ ps) qs none = has_end-append ps qs none
-has_end-append (Barrier k kind ∷ ps) qs none = has_end-append ps qs none
-has_end-append (End ∷ ps) qs none = absurd (true≢false none)
 
 pub fit-append : (size : ℕ) (ps qs : List Parcel) → has_end ps ≡ false → AreFit size ps → AreFit size qs → AreFit size (ps ++ qs)
 fit-append size [] qs none here there = there
@@ -75,7 +64,7 @@ abbrev pub more : Lane → List Parcel → ℕ → Bool → Lane
 more lane ps barriers finished = record lane { items = lane.items ++ ps; barriers = barriers; finished = finished }
 
 abbrev told : Reader → List Parcel → Reader
-told r items = after r (Ready (head_in items) (backlog_in items))
+told r items = reader_next r (Ready (head_in items) (backlog_in items))
 
 -- what responses bring
 abbrev pub brought : List (ℕ × Parcel) → List Parcel
@@ -92,7 +81,7 @@ more_sound size limit lane r way credit resumptions ps barriers finished s going
     let joined : before ++ ps ≡ brought way ++ (lane.items ++ ps) = append_assoc (brought way) lane.items ps in
     let no_end = s.agree.unfinished going in
     let all_barriers : barriers_of (brought way ++ (lane.items ++ ps)) ≡ barriers_of before ++ barriers_of ps = ap barriers_of (sym joined) ∙ barriers_of-append before ps in
-    let ends : has_end (brought way ++ (lane.items ++ ps)) ≡ has_end ps = ap has_end (sym joined) ∙ has_end-append before ps no_end.1 in
+    let ends : has_end (brought way ++ (lane.items ++ ps)) ≡ has_end ps = ap has_end (sym joined) ∙ end_behind before ps no_end.1 in
     let last = s.agree.last in
     record {
       sender = record { requested = s.sender.requested; head_is = refl; backlog_is = refl };

@@ -8,7 +8,7 @@ use Rattle.input_channel.specs.declared.entry.Gave.TheVariants as gaves
 use Rattle.input_channel.specs.declared.entry.ReceiveEntry.TheVariants as entries
 use Rattle.input_channel.specs.Inboxes.{poll_gives}
 use Rattle.input_channel.specs.Counts.{data_in, told}
-use Rattle.input_channel.specs.States.{after}
+use Rattle.input_channel.specs.States.{channel_next}
 use Rattle.script_text.specs.declared.event.Event.TheVariants as events
 use Rattle.script_text.specs.declared.reply.Reply.{Reply}
 use Rattle.script_text.specs.declared.reply.Reply.TheVariants as replies
@@ -28,7 +28,7 @@ use Rattle.exchange_world.proofs.ReceivingWorlds.{keeps_lane, keeps_own, keeps_a
 -- ---- a data frame arrives
 
 -- data take a floating buffer that is free, or none
-floating_pushed : (inbox : Rattle.input_channel.specs.States.ChannelState) (p : Parcel) (backlog : ℕ) → floating_here (after inbox (entries.Push p backlog)) ≡ floating_here inbox
+floating_pushed : (inbox : Rattle.input_channel.specs.States.ChannelState) (p : Parcel) (backlog : ℕ) → floating_here (channel_next inbox (entries.Push p backlog)) ≡ floating_here inbox
 floating_pushed inbox (parcels.Data bytes) backlog = floating_taken inbox.counts.floating inbox.counts.held
 floating_pushed inbox (parcels.Barrier k kind) backlog = refl
 floating_pushed inbox parcels.End backlog = refl
@@ -45,7 +45,7 @@ module _ (m : ℕ) (w : World) (sound : IsSound m w) where
       let lane = sound.each c of.0 of.1 in
       let way : responses c w.frames ≡ (number, p) ∷ responses c frames = ap (responses c) is ∙ response_here c number backlog p frames in
       let on = subst (λ x. SoundOn w.size (partition_limit w) (lane_of w c) lane.reader x (credit_coming c w.controls) (resumptions_coming c w.controls)) way (sound_on c w lane) in
-      let pushed : Lane = record (lane_of w c) { inbox = after (lane_of w c).inbox (entries.Push p backlog) } in
+      let pushed : Lane = record (lane_of w c) { inbox = channel_next (lane_of w c).inbox (entries.Push p backlog) } in
       let next = keeps_lane m w sound c of.0 of.1 pushed frames w.controls of.3 sound.controls
       (λ d other. record { way = sym (ap (responses d) is ∙ response_there d c number backlog p frames other); credit = refl; resumptions = refl })
       (pushed_on w.size (lane_of w c) lane.reader number p (responses c frames) _ _ backlog (partition_limit w) on)
@@ -55,7 +55,7 @@ module _ (m : ℕ) (w : World) (sound : IsSound m w) where
       let lane = sound.each c of.0 of.1 in
       let way : (d : ℕ) → responses d w.frames ≡ responses d frames = λ d. ap (responses d) is in
       let on = subst (λ x. SoundOn w.size (partition_limit w) (lane_of w c) lane.reader x (credit_coming c w.controls) (resumptions_coming c w.controls)) (way c) (sound_on c w lane) in
-      let heard : Lane = record (lane_of w c) { inbox = after (lane_of w c).inbox (entries.Backlog n) } in
+      let heard : Lane = record (lane_of w c) { inbox = channel_next (lane_of w c).inbox (entries.Backlog n) } in
       let next = keeps_lane m w sound c of.0 of.1 heard frames w.controls of.3 sound.controls
       (λ d other. record { way = sym (way d); credit = refl; resumptions = refl })
       (told_on w.size (lane_of w c) lane.reader (responses c frames) _ _ (partition_limit w) n on)
@@ -75,7 +75,7 @@ module _ (m : ℕ) (w : World) (sound : IsSound m w) where
         let lane = sound.each c channel.0 channel.1 in
         let positive : 1 ≤ n = (let apart = eqb-false n 0 some in grind (arith, apart)) in
         let on = credited_on w.size (lane_of w c) lane.reader (responses c w.frames) (credit_coming c w.controls) (resumptions_coming c w.controls) (partition_limit w) (sound_on c w lane) in
-        let now : Lane = record (lane_of w c) { inbox = after (lane_of w c).inbox (entries.Credit n) } in
+        let now : Lane = record (lane_of w c) { inbox = channel_next (lane_of w c).inbox (entries.Credit n) } in
         let controls = w.controls ++ AddCredit c n ∷ [] in
         keeps_lane m w sound c channel.0 channel.1 now w.frames controls sound.frames (controls_are-append m w.controls (AddCredit c n ∷ []) sound.controls (channel.0, channel.1, positive, tt))
         (λ d other. record { way = refl; credit = credit_there w.controls c d n other; resumptions = no_resumption w.controls c d n })
@@ -95,13 +95,13 @@ module _ (m : ℕ) (w : World) (sound : IsSound m w) where
     resumed some =
         let lane = sound.each c channel.0 channel.1 in
         let on = resumed_on w.size (lane_of w c) lane.reader (responses c w.frames) (credit_coming c w.controls) (resumptions_coming c w.controls) (partition_limit w) (sound_on c w lane) some in
-        let asked : Lane = record (lane_of w c) { inbox = after (lane_of w c).inbox entries.Ask } in
-        let now : Lane = record (lane_of w c) { inbox = after (after (lane_of w c).inbox entries.Ask) entries.Resume } in
+        let asked : Lane = record (lane_of w c) { inbox = channel_next (lane_of w c).inbox entries.Ask } in
+        let now : Lane = record (lane_of w c) { inbox = channel_next (channel_next (lane_of w c).inbox entries.Ask) entries.Resume } in
         let controls = w.controls ++ Resumption c ∷ [] in
         let within : c ≤ length w.lanes = omega (arith, sound.lanes, channel.1) in
         let there : lane_of (receives w c entries.Ask) c ≡ asked = lane_put w c asked channel.0 within in
         let lanes : (receives (receives w c entries.Ask) c entries.Resume).lanes ≡ slice_set w.lanes (c - 1) now =
-        ap (λ (l : Lane). slice_set (slice_set w.lanes (c - 1) asked) (c - 1) (record l { inbox = after l.inbox entries.Resume })) there ∙ set_twice w.lanes (c - 1) asked now in
+        ap (λ (l : Lane). slice_set (slice_set w.lanes (c - 1) asked) (c - 1) (record l { inbox = channel_next l.inbox entries.Resume })) there ∙ set_twice w.lanes (c - 1) asked now in
         let next = keeps_lane m w sound c channel.0 channel.1 now w.frames controls sound.frames (controls_are-append m w.controls (Resumption c ∷ []) sound.controls (channel.0, channel.1, tt))
         (λ d other. record { way = refl; credit = no_credit w.controls c d; resumptions = resumption_there w.controls c d other })
         (subst (λ x. SoundOn w.size (partition_limit w) now lane.reader (responses c w.frames) x (resumptions_coming c controls)) (sym (no_credit w.controls c c))
@@ -124,7 +124,7 @@ module _ (m : ℕ) (w : World) (sound : IsSound m w) where
         let lane = sound.each c channel.0 channel.1 in
         let takes = takes_first w.size hold (lane_of w c).inbox.queue p lane.inbox.fit gives in
         let on = polled_on w.size (lane_of w c) lane.reader (responses c w.frames) (credit_coming c w.controls) (resumptions_coming c w.controls) (partition_limit w) hold p (sound_on c w lane) takes gives none in
-        keeps_own m w sound c channel.0 channel.1 (record (lane_of w c) { inbox = after (lane_of w c).inbox (entries.Poll hold gaves.NoBuffer) }) w.frames w.controls refl refl on (omega (arith, sound.gate))
+        keeps_own m w sound c channel.0 channel.1 (record (lane_of w c) { inbox = channel_next (lane_of w c).inbox (entries.Poll hold gaves.NoBuffer) }) w.frames w.controls refl refl on (omega (arith, sound.gate))
 
     polled_data : (hold : Bool) (bytes : List ℕ) → poll_gives hold (lane_of w c).inbox.queue ≡ Some (parcels.Data bytes) → IsSound m (reads w c hold bytes).0
     polled_data hold bytes gives =

@@ -6,7 +6,7 @@ use Rattle.flow_defs.specs.declared.parcel.Parcel.TheVariants.{Data, Barrier, En
 use Rattle.flow_defs.specs.Parcels.{has_end}
 use Rattle.input_channel.specs.declared.entry.ReceiveEntry.TheVariants.{Push, Backlog, Added}
 use Rattle.input_channel.specs.Counts.{data_in}
-use Rattle.input_channel.specs.States.{ChannelState, after}
+use Rattle.input_channel.specs.States.{ChannelState, channel_next}
 use Rattle.exchange_world.specs.Lanes.{BUFFERS_MAX, floating_here}
 use Rattle.exchange_world.specs.Sound.{IsSoundInbox, AreFit}
 use Rattle.exchange_world.proofs.Counting.{backlog-snoc, end-snoc, exclusive_taken, floating_taken, free_taken}
@@ -44,7 +44,7 @@ no_end true ended h e = absurd (true≢false (sym (h refl) ∙ e))
 no_end false ended h e = refl
 
 pub inbox_pushed : (size backlog : ℕ) (inbox : ChannelState) (p : Parcel) → IsSoundInbox size inbox → inbox.ended ≡ false → AreFit size (p ∷ []) → data_in p ≤ inbox.credit →
-    IsSoundInbox size (after inbox (Push p backlog))
+    IsSoundInbox size (channel_next inbox (Push p backlog))
 inbox_pushed size backlog inbox (Data bytes) sound more own paid =
     let c = inbox.counts in
     let queue = no_end (has_end inbox.queue) inbox.ended sound.end more in
@@ -97,7 +97,7 @@ inbox_pushed size backlog inbox End sound more own paid =
       resumed = sound.resumed;
     }
 
-pub inbox_told : (size backlog : ℕ) (inbox : ChannelState) → IsSoundInbox size inbox → IsSoundInbox size (after inbox (Backlog backlog))
+pub inbox_told : (size backlog : ℕ) (inbox : ChannelState) → IsSoundInbox size inbox → IsSoundInbox size (channel_next inbox (Backlog backlog))
 inbox_told size backlog inbox sound = record {
   size_is = sound.size_is;
   room_is = sound.room_is;
@@ -113,7 +113,7 @@ inbox_told size backlog inbox sound = record {
 
 -- ---- a floating buffer comes
 
-pub inbox_added : (size : ℕ) (inbox : ChannelState) → IsSoundInbox size inbox → 3 + floating_here inbox ≤ BUFFERS_MAX → IsSoundInbox size (after inbox Added)
+pub inbox_added : (size : ℕ) (inbox : ChannelState) → IsSoundInbox size inbox → 3 + floating_here inbox ≤ BUFFERS_MAX → IsSoundInbox size (channel_next inbox Added)
 inbox_added size inbox sound few = record {
   size_is = sound.size_is;
   room_is = sound.room_is;

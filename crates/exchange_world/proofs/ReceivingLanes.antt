@@ -10,7 +10,7 @@ use Rattle.input_channel.specs.declared.entry.Gave.TheVariants.{NoBuffer}
 use Rattle.input_channel.specs.declared.entry.ReceiveEntry.TheVariants.{Push, Poll, Backlog, Added, Credit, Ask, Resume}
 use Rattle.input_channel.specs.Inboxes.{poll_gives, poll_leaves}
 use Rattle.input_channel.specs.Counts.{Counts, data_in, told}
-use Rattle.input_channel.specs.States.{after}
+use Rattle.input_channel.specs.States.{channel_next}
 use Rattle.input_channel.specs.Legal.{inline_in}
 use Rattle.exchange_world.specs.Lanes.{Lane, BUFFERS_MAX, floating_here}
 use Rattle.exchange_world.specs.Sound.{AreFit, IsSoundInbox}
@@ -68,7 +68,7 @@ finished_then ended p ps not (inl e) = absurd (true≢false (sym e ∙ not))
 finished_then ended p ps not (inr e) = end_is p ps e
 
 module _ (size : ℕ) (lane : Lane) (r : Reader) (number : ℕ) (p : Parcel) (way : List (ℕ × Parcel)) (credit resumptions backlog : ℕ) where
-  agree_pushed : AgreesOn size lane r ((number, p) ∷ way) credit resumptions → AgreesOn size (record lane { inbox = after lane.inbox (Push p backlog) }) r way credit resumptions
+  agree_pushed : AgreesOn size lane r ((number, p) ∷ way) credit resumptions → AgreesOn size (record lane { inbox = channel_next lane.inbox (Push p backlog) }) r way credit resumptions
   agree_pushed agree =
       let coming = map (λ (r : ℕ × Parcel). r.1) way in
       let behind = coming ++ lane.items in
@@ -86,7 +86,7 @@ module _ (size : ℕ) (lane : Lane) (r : Reader) (number : ℕ) (p : Parcel) (wa
         blocked = (let e : inline_in coming + inline_in (lane.inbox.queue ++ p ∷ []) + lane.inbox.owed + resumptions ≡ inline_in (p ∷ coming) + inline_in lane.inbox.queue + lane.inbox.owed + resumptions = omega (arith, inline-cons p coming, inline-append lane.inbox.queue (p ∷ [])) in e) ∙ agree.blocked;
       }
 
-  pub pushed_on : (limit : ℕ) → SoundOn size limit lane r ((number, p) ∷ way) credit resumptions → SoundOn size limit (record lane { inbox = after lane.inbox (Push p backlog) }) r way credit resumptions
+  pub pushed_on : (limit : ℕ) → SoundOn size limit lane r ((number, p) ∷ way) credit resumptions → SoundOn size limit (record lane { inbox = channel_next lane.inbox (Push p backlog) }) r way credit resumptions
   pushed_on limit sound =
       let coming = map (λ (r : ℕ × Parcel). r.1) way in
       let behind = coming ++ lane.items in
@@ -128,16 +128,16 @@ module _ (size : ℕ) (lane : Lane) (r : Reader) (way : List (ℕ × Parcel)) (c
     lent = sound.lent;
   }
 
-  pub told_on : (limit backlog : ℕ) → SoundOn size limit lane r way credit resumptions → SoundOn size limit (record lane { inbox = after lane.inbox (Backlog backlog) }) r way credit resumptions
+  pub told_on : (limit backlog : ℕ) → SoundOn size limit lane r way credit resumptions → SoundOn size limit (record lane { inbox = channel_next lane.inbox (Backlog backlog) }) r way credit resumptions
   told_on limit backlog sound = sound_inbox limit lane.inbox.queue _ lane.inbox.owed lane.rest refl sound (inbox_told size backlog lane.inbox sound.inbox)
 
-  pub added_on : (limit : ℕ) → SoundOn size limit lane r way credit resumptions → 3 + floating_here lane.inbox ≤ BUFFERS_MAX → SoundOn size limit (record lane { inbox = after lane.inbox Added }) r way credit resumptions
+  pub added_on : (limit : ℕ) → SoundOn size limit lane r way credit resumptions → 3 + floating_here lane.inbox ≤ BUFFERS_MAX → SoundOn size limit (record lane { inbox = channel_next lane.inbox Added }) r way credit resumptions
   added_on limit sound few = sound_inbox limit lane.inbox.queue _ lane.inbox.owed lane.rest refl sound (inbox_added size lane.inbox sound.inbox few)
 
   -- ---- what waits is polled
 
   pub polled_on : (limit : ℕ) (hold : Bool) (p : Parcel) → SoundOn size limit lane r way credit resumptions → TakesFirst hold lane.inbox.queue p → poll_gives hold lane.inbox.queue ≡ Some p → data_in p ≡ 0 →
-      SoundOn size limit (record lane { inbox = after lane.inbox (Poll hold NoBuffer) }) r way credit resumptions
+      SoundOn size limit (record lane { inbox = channel_next lane.inbox (Poll hold NoBuffer) }) r way credit resumptions
   polled_on limit hold p sound takes gives none =
       sound_inbox limit (poll_leaves hold lane.inbox.queue) lane.inbox.counts (lane.inbox.owed + inline_in (option_to_list (poll_gives hold lane.inbox.queue))) lane.rest
       (inline_polled hold lane.inbox.queue p lane.inbox.owed takes gives) sound (inbox_polled size hold lane.inbox p sound.inbox takes none)
@@ -151,7 +151,7 @@ module _ (size : ℕ) (lane : Lane) (r : Reader) (way : List (ℕ × Parcel)) (c
 
   -- ---- credit and resumptions leave
 
-  pub credited_on : (limit : ℕ) → SoundOn size limit lane r way credit resumptions → SoundOn size limit (record lane { inbox = after lane.inbox (Credit (told lane.inbox.counts)) }) r way (credit + told lane.inbox.counts) resumptions
+  pub credited_on : (limit : ℕ) → SoundOn size limit lane r way credit resumptions → SoundOn size limit (record lane { inbox = channel_next lane.inbox (Credit (told lane.inbox.counts)) }) r way (credit + told lane.inbox.counts) resumptions
   credited_on limit sound =
       let agree = sound.agree in
       let inbox = sound.inbox in
@@ -186,7 +186,7 @@ module _ (size : ℕ) (lane : Lane) (r : Reader) (way : List (ℕ × Parcel)) (c
         lent = sound.lent;
       }
 
-  pub resumed_on : (limit : ℕ) → SoundOn size limit lane r way credit resumptions → 1 ≤ lane.inbox.owed → SoundOn size limit (record lane { inbox = after (after lane.inbox Ask) Resume }) r way credit (resumptions + 1)
+  pub resumed_on : (limit : ℕ) → SoundOn size limit lane r way credit resumptions → 1 ≤ lane.inbox.owed → SoundOn size limit (record lane { inbox = channel_next (channel_next lane.inbox Ask) Resume }) r way credit (resumptions + 1)
   resumed_on limit sound some =
       let agree = sound.agree in
       let inbox = sound.inbox in

@@ -11,7 +11,7 @@ use Rattle.input_channel.specs.declared.entry.Gave.TheVariants.{NoBuffer}
 use Rattle.input_channel.specs.declared.entry.ReceiveEntry.TheVariants.{Poll, Returned}
 use Rattle.input_channel.specs.Inboxes.{front_waits, first_parcel, first_barrier, without_barrier, due, undue, is_barrier, poll_gives, poll_leaves}
 use Rattle.input_channel.specs.Counts.{Counts, data_in, gave_by, lets_go}
-use Rattle.input_channel.specs.States.{ChannelState, after}
+use Rattle.input_channel.specs.States.{ChannelState, channel_next}
 use Rattle.input_channel.specs.Legal.{inline_in}
 use Rattle.exchange_world.specs.Lanes.{backlog_in, floating_here}
 use Rattle.exchange_world.specs.Steps.{is_exclusive}
@@ -71,7 +71,7 @@ is_rest size hold inbox p sound takes = subst (IsRest size inbox p) (sym takes.l
   end = λ e. sound.end (ap has_end takes.queue_is ∙ end_rest p (drop 1 inbox.queue) e);
 })
 
-pub inbox_polled : (size : ℕ) (hold : Bool) (inbox : ChannelState) (p : Parcel) → IsSoundInbox size inbox → TakesFirst hold inbox.queue p → data_in p ≡ 0 → IsSoundInbox size (after inbox (Poll hold NoBuffer))
+pub inbox_polled : (size : ℕ) (hold : Bool) (inbox : ChannelState) (p : Parcel) → IsSoundInbox size inbox → TakesFirst hold inbox.queue p → data_in p ≡ 0 → IsSoundInbox size (channel_next inbox (Poll hold NoBuffer))
 inbox_polled size hold inbox p sound takes none =
     let rest = is_rest size hold inbox p sound takes in
     record {
@@ -147,7 +147,7 @@ floating_back size inbox left owed rest sound is fewer fit end =
 
 -- The inbox once a buffer was polled and is back, where these waited with data.
 abbrev pub read_inbox : ChannelState → Bool → List ℕ → List Bool → ChannelState
-read_inbox inbox hold bytes held = after (after inbox (Poll hold (gave_by (Some (Data bytes)) held))) (Returned (is_exclusive (gave_by (Some (Data bytes)) held)))
+read_inbox inbox hold bytes held = channel_next (channel_next inbox (Poll hold (gave_by (Some (Data bytes)) held))) (Returned (is_exclusive (gave_by (Some (Data bytes)) held)))
 
 pub record IsRead (size : ℕ) (inbox now : ChannelState) : Type 0 where
   pub sound : IsSoundInbox size now

@@ -4,7 +4,7 @@ use Rattle.std.proofs.lemmas.List.Sums.{sum_by-set}
 use Rattle.flow_defs.specs.declared.parcel.Parcel.{Parcel}
 use Rattle.credit_reader.specs.declared.reader.Reader.{Reader}
 use Rattle.input_channel.specs.declared.entry.ReceiveEntry.TheVariants.{Added}
-use Rattle.input_channel.specs.States.{after}
+use Rattle.input_channel.specs.States.{channel_next}
 use Rattle.exchange_world.specs.Lanes.{Lane, BUFFERS_MAX, new_lane, floating_here}
 use Rattle.exchange_world.specs.Worlds.{World, DataFrame, ControlFrame, lane_of, with_lane, partition_limit, gate_lent, gate_limit}
 use Rattle.exchange_world.specs.Steps.{after_all, gets, asks}
@@ -73,7 +73,7 @@ pub all_added : (size limit : ℕ) (n : ℕ) (lane : Lane) (r : Reader) (way : L
 all_added size limit zero lane r way credit resumptions sound few = (sound, (let e : floating_here lane.inbox ≡ floating_here lane.inbox + 0 = omega arith in e))
 all_added size limit (suc n) lane r way credit resumptions sound few =
     let one = added_on size lane r way credit resumptions limit sound (omega (arith, few)) in
-    let next : Lane = record lane { inbox = after lane.inbox Added } in
+    let next : Lane = record lane { inbox = channel_next lane.inbox Added } in
     let more : floating_here next.inbox ≡ floating_here lane.inbox + 1 = omega arith in
     let rest = all_added size limit n next r way credit resumptions one (omega (arith, few, more)) in
     (rest.0, (let e : floating_here (after_all next.inbox (replicate n Added)) ≡ floating_here lane.inbox + suc n = omega (arith, rest.1, more) in e))

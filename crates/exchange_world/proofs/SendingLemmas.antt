@@ -15,13 +15,13 @@ use Rattle.flow_defs.specs.declared.parcel.Parcel.{Parcel}
 use Rattle.flow_defs.specs.declared.parcel.Parcel.TheVariants.{Data, Barrier, End}
 use Rattle.flow_defs.specs.Parcels.{is_data, barriers_of, has_end}
 use Rattle.credit_reader.specs.declared.reader.Reader.{Reader}
-use Rattle.credit_reader.specs.Readers.{Sent, after, can_send, may_go, cost, blocks}
+use Rattle.credit_reader.specs.Readers.{Sent, reader_next, can_send, may_go, cost, blocks}
 use Rattle.credit_reader.specs.Senders.{reader_of}
 use Rattle.input_channel.specs.Legal.{inline_in}
 use Rattle.script_text.specs.declared.event.Event.TheVariants as events
 use Rattle.exchange_world.specs.Lanes.{Lane, ITEMS_MAX, channel_id, backlog_in, head_in}
 use Rattle.exchange_world.specs.Worlds.{World, DataFrame, Response, lane_of, partition_limit}
-use Rattle.exchange_world.specs.Steps.{step, number_of, kind_of, sequence_of, sends_first, sends_of}
+use Rattle.exchange_world.specs.Steps.{step, number_of, sent_kind, sequence_of, sends_first, sends_of}
 use Rattle.exchange_world.specs.Sound.{responses, credit_coming, resumptions_coming, AreFit, AreNumbered, number_behind, IsSound}
 use Rattle.exchange_world.proofs.LaneLemmas.{other_channel, lane_put, lane_stays, lanes_stay, reader_here, reader_there, channels_after, SoundOn, sound_on, is_sound_lane}
 use Rattle.exchange_world.proofs.QueueLemmas.{has_sent_holds, first_can_send, number_found}
@@ -48,20 +48,20 @@ inline_in-append (End ∷ ps) qs = inline_in-append ps qs
 -- ---- what an item costs, and whether it blocks its channel
 
 -- what may go has the credit that it costs
-pub costs : (p : Parcel) (rest : List Parcel) (head : Head) (credit : ℕ) → head ≡ head_in (p ∷ rest) → may_go head credit ≡ true → cost (kind_of p) ≤ credit
+pub costs : (p : Parcel) (rest : List Parcel) (head : Head) (credit : ℕ) → head ≡ head_in (p ∷ rest) → may_go head credit ≡ true → cost (sent_kind p) ≤ credit
 costs (Data bytes) rest head credit is may = let less : 0 < credit = ltb-true 0 credit (ap (λ h. may_go h credit) (sym is) ∙ may) in omega (arith, less)
 costs (Barrier k Inline) rest head credit is may = omega arith
 costs (Barrier k Front) rest head credit is may = omega arith
 costs End rest head credit is may = omega arith
 
-cost_is : (p : Parcel) → cost (kind_of p) ≡ backlog_in (p ∷ [])
+cost_is : (p : Parcel) → cost (sent_kind p) ≡ backlog_in (p ∷ [])
 cost_is (Data bytes) = refl
 cost_is (Barrier k Inline) = refl
 cost_is (Barrier k Front) = refl
 cost_is End = refl
 
 -- an inline barrier alone blocks
-blocks_is : (p : Parcel) → inline_in (p ∷ []) ≡ cond (blocks (kind_of p)) 1 0
+blocks_is : (p : Parcel) → inline_in (p ∷ []) ≡ cond (blocks (sent_kind p)) 1 0
 blocks_is (Data bytes) = refl
 blocks_is (Barrier k Inline) = refl
 blocks_is (Barrier k Front) = refl
@@ -73,7 +73,7 @@ abbrev without_first : Lane → List Parcel → Lane
 without_first lane items = record lane { items = items }
 
 abbrev sent_by : Reader → Parcel → List Parcel → Reader
-sent_by r p items = after r (Sent (kind_of p) (head_in items) (backlog_in items))
+sent_by r p items = reader_next r (Sent (sent_kind p) (head_in items) (backlog_in items))
 
 pub record CanSend (r : Reader) : Type 0 where
   pub blocked : r.blocked ≡ false
@@ -91,7 +91,7 @@ sent_sound size limit lane r way credit resumptions p items s items_are can =
     let all_brought : brought (way ++ (r.sequence, p) ∷ []) ≡ brought way ++ p ∷ [] = map-append (λ (x : ℕ × Parcel). x.1) way ((r.sequence, p) ∷ []) in
     let same : brought way ++ lane.items ≡ brought (way ++ (r.sequence, p) ∷ []) ++ items =
     ap (λ is. brought way ++ is) items_are ∙ sym (append_assoc (brought way) (p ∷ []) items) ∙ ap (λ ps. ps ++ items) (sym all_brought) in
-    let pays : cost (kind_of p) ≤ r.credit = costs p items r.head r.credit (s.sender.head_is ∙ ap head_in items_are) can.goes in
+    let pays : cost (sent_kind p) ≤ r.credit = costs p items r.head r.credit (s.sender.head_is ∙ ap head_in items_are) can.goes in
     let all_backlog : backlog_in (brought (way ++ (r.sequence, p) ∷ [])) ≡ backlog_in (brought way) + backlog_in (p ∷ []) = ap backlog_in all_brought ∙ backlog_in-append (brought way) (p ∷ []) in
     let all_inline : inline_in (brought (way ++ (r.sequence, p) ∷ [])) ≡ inline_in (brought way) + inline_in (p ∷ []) = ap inline_in all_brought ∙ inline_in-append (brought way) (p ∷ []) in
     let costs_one = cost_is p in
@@ -137,7 +137,7 @@ module _ (m c : ℕ) (w : World) (sound : IsSound m w) (low : 1 ≤ c) (high : c
       let same_reader : r ≡ s.reader = same_Some _ _ (sym found ∙ s.found) in
       let sequence : sequence_of w c ≡ s.reader.sequence = ap (λ o. option_map_or (λ (r : Reader). r.sequence) o 0) s.found in
       let lane = without_first (lane_of w c) items in
-      let what = Sent (kind_of p) (head_in items) (backlog_in items) in
+      let what = Sent (sent_kind p) (head_in items) (backlog_in items) in
       let v = (sends_first w c (p ∷ items)).0 in
       let number = sound.lanes in
       let within : c ≤ length w.lanes = omega arith in
@@ -156,7 +156,7 @@ module _ (m c : ℕ) (w : World) (sound : IsSound m w) (low : 1 ≤ c) (high : c
         way = λ d d_low d_high other. response_there c d (sequence_of w c) p (backlog_in items) w.frames other;
         credit = λ d d_low d_high other. refl;
         resumptions = λ d d_low d_high other. refl;
-      }) (has_sent_holds (channel_id c) (kind_of p) (head_in items) (backlog_in items) w.sender rest first sound.queue)
+      }) (has_sent_holds (channel_id c) (sent_kind p) (head_in items) (backlog_in items) w.sender rest first sound.queue)
       (of_channels-append m w.frames (Response c (sequence_of w c) p (backlog_in items) ∷ []) sound.frames (low, high, omega (arith, room, count_by-le-length is_data items), tt))
       sound.controls
       (λ c_low c_high. is_sound_lane c v w.size (partition_limit w) lane (sent_by s.reader p items) (responses c w.frames ++ (s.reader.sequence, p) ∷ []) (credit_coming c w.controls) (resumptions_coming c w.controls)

@@ -12,7 +12,7 @@ use Rattle.credit_reader.specs.Readers.{Sent, May, may_go, cost, is_due}
 use Rattle.credit_reader.specs.Senders.{reader_of}
 use Rattle.exchange_world.specs.Lanes.{channel_id, head_in, backlog_in}
 use Rattle.exchange_world.specs.Worlds.{lane_of}
-use Rattle.exchange_world.specs.Steps.{number_of, kind_of}
+use Rattle.exchange_world.specs.Steps.{number_of, sent_kind}
 use Rattle.exchange_world.specs.Laws.{SoundHasTurns, SoundNumbersReaders}
 use Rattle.exchange_world.proofs.QueueLemmas.{has_first, number_found, same_cons, no_cons}
 use Rattle.exchange_world.proofs.SendingLemmas.{can_send_parts, costs}
@@ -37,7 +37,7 @@ sound_has_turns m w id sound turn =
     let same : s.reader ≡ r = same_Some _ _ (sym s.found ∙ ap (λ i. reader_of i w.sender.readers) id_is ∙ found.1) in
     let goes : may_go s.reader.head s.reader.credit ≡ true = subst (λ t. may_go t.head t.credit ≡ true) (sym same) (can_send_parts r found.2.can).goes in
     let item = some_item (lane_of w (number_of id)).items s.reader.head s.reader.credit s.sender.head_is goes in
-    let pays : cost (kind_of item.0) ≤ s.reader.credit = costs item.0 item.1 s.reader.head s.reader.credit (s.sender.head_is ∙ ap head_in item.2) goes in
+    let pays : cost (sent_kind item.0) ≤ s.reader.credit = costs item.0 item.1 s.reader.head s.reader.credit (s.sender.head_is ∙ ap head_in item.2) goes in
     record {
       low = low;
       high = high;
@@ -45,7 +45,7 @@ sound_has_turns m w id sound turn =
       first = item.0;
       rest = item.1;
       items = item.2;
-      may = subst (λ o. IsSomeAnd o (λ (t : Reader). May t (Sent (kind_of item.0) (head_in item.1) (backlog_in item.1)))) (sym found.1) (subst (λ (t : Reader). cost (kind_of item.0) ≤ t.credit) same pays);
+      may = subst (λ o. IsSomeAnd o (λ (t : Reader). May t (Sent (sent_kind item.0) (head_in item.1) (backlog_in item.1)))) (sym found.1) (subst (λ (t : Reader). cost (sent_kind item.0) ≤ t.credit) same pays);
     }
 
 -- a reader that is found by a test has a number

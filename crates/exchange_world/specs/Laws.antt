@@ -11,7 +11,7 @@ use Rattle.script_text.specs.declared.event.Event.{Event}
 use Rattle.script_text.specs.Scripts.{IsEvent}
 use Rattle.exchange_world.specs.Lanes.{channel_id, backlog_in, head_in}
 use Rattle.exchange_world.specs.Worlds.{World, opened, lane_of}
-use Rattle.exchange_world.specs.Steps.{step, number_of, kind_of}
+use Rattle.exchange_world.specs.Steps.{step, number_of, sent_kind}
 use Rattle.exchange_world.specs.Theorems.{CanOpen, FramesAreTaken, LendsWithin}
 use Rattle.exchange_world.specs.Sound.{IsSound}
 
@@ -35,7 +35,7 @@ pub record HasTurn (m : ℕ) (w : World) (id : ChannelId) : Type 0 where
   pub first : Parcel
   pub rest : List Parcel
   pub items : (lane_of w (number_of id)).items ≡ first ∷ rest
-  pub may : MayHappen id (Sent (kind_of first) (head_in rest) (backlog_in rest)) w.sender
+  pub may : MayHappen id (Sent (sent_kind first) (head_in rest) (backlog_in rest)) w.sender
 
 abbrev pub SoundHasTurns : Type 0
 SoundHasTurns = (m : ℕ) (w : World) (id : ChannelId) → IsSound m w → slice_get w.sender.queue 0 ≡ Some id → HasTurn m w id

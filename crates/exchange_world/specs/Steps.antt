@@ -20,7 +20,7 @@ use Rattle.input_channel.specs.declared.entry.Gave.{Gave}
 use Rattle.input_channel.specs.declared.entry.Gave.TheVariants as gaves
 use Rattle.input_channel.specs.Inboxes.{poll_gives}
 use Rattle.input_channel.specs.Counts.{wants, told, gave_by}
-use Rattle.input_channel.specs.States.{ChannelState, after}
+use Rattle.input_channel.specs.States.{ChannelState, channel_next}
 use Rattle.script_text.specs.declared.event.Event.{Event}
 use Rattle.script_text.specs.declared.event.Event.TheVariants as events
 use Rattle.script_text.specs.declared.reply.Reply.{Reply}
@@ -84,11 +84,11 @@ abbrev pub number_of : ChannelId → ℕ
 number_of id = suc id.from
 
 -- What is sent where this item is.
-abbrev pub kind_of : Parcel → SentKind
-kind_of (parcels.Data bytes) = sent.Buffer
-kind_of (parcels.Barrier k Inline) = sent.Inline
-kind_of (parcels.Barrier k Front) = sent.Front
-kind_of parcels.End = sent.End
+abbrev pub sent_kind : Parcel → SentKind
+sent_kind (parcels.Data bytes) = sent.Buffer
+sent_kind (parcels.Barrier k Inline) = sent.Inline
+sent_kind (parcels.Barrier k Front) = sent.Front
+sent_kind parcels.End = sent.End
 
 -- The number of the next item of a channel.
 abbrev pub sequence_of : World → ℕ → ℕ
@@ -99,10 +99,10 @@ abbrev pub sends_first : World → ℕ → List Parcel → World × Reply
 sends_first w c [] = (w, replies.Nothing)
 sends_first w c (p ∷ items) = (
   record (with_lane w c (record (lane_of w c) { items = items })) {
-    sender = has_sent (channel_id c) (kind_of p) (head_in items) (backlog_in items) w.sender;
+    sender = has_sent (channel_id c) (sent_kind p) (head_in items) (backlog_in items) w.sender;
     frames = w.frames ++ Response c (sequence_of w c) p (backlog_in items) ∷ [];
   },
-  replies.Frame c (sequence_of w c) (kind_of p) (content_len p) (backlog_in items),
+  replies.Frame c (sequence_of w c) (sent_kind p) (content_len p) (backlog_in items),
 )
 
 -- The first channel of the queue sends one item.
@@ -126,11 +126,11 @@ obeys w (Resumption c ∷ controls) = (record w { sender = happened (channel_id 
 
 -- A channel's receiving end takes an entry, or several.
 abbrev pub receives : World → ℕ → ReceiveEntry → World
-receives w c e = with_lane w c (record (lane_of w c) { inbox = after (lane_of w c).inbox e })
+receives w c e = with_lane w c (record (lane_of w c) { inbox = channel_next (lane_of w c).inbox e })
 
 abbrev pub after_all : ChannelState → List ReceiveEntry → ChannelState
 after_all inbox [] = inbox
-after_all inbox (e ∷ es) = after_all (after inbox e) es
+after_all inbox (e ∷ es) = after_all (channel_next inbox e) es
 
 -- How many floating buffers a channel gets: as many as it wants, as far as the gate's pool lends them.
 abbrev pub gets : World → ℕ → ℕ
@@ -175,7 +175,7 @@ abbrev pub reads : World → ℕ → Bool → List ℕ → World × Reply
 reads w c hold bytes =
     let lane = lane_of w c in
     let gave = gave_by (Some (parcels.Data bytes)) lane.inbox.counts.held in
-    let inbox = after (after lane.inbox (entries.Poll hold gave)) (entries.Returned (is_exclusive gave)) in
+    let inbox = channel_next (channel_next lane.inbox (entries.Poll hold gave)) (entries.Returned (is_exclusive gave)) in
     (asks (with_lane w c (record lane { inbox = inbox; rest = behind_records (lane.rest ++ bytes) })) c, replies.Data c (length bytes) (listed (records_in (lane.rest ++ bytes))))
 
 -- What a poll gives is told.

@@ -3,5 +3,6 @@ pub mod LineLemmas
 pub mod PartLemmas
 pub mod NumberLemmas
 pub mod TableLemmas
+pub mod ParcelLemmas
 pub mod RowLemmas
 pub mod Examples

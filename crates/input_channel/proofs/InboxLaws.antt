@@ -9,7 +9,7 @@ use Rattle.input_channel.specs.declared.entry.ReceiveEntry.TheVariants.{Push, Po
 use Rattle.input_channel.specs.Inboxes.{front_waits, first_parcel, first_barrier, without_barrier, due, undue, is_barrier, poll_gives, poll_leaves, Arrived, WasPolled, Waits, parcel_of, waiting, poll_first, poll_barrier, poll_due, Inbox, empty_inbox, polled_one, received_one, received_from, inbox, pushed}
 use Rattle.input_channel.specs.Legal.{inline_in}
 use Rattle.input_channel.specs.Theorems.{ArrivalsArePushed, DataComeInOrder, BarriersComeInOrder}
-use Rattle.input_channel.proofs.KeptLemmas.{barriers_of-append}
+use Rattle.flow_defs.proofs.ParcelLemmas.{data_of-append, barriers_of-append}
 
 -- ---- what waits
 
@@ -149,12 +149,6 @@ module _ {X : Type 0} (f : List Parcel → List X) (f-append : (ps qs : List Par
   all_in_order es = all_from empty_inbox es ∙ ap (λ xs. (xs ++ xs) ++ f (pushed es)) f-nil
 
 -- ---- bytes
-
-pub data_of-append : (ps qs : List Parcel) → data_of (ps ++ qs) ≡ data_of ps ++ data_of qs
-data_of-append [] qs = refl
-data_of-append (Data bytes ∷ ps) qs = ap (λ z. bytes ++ z) (data_of-append ps qs) ∙ sym (append_assoc bytes (data_of ps) (data_of qs))
-data_of-append (Barrier k kind ∷ ps) qs = data_of-append ps qs
-data_of-append (End ∷ ps) qs = data_of-append ps qs
 
 data_of-barrier : (ps : List Parcel) → data_of (option_to_list (first_barrier ps)) ≡ []
 data_of-barrier [] = refl

@@ -48,12 +48,6 @@ pub length-kinds : (xs : List HeldBuf) → length (kinds_of xs) ≡ length xs
 length-kinds [] = refl
 length-kinds (x ∷ xs) = let e = length-kinds xs in omega (arith, e)
 
-pub barriers_of-append : (ps qs : List Parcel) → barriers_of (ps ++ qs) ≡ barriers_of ps ++ barriers_of qs
-barriers_of-append [] qs = refl
-barriers_of-append (Data bytes ∷ ps) qs = barriers_of-append ps qs
-barriers_of-append (Barrier k kind ∷ ps) qs = ap (λ bs. (k, kind) ∷ bs) (barriers_of-append ps qs)
-barriers_of-append (End ∷ ps) qs = barriers_of-append ps qs
-
 pub both : {A B C : Type 0} (f : A → B → C) (a c : A) (b d : B) → a ≡ c → b ≡ d → f a b ≡ f c d
 both f a c b d e g = cc
 

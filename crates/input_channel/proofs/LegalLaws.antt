@@ -16,7 +16,7 @@ use Rattle.std.specs.List.{range_with_len}
 use Rattle.input_channel.specs.Legal.{MayReceive, polled_with, returned, gives_kind, returns_kind, credit_of, credit_told}
 use Rattle.input_channel.specs.Theorems.{CreditAgrees, ArrivalsAreNumbered, AnnouncedIsTold, ShutAnnouncesNothing}
 use Rattle.input_channel.proofs.CountLemmas.{count-cons, count-snoc}
-use Rattle.input_channel.proofs.KeptLemmas.{barriers_of-append}
+use Rattle.flow_defs.proofs.ParcelLemmas.{barriers_of-append}
 use Rattle.input_channel.proofs.HistoryLemmas.{history_keeps, count-next}
 use Rattle.input_channel.proofs.InboxLaws.{pushed-append}
 

@@ -20,7 +20,7 @@ use Rattle.input_channel.specs.Lines.{Line}
 use Rattle.input_channel.specs.Kept.{queue_of, AreOfLength}
 use Rattle.std.proofs.lemmas.Bool.{ne_eqb}
 use Rattle.input_channel.proofs.KeptLemmas.{not_lt}
-use Rattle.input_channel.specs.States.{ChannelState, after}
+use Rattle.input_channel.specs.States.{ChannelState, channel_next}
 
 -- ---- the end behind a line
 
@@ -92,14 +92,14 @@ same_credit s p q m n a b e f g = cc
 
 module _ (s : ChannelState) where
   -- nothing is given
-  pub polled_none : (hold : Bool) → poll_gives hold s.queue ≡ None → poll_leaves hold s.queue ≡ s.queue → after s (Poll hold NoBuffer) ≡ s
+  pub polled_none : (hold : Bool) → poll_gives hold s.queue ≡ None → poll_leaves hold s.queue ≡ s.queue → channel_next s (Poll hold NoBuffer) ≡ s
   polled_none hold gives leaves =
       same_state s (poll_leaves hold s.queue) s.queue s.counts s.counts (s.owed + inline_in (option_to_list (poll_gives hold s.queue))) s.owed leaves refl
       (ap (λ p. s.owed + inline_in (option_to_list p)) gives ∙ Rattle.std.proofs.Common.add-zero s.owed)
 
   -- this is given
   pub polled_some : (hold : Bool) (gave : Gave) (p : Parcel) (rest : List Parcel) → poll_gives hold s.queue ≡ Some p → poll_leaves hold s.queue ≡ rest →
-      after s (Poll hold gave) ≡ record s { queue = rest; counts = counts_one s.counts (Poll hold gave); owed = s.owed + inline_in (p ∷ []) }
+      channel_next s (Poll hold gave) ≡ record s { queue = rest; counts = counts_one s.counts (Poll hold gave); owed = s.owed + inline_in (p ∷ []) }
   polled_some hold gave p rest gives leaves =
       same_state s (poll_leaves hold s.queue) rest (counts_one s.counts (Poll hold gave)) (counts_one s.counts (Poll hold gave)) (s.owed + inline_in (option_to_list (poll_gives hold s.queue))) (s.owed + inline_in (p ∷ [])) leaves refl
       (ap (λ q. s.owed + inline_in (option_to_list q)) gives)
@@ -116,7 +116,7 @@ holds_back ps is = (ap (λ b. cond b None (due ps)) is, ap (λ b. cond b ps (und
 -- ---- the credit of a channel that was shut
 
 -- none is told, and the channel stays
-pub tells_nothing : (s : ChannelState) → s.counts.shut ≡ true → s.announced < 2 ^ 64 → after s (Credit 0) ≡ s
+pub tells_nothing : (s : ChannelState) → s.counts.shut ≡ true → s.announced < 2 ^ 64 → channel_next s (Credit 0) ≡ s
 tells_nothing s shut small =
     let none : told s.counts ≡ 0 = ap (λ b. cond b 0 s.counts.pending) shut in
     let left : s.counts.pending - told s.counts ≡ s.counts.pending = omega (arith, none) in

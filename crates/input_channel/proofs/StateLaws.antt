@@ -11,21 +11,15 @@ use Rattle.input_channel.specs.Inboxes.{Waits, waiting, Inbox, inbox, received_o
 use Rattle.input_channel.specs.Counts.{Counts, counts_one, told, wants, gave_by, data_in, exclusive_held, Numbers, numbers, numbers_one}
 use Rattle.turn_cell.specs.History.{IsHistory, entries_of}
 use Rattle.input_channel.specs.Legal.{MayArrive, MayPush, MayReceive, MayReceiveAs, inline_in, is_ask, is_resume, asks, resumes, ReceivedByPasses}
-use Rattle.input_channel.specs.States.{ChannelState, after, Keeps, AllowsPush, Allows}
+use Rattle.input_channel.specs.States.{ChannelState, channel_next, Keeps, AllowsPush, Allows}
 use Rattle.input_channel.specs.Theorems.{OpensEmpty, CallsAreLegal, CallsAddEntries, PollTells, ReturnFits, PassesAreKept, EntriesAreLegal}
 use Rattle.input_channel.proofs.CountLemmas.{count-snoc}
-use Rattle.input_channel.proofs.KeptLemmas.{barriers_of-append}
+use Rattle.flow_defs.proofs.ParcelLemmas.{barriers_of-append, end_behind}
 use Rattle.input_channel.proofs.HistoryLemmas.{history_nil, history_more, history_keeps, entries_of-append, mod_64, mod_32}
 use Rattle.input_channel.proofs.InboxLaws.{inbox-more, pushed-append, waiting-append, polled-waiting, polled-given, inline_in-append}
 use Rattle.input_channel.proofs.LegalLaws.{numbers-more, AreTwo, two_always}
 
 -- ---- what an entry adds
-
-has_end-append : (xs ys : List Parcel) → has_end xs ≡ false → has_end (xs ++ ys) ≡ has_end ys
-has_end-append [] ys h = refl
-has_end-append (Data bytes ∷ xs) ys h = has_end-append xs ys h
-has_end-append (Barrier j kind ∷ xs) ys h = has_end-append xs ys h
-has_end-append (End ∷ xs) ys h = absurd (true≢false h)
 
 record Adds (es : List ReceiveEntry) (e : ReceiveEntry) : Type 0 where
   inboxes : inbox (es ++ e ∷ []) ≡ received_one (inbox es) e
@@ -83,7 +77,7 @@ fits_credit es (Data bytes) credit may e = omega (arith, may, e)
 fits_credit es (Barrier k kind) credit may e = omega arith
 fits_credit es End credit may e = omega arith
 
-push_keeps : (c : ChannelState) (es : List ReceiveEntry) (p : Parcel) (backlog : ℕ) → Keeps c es → MayPush es p → Keeps (after c (Push p backlog)) (es ++ Push p backlog ∷ [])
+push_keeps : (c : ChannelState) (es : List ReceiveEntry) (p : Parcel) (backlog : ℕ) → Keeps c es → MayPush es p → Keeps (channel_next c (Push p backlog)) (es ++ Push p backlog ∷ [])
 push_keeps c es p backlog k may =
     let e : ReceiveEntry = Push p backlog in
     let a = adds es e in
@@ -107,14 +101,14 @@ push_keeps c es p backlog k may =
       next = ap (λ n. (n + 1) % 2 ^ 32) k.next ∙ mod_32 (length (pushed es)) 1 ∙ ap (λ n. n % 2 ^ 32) (sym longer);
       last = ap (λ n. n + length (barriers_of (p ∷ []))) k.last
           ∙ sym (ap (λ ps. length (barriers_of ps)) a.pushes ∙ ap length (barriers_of-append (pushed es) (p ∷ [])) ∙ length-append (barriers_of (pushed es)) (barriers_of (p ∷ [])));
-      ended = sym (ap has_end a.pushes ∙ has_end-append (pushed es) (p ∷ []) may.before_end);
+      ended = sym (ap has_end a.pushes ∙ end_behind (pushed es) (p ∷ []) may.before_end);
       owed = omega (arith, owed, asked, given);
       asked = omega (arith, mine, asked, resumed);
     }
 
 -- ---- a poll
 
-poll_keeps : (c : ChannelState) (es : List ReceiveEntry) (hold : Bool) (gave : Gave) → Keeps c es → Keeps (after c (Poll hold gave)) (es ++ Poll hold gave ∷ [])
+poll_keeps : (c : ChannelState) (es : List ReceiveEntry) (hold : Bool) (gave : Gave) → Keeps c es → Keeps (channel_next c (Poll hold gave)) (es ++ Poll hold gave ∷ [])
 poll_keeps c es hold gave k =
     let e : ReceiveEntry = Poll hold gave in
     let a = adds es e in
@@ -142,7 +136,7 @@ poll_keeps c es hold gave k =
 
 -- ---- credit, and resumptions
 
-credit_keeps : (c : ChannelState) (es : List ReceiveEntry) (told_now : ℕ) → Keeps c es → Keeps (after c (Credit told_now)) (es ++ Credit told_now ∷ [])
+credit_keeps : (c : ChannelState) (es : List ReceiveEntry) (told_now : ℕ) → Keeps c es → Keeps (channel_next c (Credit told_now)) (es ++ Credit told_now ∷ [])
 credit_keeps c es told_now k =
     let e : ReceiveEntry = Credit told_now in
     let a = adds es e in
@@ -201,7 +195,7 @@ steady c es e k none still same =
       given = ap (λ (i : Inbox). inline_in i.given) at;
     }
 
-ask_keeps : (c : ChannelState) (es : List ReceiveEntry) → Keeps c es → asks es < inline_in (inbox es).given → Keeps (after c Ask) (es ++ Ask ∷ [])
+ask_keeps : (c : ChannelState) (es : List ReceiveEntry) → Keeps c es → asks es < inline_in (inbox es).given → Keeps (channel_next c Ask) (es ++ Ask ∷ [])
 ask_keeps c es k may =
     let a = adds es Ask in
     let s = steady c es Ask k refl refl refl in
@@ -223,7 +217,7 @@ ask_keeps c es k may =
       asked = omega (arith, mine, asked, resumed);
     }
 
-resume_keeps : (c : ChannelState) (es : List ReceiveEntry) → Keeps c es → resumes es < asks es → Keeps (after c Resume) (es ++ Resume ∷ [])
+resume_keeps : (c : ChannelState) (es : List ReceiveEntry) → Keeps c es → resumes es < asks es → Keeps (channel_next c Resume) (es ++ Resume ∷ [])
 resume_keeps c es k may =
     let a = adds es Resume in
     let s = steady c es Resume k refl refl refl in
@@ -245,7 +239,7 @@ resume_keeps c es k may =
       asked = omega (arith, mine, asked, resumed, may);
     }
 
-step_keeps : (room : ℕ) (c : ChannelState) (es : List ReceiveEntry) (e : ReceiveEntry) → Keeps c es → MayReceive room es e → Keeps (after c e) (es ++ e ∷ [])
+step_keeps : (room : ℕ) (c : ChannelState) (es : List ReceiveEntry) (e : ReceiveEntry) → Keeps c es → MayReceive room es e → Keeps (channel_next c e) (es ++ e ∷ [])
 step_keeps room c es (Push p backlog) k may = push_keeps c es p backlog k may
 step_keeps room c es (Poll hold gave) k may = poll_keeps c es hold gave k
 step_keeps room c es (Returned exclusive) k may = quiet c es (Returned exclusive) k refl refl refl refl refl
@@ -256,7 +250,7 @@ step_keeps room c es Shut k may = quiet c es Shut k refl refl refl refl refl
 step_keeps room c es Ask k may = ask_keeps c es k may
 step_keeps room c es Resume k may = resume_keeps c es k may
 
-same_room : (c : ChannelState) (e : ReceiveEntry) → (after c e).room ≡ c.room
+same_room : (c : ChannelState) (e : ReceiveEntry) → (channel_next c e).room ≡ c.room
 same_room c (Push p backlog) = refl
 same_room c (Poll hold gave) = refl
 same_room c (Returned exclusive) = refl
@@ -278,7 +272,7 @@ opens_empty size room = record {
 pub calls_add_entries : CallsAddEntries
 calls_add_entries c pairs n e stands may = record {
   legal = subst (λ r. IsHistory (MayReceiveAs r) (pairs ++ (n, e) ∷ [])) (sym (same_room c e)) (history_more (MayReceiveAs c.room) pairs (n, e) stands.legal may);
-  keeps = subst (Keeps (after c e)) (sym (entries_of-append pairs ((n, e) ∷ []))) (step_keeps c.room c (entries_of pairs) e stands.keeps may.1);
+  keeps = subst (Keeps (channel_next c e)) (sym (entries_of-append pairs ((n, e) ∷ []))) (step_keeps c.room c (entries_of pairs) e stands.keeps may.1);
 }
 
 push_is_legal : (c : ChannelState) (es : List ReceiveEntry) (p : Parcel) → Keeps c es → AllowsPush c p → MayArrive es p

@@ -76,7 +76,7 @@ AreOfLength size (buf ∷ buffers) = (length buf.segment ≡ size) × AreOfLengt
 -- The rings have places for all buffers that a channel may have; the free buffers are the credit that is open
 -- and the credit to announce; there are resumptions for no more barriers than came; and what is kept in 64 bits
 -- fits there.
-pub record IsKept (c : Parts) : Type 0 where
+pub record ArePartsKept (c : Parts) : Type 0 where
   pub exclusive_places : c.exclusive.capacity ≡ 2
   pub floating_places : c.floating.capacity ≡ c.room
   pub queue_places : c.queue.room ≡ c.room

@@ -47,8 +47,8 @@ opening size room = record {
 }
 
 -- The channel after an entry.
-abbrev pub after : ChannelState → ReceiveEntry → ChannelState
-after c (Push p backlog) = record c {
+abbrev pub channel_next : ChannelState → ReceiveEntry → ChannelState
+channel_next c (Push p backlog) = record c {
   queue = c.queue ++ p ∷ [];
   counts = counts_one c.counts (Push p backlog);
   credit = c.credit - data_in p;
@@ -57,19 +57,19 @@ after c (Push p backlog) = record c {
   last = c.last + length (barriers_of (p ∷ []));
   ended = has_end (p ∷ []);
 }
-after c (Poll hold gave) = record c {
+channel_next c (Poll hold gave) = record c {
   queue = poll_leaves hold c.queue;
   counts = counts_one c.counts (Poll hold gave);
   owed = c.owed + inline_in (option_to_list (poll_gives hold c.queue));
 }
-after c (Credit given) = record c {
+channel_next c (Credit given) = record c {
   counts = counts_one c.counts (Credit given);
   credit = c.credit + told c.counts;
   announced = (c.announced + told c.counts) % 2 ^ 64;
 }
-after c Ask = record c { owed = c.owed - 1; asked = c.asked + 1 }
-after c Resume = record c { asked = c.asked - 1 }
-after c e = record c { counts = counts_one c.counts e }
+channel_next c Ask = record c { owed = c.owed - 1; asked = c.asked + 1 }
+channel_next c Resume = record c { asked = c.asked - 1 }
+channel_next c e = record c { counts = counts_one c.counts e }
 
 -- The exclusive buffers that are free or wait with data. The others are out with the caller.
 abbrev pub exclusive_here : ChannelState → ℕ
@@ -101,7 +101,7 @@ pub record Keeps (c : ChannelState) (es : List ReceiveEntry) : Type 0 where
 
 -- The history is legal, and the channel keeps what it tells. So it is known of each entry of a closed cell
 -- that it was allowed.
-pub record StandsFor (c : ChannelState) (pairs : List (ℕ × ReceiveEntry)) : Type 0 where
+pub record ChannelStandsFor (c : ChannelState) (pairs : List (ℕ × ReceiveEntry)) : Type 0 where
   pub legal : IsHistory (MayReceiveAs c.room) pairs
   pub keeps : Keeps c (entries_of pairs)
 

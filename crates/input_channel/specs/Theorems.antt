@@ -14,7 +14,7 @@ use Rattle.input_channel.specs.Counts.{free, numbers}
 use Rattle.turn_cell.specs.History.{IsHistory, entries_of}
 use Rattle.std.specs.List.{range_with_len}
 use Rattle.input_channel.specs.Legal.{MayReceive, MayReceiveAs, ReceivedByPasses, returned, polled_with, asks, credit_told}
-use Rattle.input_channel.specs.States.{ChannelState, opening, after, StandsFor, Allows, exclusive_here}
+use Rattle.input_channel.specs.States.{ChannelState, opening, channel_next, ChannelStandsFor, Allows, exclusive_here}
 
 -- ---- of every history
 
@@ -59,33 +59,33 @@ EndIsGivenLast = (room : ℕ) (es : List ReceiveEntry) → IsHistory (MayReceive
 
 -- A channel that was opened stands for no entry.
 abbrev pub OpensEmpty : Type 0
-OpensEmpty = (size room : ℕ) → StandsFor (opening size room) []
+OpensEmpty = (size room : ℕ) → ChannelStandsFor (opening size room) []
 
 -- What a call asks is what the history asks.
 abbrev pub CallsAreLegal : Type 0
 CallsAreLegal = (c : ChannelState) (pairs : List (ℕ × ReceiveEntry)) (e : ReceiveEntry) →
-    StandsFor c pairs → Allows c (entries_of pairs) e → MayReceive c.room (entries_of pairs) e
+    ChannelStandsFor c pairs → Allows c (entries_of pairs) e → MayReceive c.room (entries_of pairs) e
 
 -- Each entry is one that its pass makes, and the entries alone are legal too.
 abbrev pub PassesAreKept : Type 0
-PassesAreKept = (c : ChannelState) (pairs : List (ℕ × ReceiveEntry)) → StandsFor c pairs → ReceivedByPasses pairs
+PassesAreKept = (c : ChannelState) (pairs : List (ℕ × ReceiveEntry)) → ChannelStandsFor c pairs → ReceivedByPasses pairs
 
 abbrev pub EntriesAreLegal : Type 0
-EntriesAreLegal = (c : ChannelState) (pairs : List (ℕ × ReceiveEntry)) → StandsFor c pairs → IsHistory (MayReceive c.room) (entries_of pairs)
+EntriesAreLegal = (c : ChannelState) (pairs : List (ℕ × ReceiveEntry)) → ChannelStandsFor c pairs → IsHistory (MayReceive c.room) (entries_of pairs)
 
 -- A call adds its entry.
 abbrev pub CallsAddEntries : Type 0
 CallsAddEntries = (c : ChannelState) (pairs : List (ℕ × ReceiveEntry)) (n : ℕ) (e : ReceiveEntry) →
-    StandsFor c pairs → MayReceiveAs c.room pairs (n, e) → StandsFor (after c e) (pairs ++ (n, e) ∷ [])
+    ChannelStandsFor c pairs → MayReceiveAs c.room pairs (n, e) → ChannelStandsFor (channel_next c e) (pairs ++ (n, e) ∷ [])
 
 -- What a poll answers is given next.
 abbrev pub PollTells : Type 0
-PollTells = (c : ChannelState) (pairs : List (ℕ × ReceiveEntry)) (hold : Bool) (gave : Gave) → StandsFor c pairs →
+PollTells = (c : ChannelState) (pairs : List (ℕ × ReceiveEntry)) (hold : Bool) (gave : Gave) → ChannelStandsFor c pairs →
     (inbox (entries_of pairs ++ Poll hold gave ∷ [])).given ≡ (inbox (entries_of pairs)).given ++ option_to_list (poll_gives hold c.queue)
 
 -- An exclusive buffer that was given and has not come back is not there.
 abbrev pub ReturnFits : Type 0
-ReturnFits = (c : ChannelState) (pairs : List (ℕ × ReceiveEntry)) → StandsFor c pairs →
+ReturnFits = (c : ChannelState) (pairs : List (ℕ × ReceiveEntry)) → ChannelStandsFor c pairs →
     returned true (entries_of pairs) < polled_with true (entries_of pairs) → exclusive_here c < 2
 
 -- ---- of answers

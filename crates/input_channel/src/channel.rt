@@ -6,7 +6,7 @@ ghost use Rattle.input_channel.specs.Inboxes.{front_waits};
 ghost use Rattle.input_channel.specs.Counts.{free, floating_held, wants, told, lets_go};
 ghost use Rattle.input_channel.specs.Legal.{owes};
 ghost use Rattle.input_channel.specs.Kept.{empty_parts};
-ghost use Rattle.input_channel.specs.States.{opening, after, exclusive_here, segments_here};
+ghost use Rattle.input_channel.specs.States.{opening, channel_next, exclusive_here, segments_here};
 ghost use Rattle.input_channel.specs.declared.arrival.ArrivalKind.TheVariants as kinds;
 ghost use Rattle.input_channel.specs.Answers.{parcel_in, kind_refused, refused, IsFault, gave_of, IsAnswer, IsAnswerable};
 ghost use Rattle.input_channel.specs.Steps.{with_data_in, with_barrier_in, IsBarrierFault};
@@ -45,13 +45,13 @@ pub struct InputChannel {
 
 impl Model for InputChannel {
     ghost use Rattle.input_channel.specs.States.{ChannelState};
-    ghost use Rattle.input_channel.specs.Kept.{state_of, IsKept};
+    ghost use Rattle.input_channel.specs.Kept.{state_of, ArePartsKept};
 
     ghost Value = { ChannelState };
 
     ghost view = { λ c. state_of c.parts.value };
 
-    ghost invariant = { λ c. IsKept c.parts.value };
+    ghost invariant = { λ c. ArePartsKept c.parts.value };
 }
 
 // The fields of a channel that has no buffer yet. They have the two credits of the buffers that come.
@@ -140,7 +140,7 @@ impl InputChannel {
     /// nothing where another kind arrives.
     pub fn accept(&mut self, a: Arrival, bytes: &[u8]) -> Result<(), AcceptFault>
         requires { a.backlog < 2 ^ 31 }
-        ensures accepted { OnOk result ((refused self.old a bytes.now ≡ None) × (self.new ≡ after self.old (entries.Push (parcel_in a.what bytes.now) a.backlog))) }
+        ensures accepted { OnOk result ((refused self.old a bytes.now ≡ None) × (self.new ≡ channel_next self.old (entries.Push (parcel_in a.what bytes.now) a.backlog))) }
         ensures refused { IfErr result (λ fault. (self.new ≡ self.old) × IsFault self.old a bytes.now fault) }
     {
         if a.sequence != self.parts.next {
@@ -212,7 +212,7 @@ impl InputChannel {
     /// Obeys a backlog announcement.
     pub fn on_backlog(&mut self, n: u32)
         requires { n < 2 ^ 31 }
-        ensures { self.new ≡ after self.old (entries.Backlog n) }
+        ensures { self.new ≡ channel_next self.old (entries.Backlog n) }
     {
         let parts = &mut *self.parts;
         parts.required = n + 2;
@@ -235,7 +235,7 @@ impl InputChannel {
     pub fn add_floating(&mut self, segment: Segment)
         requires wanted { 0 < wants self.old.room self.old.counts }
         requires size { length segment ≡ self.old.size }
-        ensures { self.new ≡ after self.old entries.Added }
+        ensures { self.new ≡ channel_next self.old entries.Added }
     {
         let parts = &mut *self.parts;
         parts.floating.push_back(segment);
@@ -248,7 +248,7 @@ impl InputChannel {
         ensures answered { IsOk result }
         ensures answer { IfOk result (λ polled. IsAnswer hold self.old polled) }
         ensures answerable { IfOk result (λ polled. IsAnswerable polled self.new) }
-        ensures channel { IfOk result (λ polled. self.new ≡ after self.old (entries.Poll hold (gave_of polled))) }
+        ensures channel { IfOk result (λ polled. self.new ≡ channel_next self.old (entries.Poll hold (gave_of polled))) }
     {
         let parts = &mut *self.parts;
         if let Some((k, kind)) = parts.queue.due_barrier() {
@@ -288,7 +288,7 @@ impl InputChannel {
     pub fn recycle(&mut self, buf: HeldBuf) -> Option<Segment>
         requires size { length buf.segment ≡ self.old.size }
         requires given { buf.exclusive ≡ true → exclusive_here self.old < 2 }
-        ensures channel { self.new ≡ after self.old (entries.Returned buf.exclusive) }
+        ensures channel { self.new ≡ channel_next self.old (entries.Returned buf.exclusive) }
         ensures size { IfSome result (λ segment. length segment ≡ self.old.size) }
         ensures floating { buf.exclusive ≡ false → result ≡ Some buf.segment }
         ensures exclusive { buf.exclusive ≡ true → (IsSome result ↔ (lets_go self.old.counts ≡ true)) }
@@ -316,7 +316,7 @@ impl InputChannel {
     pub fn take_credit(&mut self) -> u32
         ensures told { result ≡ told self.old.counts }
         ensures fits { result < 2 ^ 31 }
-        ensures channel { self.new ≡ after self.old (entries.Credit result) }
+        ensures channel { self.new ≡ channel_next self.old (entries.Credit result) }
         ensures none { result ≡ 0 → self.new ≡ self.old }
     {
         let parts = &mut *self.parts;
@@ -333,7 +333,7 @@ impl InputChannel {
     /// Ends the announcing of credit.
     pub fn shut(&mut self)
         requires { self.old.credit ≡ 0 }
-        ensures { self.new ≡ after self.old entries.Shut }
+        ensures { self.new ≡ channel_next self.old entries.Shut }
     {
         let parts = &mut *self.parts;
         parts.is_shut = true;
@@ -349,7 +349,7 @@ impl InputChannel {
     /// Asks for one resumption, for an inline barrier that was polled.
     pub fn ask_resume(&mut self)
         requires { 0 < self.old.owed }
-        ensures { self.new ≡ after self.old entries.Ask }
+        ensures { self.new ≡ channel_next self.old entries.Ask }
     {
         let parts = &mut *self.parts;
         parts.owed -= 1;
@@ -359,7 +359,7 @@ impl InputChannel {
     /// Takes a resumption, to tell the sender, if one was asked for.
     pub fn take_resume(&mut self) -> bool
         ensures taken { result ≡ nat_lt 0 self.old.asked }
-        ensures channel { self.new ≡ after self.old entries.Resume }
+        ensures channel { self.new ≡ channel_next self.old entries.Resume }
     {
         let parts = &mut *self.parts;
         if parts.asked == 0 {
@@ -405,9 +405,9 @@ impl Turned for InputChannel {
 
     type Fixed = u32;
 
-    ghost use Rattle.input_channel.specs.States.{StandsFor};
+    ghost use Rattle.input_channel.specs.States.{ChannelStandsFor};
 
-    ghost stands = { λ channel pairs. StandsFor channel pairs };
+    ghost stands = { λ channel pairs. ChannelStandsFor channel pairs };
 
     ghost fixed = { λ channel. channel.size };
 }

@@ -8,6 +8,7 @@ use Rattle.std.proofs.lemmas.Nat.{from_be_bytes-to_be_bytes_4}
 use Rattle.std.proofs.lemmas.Bool.{le-ltb, or_from, cond-false, cond-true}
 use Rattle.std.proofs.lemmas.List.{take_at, drop_at, length-take-le, length-drop, take-append-drop}
 use Rattle.std.proofs.lemmas.List.Concat.{flat_map-append}
+use Rattle.flow_defs.proofs.ParcelLemmas.{data_of-append, end_stays}
 use Rattle.flow_defs.specs.declared.TheConstants.{RECORD_MAX}
 use Rattle.flow_defs.specs.Records.{length_bytes, encoded, all_encoded, spans, spans_within, first_record, IsShort}
 use Rattle.flow_defs.specs.declared.parcel.Parcel.{Parcel}
@@ -118,12 +119,6 @@ past-append bytes (Barrier k Inline ∷ ps) qs = ap (λ l. map Line (spans bytes
 past-append bytes (Barrier k Front ∷ ps) qs = past-append bytes ps qs
 past-append bytes (End ∷ ps) qs = past-append bytes ps qs
 
-data_of-append : (ps qs : List Parcel) → data_of (ps ++ qs) ≡ data_of ps ++ data_of qs
-data_of-append [] qs = refl
-data_of-append (Data b ∷ ps) qs = ap (λ l. b ++ l) (data_of-append ps qs) ∙ sym (append_assoc b (data_of ps) (data_of qs))
-data_of-append (Barrier k kind ∷ ps) qs = data_of-append ps qs
-data_of-append (End ∷ ps) qs = data_of-append ps qs
-
 pub inline_in-append : (ps qs : List Parcel) → inline_in (ps ++ qs) ≡ inline_in ps + inline_in qs
 inline_in-append [] qs = sym (omega arith)
 inline_in-append (Data b ∷ ps) qs = inline_in-append ps qs
@@ -172,14 +167,8 @@ has_end-end (End ∷ ps) = refl
 pub ends_at : (ps ps' : List Parcel) → ps' ≡ ps ++ End ∷ [] → has_end ps' ≡ true
 ends_at ps ps' e = ap has_end e ∙ has_end-end ps
 
-has_end-more : (ps qs : List Parcel) → has_end ps ≡ true → has_end (ps ++ qs) ≡ true
-has_end-more [] qs h = absurd (Rattle.std.proofs.Common.true≢false (sym h))
-has_end-more (Data b ∷ ps) qs h = has_end-more ps qs h
-has_end-more (Barrier k kind ∷ ps) qs h = has_end-more ps qs h
-has_end-more (End ∷ ps) qs h = refl
-
 pub ends_still : (ps ps' qs : List Parcel) → ps' ≡ ps ++ qs → has_end ps ≡ true → has_end ps' ≡ true
-ends_still ps ps' qs e h = ap has_end e ∙ has_end-more ps qs h
+ends_still ps ps' qs e h = ap has_end e ∙ end_stays ps qs h
 
 -- ---- what was given
 

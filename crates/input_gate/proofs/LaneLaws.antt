@@ -17,7 +17,7 @@ use Rattle.input_channel.specs.declared.entry.ReceiveEntry.TheVariants.{Poll, Re
 use Rattle.input_channel.specs.declared.held.HeldBuf.{HeldBuf}
 use Rattle.input_channel.specs.Contents.{content}
 use Rattle.input_channel.specs.Legal.{gives_kind, returns_kind, is_ask, polled_with, returned, asks, inline_in}
-use Rattle.input_channel.proofs.KeptLemmas.{barriers_of-append}
+use Rattle.flow_defs.proofs.ParcelLemmas.{barriers_of-append}
 use Rattle.input_gate.specs.declared.lane.Lane.{Lane}
 use Rattle.input_gate.specs.Gates.{Line}
 use Rattle.input_gate.specs.Turning.{InputPass, IsGatePass, IsEven, IsLater, NoFront, given_to}

@@ -20,11 +20,11 @@ use Rattle.input_channel.specs.Answers.{given_by, IsAnswer}
 use Rattle.input_channel.specs.Counts.{Counts, Numbers, at_opening, numbers, numbers_one, numbers_from, lets_go, frees, freed, freed_from}
 use Rattle.input_channel.specs.Inboxes.{inbox, Inbox, received_one, waiting, front_waits, due, first_barrier, poll_gives}
 use Rattle.input_channel.specs.Legal.{may_receive, ReceivedByPasses, polled_with, returned, asks, inline_in}
-use Rattle.input_channel.specs.States.{ChannelState, StandsFor, Allows, after}
+use Rattle.input_channel.specs.States.{ChannelState, ChannelStandsFor, Allows, channel_next}
 use Rattle.input_channel.specs.Theorems.{CallsAreLegal, CallsAddEntries, PassesAreKept, EntriesAreLegal, PollTells, GivenStays, GateTellsBuffers, BarriersComeInOrder, ArrivalsAreNumbered, AnswerIsGiven}
 use Rattle.input_channel.proofs.HistoryLemmas.{entries_of-append}
 use Rattle.input_channel.proofs.InboxLaws.{inbox-more}
-use Rattle.input_channel.proofs.KeptLemmas.{barriers_of-append}
+use Rattle.flow_defs.proofs.ParcelLemmas.{barriers_of-append}
 use Rattle.input_gate.specs.Segments.{freed_by}
 use Rattle.input_gate.specs.Turning.{InputPass, IsLater, given_in, given_to, looks_of, Fits, NoFront, Looked}
 
@@ -128,7 +128,7 @@ pub record Begun (p t : InputPass) (state : ChannelState) : Type 0 where
   pub looked : HasSighted p t
   pub own_before : by (number p) (seen p) ≡ mine p
   pub own : by (number t) (seen t) ≡ mine t
-  pub stands : StandsFor state (seen t)
+  pub stands : ChannelStandsFor state (seen t)
 
 module _ (p t : InputPass) (state : ChannelState) (b : Begun p t state) where
   own_seen : by 0 (seen t) ≡ mine p
@@ -137,12 +137,12 @@ module _ (p t : InputPass) (state : ChannelState) (b : Begun p t state) where
   pub begun_given : GivenStays → PassesAreKept → given_in (seen t) ≡ given_in (seen p)
   begun_given stays kept = same_given stays (seen p) (seen t) (mine p) (kept state (seen t) b.stands) (ap (λ n. by n (seen p)) (sym b.first) ∙ b.own_before) own_seen b.later
 
-  pub state_after : (legal : CallsAreLegal) (adds : CallsAddEntries) (old new : ChannelState) (e : ReceiveEntry) → old ≡ state → may_receive 0 e ≡ true → Allows old (entries_of (seen t)) e → new ≡ after old e →
-      StandsFor new (seen t ++ (number t, e) ∷ [])
+  pub state_after : (legal : CallsAreLegal) (adds : CallsAddEntries) (old new : ChannelState) (e : ReceiveEntry) → old ≡ state → may_receive 0 e ≡ true → Allows old (entries_of (seen t)) e → new ≡ channel_next old e →
+      ChannelStandsFor new (seen t ++ (number t, e) ∷ [])
   state_after legal adds old new e is may allows made =
-      let s = subst (λ c. StandsFor c (seen t)) (sym is) b.stands in
-      subst (λ m. StandsFor new (seen t ++ (m, e) ∷ [])) (sym (b.same.0 ∙ b.first))
-      (subst (λ c. StandsFor c (seen t ++ (0, e) ∷ [])) (sym made) (adds old (seen t) 0 e s (may, legal old (seen t) e s allows)))
+      let s = subst (λ c. ChannelStandsFor c (seen t)) (sym is) b.stands in
+      subst (λ m. ChannelStandsFor new (seen t ++ (m, e) ∷ [])) (sym (b.same.0 ∙ b.first))
+      (subst (λ c. ChannelStandsFor c (seen t ++ (0, e) ∷ [])) (sym made) (adds old (seen t) 0 e s (may, legal old (seen t) e s allows)))
 
   pub more : (q : InputPass) (e : ReceiveEntry) → HasEntered e t q → IsLater p q
   more q e h = (starts_more (seen p) (seen t) (seen q) (number t, e) b.later h.1, (seen t ∷ [], h.3 ∙ b.looked))
@@ -179,7 +179,7 @@ module _ (p t : InputPass) (state : ChannelState) (b : Begun p t state) where
   pub polled_given : GivenStays → PassesAreKept → PollTells → AnswerIsGiven → (q : InputPass) (old : ChannelState) (hold : Bool) (polled : Polled) (gave : Gave) → old ≡ state → IsAnswer hold old polled →
       HasEntered (Poll hold gave) t q → given_to q ≡ given_to p ++ option_to_list (given_by polled)
   polled_given stays kept tells answers q old hold polled gave is answer h =
-      ap given_in h.1 ∙ ap (λ es. (inbox es).given) (entries_end (seen t) (number t) (Poll hold gave)) ∙ tells old (seen t) hold gave (subst (λ c. StandsFor c (seen t)) (sym is) b.stands)
+      ap given_in h.1 ∙ ap (λ es. (inbox es).given) (entries_end (seen t) (number t) (Poll hold gave)) ∙ tells old (seen t) hold gave (subst (λ c. ChannelStandsFor c (seen t)) (sym is) b.stands)
       ∙ ap (λ o. given_in (seen t) ++ option_to_list o) (sym (answers old hold polled answer)) ∙ ap (λ g. g ++ option_to_list (given_by polled)) (begun_given stays kept)
 
   pub out_here : PassesAreKept → GateTellsBuffers → (exclusive : Bool) → returned exclusive (mine p) < polled_with exclusive (mine p) → returned exclusive (entries_of (seen t)) < polled_with exclusive (entries_of (seen t))
@@ -223,7 +223,7 @@ number_at (x ∷ xs) ys k kind m (suc n) e =
     omega (arith, r)
 
 pub next_number : BarriersComeInOrder → ArrivalsAreNumbered → EntriesAreLegal → (state : ChannelState) (now : List (ℕ × ReceiveEntry)) (given : List Parcel) (k : ℕ) (kind : BarrierKind) →
-    StandsFor state now → given_in now ≡ given ++ Barrier k kind ∷ [] → k ≡ suc (length (barriers_of given))
+    ChannelStandsFor state now → given_in now ≡ given ++ Barrier k kind ∷ [] → k ≡ suc (length (barriers_of given))
 next_number ordered numbered legal state now given k kind stands is =
     let order = ordered (entries_of now) in
     let here = ap barriers_of is ∙ barriers_of-append given (Barrier k kind ∷ []) in

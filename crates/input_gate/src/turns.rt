@@ -9,7 +9,7 @@ ghost use Rattle.input_channel.specs.declared.entry.Gave.TheVariants.{NoBuffer};
 ghost use Rattle.input_channel.specs.declared.entry.ReceiveEntry.TheVariants.{Poll, Returned, Added, Ask};
 ghost use Rattle.input_channel.specs.Answers.{gave_of, given_by};
 ghost use Rattle.input_channel.specs.Legal.{polled_with, returned, asks, inline_in};
-ghost use Rattle.input_channel.specs.States.{StandsFor};
+ghost use Rattle.input_channel.specs.States.{ChannelStandsFor};
 ghost use Rattle.input_gate.specs.Segments.{freed_by};
 ghost use Rattle.input_gate.specs.Turning.{IsGatePass, IsLater, Fits, Looked, NoFront, given_to, looks_of};
 
@@ -28,7 +28,7 @@ use turn_cell::{Named, Turn};
 fn leave_polled<E: Named<ReceiveEntry>>(turn: Turn<InputChannel>, hold: bool, polled: &Polled)
     requires entry { E.entry ≡ Poll hold (gave_of polled.now) }
     requires turn { IsTurnOf turn.cell.now turn.pass.now }
-    requires state { StandsFor turn.state (seen turn.pass.now ++ (number turn.pass.now, Poll hold (gave_of polled.now)) ∷ []) }
+    requires state { ChannelStandsFor turn.state (seen turn.pass.now ++ (number turn.pass.now, Poll hold (gave_of polled.now)) ∷ []) }
     requires size { turn.state.size ≡ (opened_with turn.cell.now).size }
     ensures pass { IsPassOf turn.entry.cell.now turn.exit.1.0.now }
     ensures entered { HasEntered (Poll hold (gave_of polled.now)) turn.entry.pass.now turn.exit.1.0.now }
@@ -42,7 +42,7 @@ fn leave_polled<E: Named<ReceiveEntry>>(turn: Turn<InputChannel>, hold: bool, po
 fn leave_returned<E: Named<ReceiveEntry>>(turn: Turn<InputChannel>, exclusive: bool)
     requires entry { E.entry ≡ Returned exclusive }
     requires turn { IsTurnOf turn.cell.now turn.pass.now }
-    requires state { StandsFor turn.state (seen turn.pass.now ++ (number turn.pass.now, Returned exclusive) ∷ []) }
+    requires state { ChannelStandsFor turn.state (seen turn.pass.now ++ (number turn.pass.now, Returned exclusive) ∷ []) }
     requires size { turn.state.size ≡ (opened_with turn.cell.now).size }
     ensures pass { IsPassOf turn.entry.cell.now turn.exit.1.0.now }
     ensures entered { HasEntered (Returned exclusive) turn.entry.pass.now turn.exit.1.0.now }

@@ -11,7 +11,7 @@ use Rattle.channel_state.specs.ImageFaults.{image_fault}
 use Rattle.channel_state.proofs.AcceptLemmas.{no_fault}
 use Rattle.outside.specs.Keepers.{KeptImage, last_image}
 use Rattle.command_parts.specs.Held.{HoldsLast, HoldsNone, TellsLast}
-use Rattle.inspect_command.specs.Inspects.{IsImageIn, IsKept, IsNoImageAt, Shows, HasNoneToShow}
+use Rattle.inspect_command.specs.Inspects.{IsImageIn, IsImageKept, IsNoImageAt, Shows, HasNoneToShow}
 use Rattle.command_parts.proofs.Options.{none_of_all}
 
 -- no keeper holds both none and a last image
@@ -60,7 +60,7 @@ none_shown images (inr other) P held told last =
     ]
 
 -- an image that is kept can be shown
-pub is_shown : (images : List KeptImage) (kept : KeptImage) (image : Image) → last_image images ≡ Some kept → IsKept kept image → (number place : ℕ) (held : Option (List KeptImage)) → held ≡ Some images →
+pub is_shown : (images : List KeptImage) (kept : KeptImage) (image : Image) → last_image images ≡ Some kept → IsImageKept kept image → (number place : ℕ) (held : Option (List KeptImage)) → held ≡ Some images →
     HoldsLast held (λ k. (k.number ≡ number) × IsNoImageAt place k) → ⊥
 is_shown images kept image last is number place held told fault =
     let there = subst (λ (o : Option (List KeptImage)). HoldsLast o (λ k. (k.number ≡ number) × IsNoImageAt place k)) told fault in

@@ -21,7 +21,7 @@ pub record IsImageIn (kept : KeptImage) (image : Image) : Type 0 where
   pub number : image.number < 2 ^ 64
 
 -- An image is kept: its spelling, under its number.
-pub record IsKept (kept : KeptImage) (image : Image) : Type 0 where
+pub record IsImageKept (kept : KeptImage) (image : Image) : Type 0 where
   pub spelled : IsSpelledBy kept.bytes image
   pub range : HasRange image
   pub number : image.number ≡ kept.number

@@ -43,8 +43,8 @@ edge_from parts = record {
 
 abbrev passes_from : Parts → EdgePasses
 passes_from parts = record {
-  writer = parts.writer;
-  granter = parts.granter;
+  send_items = parts.send_items;
+  read_control = parts.read_control;
   senders = parts.sending.senders;
   takers = parts.sending.group.first;
   sizers = parts.sending.group.second;
@@ -81,10 +81,10 @@ is_edge job e size parts is low are shares =
 
 pub are_passes : (job : Job) (e size : ℕ) (parts : Parts) → AreParts (span_on job e) size parts → ArePassesOf job e (edge_from parts) (passes_from parts)
 are_passes job e size parts are = record {
-  writer = are.writer.0;
-  writer_new = are.writer.1;
-  granter = are.granter.0;
-  granter_new = are.granter.1;
+  send_items = are.send_items.0;
+  send_items_new = are.send_items.1;
+  read_control = are.read_control.0;
+  read_control_new = are.read_control.1;
   senders = are.sending.lists;
   sender = λ a own at. (own_at a own at, own_new a own at);
   takers = are.sending.dealt.first;

@@ -84,10 +84,10 @@ pub record AreGatesAt (cells : List (TurnCell ChannelState ReceiveEntry ℕ)) (f
 -- The passes are those of the edge's cells, by their numbers, and none has made an entry: for each sending task those of its own channels,
 -- for each receiving task those of its gate, and those of the four loops.
 pub record ArePassesOf (job : Job) (e : ℕ) (edge : Edge) (passes : EdgePasses) : Type 0 where
-  pub writer : IsReaderPass edge.readers 0 passes.writer
-  pub writer_new : mine passes.writer ≡ []
-  pub granter : IsReaderPass edge.readers 1 passes.granter
-  pub granter_new : mine passes.granter ≡ []
+  pub send_items : IsReaderPass edge.readers 0 passes.send_items
+  pub send_items_new : mine passes.send_items ≡ []
+  pub read_control : IsReaderPass edge.readers 1 passes.read_control
+  pub read_control_new : mine passes.read_control ≡ []
   pub senders : length passes.senders.items ≡ tasks job e
   pub sender : (a : ℕ) (own : _) → slice_get passes.senders.items a ≡ Some own →
       AreOwnAt edge.subpartitions.items a (tasks job e) (ways_on job e) own.items × AreNew own.items

@@ -15,8 +15,8 @@ use Rattle.job_cells.specs.Spans.{ids_below, ways_in, ways_out}
 pub record AreParts (span : Span) (size : ℕ) (parts : Parts) : Type 0 where
   pub channels : parts.channels.items ≡ ids_below span span.receivers
   pub readers : channels_in parts.readers ≡ parts.channels.items
-  pub writer : IsReaderPass parts.readers 0 parts.writer × (mine parts.writer ≡ [])
-  pub granter : IsReaderPass parts.readers 1 parts.granter × (mine parts.granter ≡ [])
+  pub send_items : IsReaderPass parts.readers 0 parts.send_items × (mine parts.send_items ≡ [])
+  pub read_control : IsReaderPass parts.readers 1 parts.read_control × (mine parts.read_control ≡ [])
   pub sending : AreSent span.senders (ways_out span) 0 size parts.sending
   pub partitions : ArePools size parts.partitions
   pub partitions_many : length parts.partitions.cells.items ≡ span.senders

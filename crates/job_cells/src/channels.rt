@@ -37,17 +37,17 @@ pub fn channels_of(alloc: Global, span: Span) -> Result<ListOf<ChannelId>, Alloc
     Ok(ids)
 }
 
-/// The readers of these channels, with the passes of the loop that writes and of the one that grants.
+/// The readers of these channels, with the passes of `send_items` and of `read_control`.
 pub fn readers_of(
     alloc: Global,
     channels: &[ChannelId],
 ) -> Result<(TurnCell<ReaderState>, Pass<ReaderState>, Pass<ReaderState>), AllocError>
     requires { AreDistinct channels.now }
     ensures channels { IfOk result (λ r. channels_in r.0 ≡ channels.now) }
-    ensures writer { IfOk result (λ r. IsReaderPass r.0 0 r.1 × (mine r.1 ≡ [])) }
-    ensures granter { IfOk result (λ r. IsReaderPass r.0 1 r.2 × (mine r.2 ≡ [])) }
+    ensures send_items { IfOk result (λ r. IsReaderPass r.0 0 r.1 × (mine r.1 ≡ [])) }
+    ensures read_control { IfOk result (λ r. IsReaderPass r.0 1 r.2 × (mine r.2 ≡ [])) }
 {
     let state = ReaderState::new(alloc, channels)?;
-    let (cell, writer, granter) = cell_of_two(alloc, state)?;
-    Ok((cell, writer, granter))
+    let (cell, send_items, read_control) = cell_of_two(alloc, state)?;
+    Ok((cell, send_items, read_control))
 }

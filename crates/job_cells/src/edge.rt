@@ -24,8 +24,8 @@ pub struct Edge<'p> {
 /// their own channels, of the loops at all channels, and of tasks and loops at the pools.
 #[derive(Drop)]
 pub struct EdgePasses<'p> {
-    pub writer: Pass<ReaderState>,
-    pub granter: Pass<ReaderState>,
+    pub send_items: Pass<ReaderState>,
+    pub read_control: Pass<ReaderState>,
     pub senders: ListOf<ListOf<Pass<Subpartition>>>,
     pub takers: ListOf<Pass<Subpartition>>,
     pub sizers: ListOf<Pass<Subpartition>>,

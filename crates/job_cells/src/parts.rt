@@ -28,8 +28,8 @@ use turn_cell::{Pass, TurnCell};
 pub struct Parts<'p> {
     pub channels: ListOf<ChannelId>,
     pub readers: TurnCell<ReaderState>,
-    pub writer: Pass<ReaderState>,
-    pub granter: Pass<ReaderState>,
+    pub send_items: Pass<ReaderState>,
+    pub read_control: Pass<ReaderState>,
     pub sending: Partitions,
     pub partitions: PoolCells<'p>,
     pub gates: Gates<'p>,
@@ -52,15 +52,15 @@ pub fn parts_of<'p, R: Wait>(
     ensures shares { IfOk result (HaveShares span lender.old.wants.items) }
 {
     let channels = channels_of(alloc, span)?;
-    let (readers, writer, granter) = readers_of(alloc, channels.as_slice())?;
+    let (readers, send_items, read_control) = readers_of(alloc, channels.as_slice())?;
     let sending = subpartitions_of(alloc, span, pool.size())?;
     let partitions = partitions_of(rt, alloc, pool, lender, span.senders)?;
     let gates = gates_of(rt, alloc, pool, lender, span.receivers, span.ways_in())?;
     Ok(Parts {
         channels,
         readers,
-        writer,
-        granter,
+        send_items,
+        read_control,
         sending,
         partitions,
         gates,
@@ -87,8 +87,8 @@ pub fn edge_of<'p>(parts: Parts<'p>) -> (Edge<'p>, EdgePasses<'p>)
         gates: pools.cells,
     };
     let passes = EdgePasses {
-        writer: parts.writer,
-        granter: parts.granter,
+        send_items: parts.send_items,
+        read_control: parts.read_control,
         senders: sending.senders,
         takers: outlets.first,
         sizers: outlets.second,

@@ -18,7 +18,8 @@ use Rattle.conn_parts.specs.Shares.{mine_at, seen_at}
 use Rattle.record_writer.specs.Writers.{SendPass}
 use Rattle.input_gate.specs.Gates.{Account}
 use Rattle.input_gate.specs.Turning.{InputPass, given_in}
-use Rattle.task_output.specs.Outputs.{parcels_put, parcels_to, place_to}
+use Rattle.subpartition.specs.Sending.{parcels_put}
+use Rattle.task_output.specs.Outputs.{parcels_to, place_to}
 use Rattle.task_taking.specs.Takings.{told_of, stop_if}
 use Rattle.task_taking.specs.Endings.{Gave}
 use Rattle.job_chain.specs.Travelling.{PutIsInline}

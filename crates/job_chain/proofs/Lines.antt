@@ -7,11 +7,11 @@ use Rattle.flow_defs.specs.declared.parcel.Parcel.{Parcel}
 use Rattle.flow_defs.specs.declared.parcel.Parcel.TheVariants.{Data, Barrier, End}
 use Rattle.subpartition.specs.declared.entry.SendEntry.{SendEntry}
 use Rattle.subpartition.specs.declared.entry.SendEntry.TheVariants as sends
-use Rattle.subpartition.specs.Sending.{Outbox, taken, take_first, travelled, sent_from, outbox}
+use Rattle.subpartition.specs.Sending.{parcels_put, taken, outbox}
+use Rattle.subpartition.proofs.Travelling.{travelled_is}
 use Rattle.input_channel.specs.declared.entry.ReceiveEntry.{ReceiveEntry}
 use Rattle.input_channel.specs.declared.entry.ReceiveEntry.TheVariants as receives
 use Rattle.input_channel.specs.Inboxes.{Inbox, Arrived, WasPolled, Waits, inbox, pushed, waiting, front_waits, due, first_parcel, first_barrier, poll_first, poll_barrier, poll_due, is_barrier, polled_one, received_from, empty_inbox}
-use Rattle.task_output.specs.Outputs.{parcels_put}
 use Rattle.job_chain.specs.Travelling.{AreInline, PutIsInline, GivenBeginsPut}
 
 -- ---- lists
@@ -37,26 +37,6 @@ put_is_inline (sends.PutInline k ∷ es) = (tt, put_is_inline es)
 put_is_inline (sends.Finish ∷ es) = (tt, put_is_inline es)
 put_is_inline (sends.Take ∷ es) = put_is_inline es
 put_is_inline (sends.Size n ∷ es) = put_is_inline es
-
--- ---- what travels
-
-one_more : (o : Outbox) (p : Parcel) (es : List SendEntry) → (o.taken ++ (o.items ++ p ∷ [])) ++ parcels_put es ≡ (o.taken ++ o.items) ++ p ∷ parcels_put es
-one_more o p es = ap (λ l. l ++ parcels_put es) (sym (append_assoc o.taken o.items (p ∷ []))) ∙ append_assoc (o.taken ++ o.items) (p ∷ []) (parcels_put es)
-
-goes_over : (taken items : List Parcel) → (take_first taken items).taken ++ (take_first taken items).items ≡ taken ++ items
-goes_over taken [] = refl
-goes_over taken (p ∷ ps) = append_assoc taken (p ∷ []) ps
-
-all_sent : (o : Outbox) (es : List SendEntry) → (sent_from o es).taken ++ (sent_from o es).items ≡ (o.taken ++ o.items) ++ parcels_put es
-all_sent o [] = sym (append-nil (o.taken ++ o.items))
-all_sent o (sends.Put bytes ∷ es) = all_sent (record { taken = o.taken; items = o.items ++ Data bytes ∷ [] }) es ∙ one_more o (Data bytes) es
-all_sent o (sends.PutInline k ∷ es) = all_sent (record { taken = o.taken; items = o.items ++ Barrier k Inline ∷ [] }) es ∙ one_more o (Barrier k Inline) es
-all_sent o (sends.Finish ∷ es) = all_sent (record { taken = o.taken; items = o.items ++ End ∷ [] }) es ∙ one_more o End es
-all_sent o (sends.Take ∷ es) = all_sent (take_first o.taken o.items) es ∙ ap (λ l. l ++ parcels_put es) (goes_over o.taken o.items)
-all_sent o (sends.Size n ∷ es) = all_sent o es
-
-travels : (es : List SendEntry) → travelled es ≡ parcels_put es
-travels es = all_sent (record { taken = []; items = [] }) es
 
 -- ---- what arrives
 
@@ -121,6 +101,6 @@ given_begins es all = (waiting (inbox es).arrivals, sym (arrived empty_inbox es 
 pub given_begins_put : GivenBeginsPut
 given_begins_put sent came starts =
     let behind = starts.0 ++ (outbox sent).items in
-    let whole : parcels_put sent ≡ pushed came ++ behind = sym (travels sent) ∙ ap (λ l. l ++ (outbox sent).items) starts.1 ∙ append_assoc (pushed came) starts.0 (outbox sent).items in
+    let whole : parcels_put sent ≡ pushed came ++ behind = sym (travelled_is sent) ∙ ap (λ l. l ++ (outbox sent).items) starts.1 ∙ append_assoc (pushed came) starts.0 (outbox sent).items in
     let given = given_begins came (all_front (pushed came) behind (subst AreInline whole (put_is_inline sent))) in
     (given.0 ++ behind, whole ∙ ap (λ l. l ++ behind) given.1 ∙ append_assoc (inbox came).given given.0 behind)

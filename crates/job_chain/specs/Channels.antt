@@ -3,11 +3,10 @@
 use Rattle.std.specs.Prelude.{ℕ, List}
 use Rattle.turn_cell.specs.History.{StartsWith, entries_of}
 use Rattle.subpartition.specs.declared.entry.SendEntry.{SendEntry}
-use Rattle.subpartition.specs.Sending.{taken}
+use Rattle.subpartition.specs.Sending.{parcels_put, taken}
 use Rattle.input_channel.specs.declared.entry.ReceiveEntry.{ReceiveEntry}
 use Rattle.input_channel.specs.Inboxes.{pushed}
 use Rattle.input_gate.specs.Turning.{given_in}
-use Rattle.task_output.specs.Outputs.{parcels_put}
 use Rattle.job_chain.specs.Ends.{SendingEnd, ReceivingEnd}
 
 -- Where what arrived begins what was taken, what the polls of a gate gave begins what the task put, barriers among the data.

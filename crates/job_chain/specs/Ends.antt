@@ -12,7 +12,7 @@ use Rattle.input_channel.specs.States as receiving
 pub record SendingEnd (own : List SendEntry) (seen : List (ℕ × SendEntry)) : Type 0 where
   pub queue : Queue
   pub history : List (ℕ × SendEntry)
-  pub stands : sending.StandsFor queue history
+  pub stands : sending.QueueStandsFor queue history
   pub task : by 0 history ≡ own
   pub later : StartsWith history seen
   pub loop : by 1 history ≡ by 1 seen
@@ -21,7 +21,7 @@ pub record SendingEnd (own : List SendEntry) (seen : List (ℕ × SendEntry)) : 
 pub record ReceivingEnd (own : List ReceiveEntry) (seen : List (ℕ × ReceiveEntry)) : Type 0 where
   pub channel : ChannelState
   pub history : List (ℕ × ReceiveEntry)
-  pub stands : receiving.StandsFor channel history
+  pub stands : receiving.ChannelStandsFor channel history
   pub loop : by 1 history ≡ own
   pub later : StartsWith history seen
   pub gate : by 0 history ≡ by 0 seen

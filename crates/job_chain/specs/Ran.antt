@@ -21,7 +21,7 @@ use Rattle.outside.specs.declared.last_image.Stored.{Stored}
 use Rattle.input_gate.specs.Gates.{Account}
 use Rattle.input_gate.specs.Turning.{InputPass, given_in}
 use Rattle.input_gate.specs.Told.{told}
-use Rattle.task_output.specs.Outputs.{parcels_put}
+use Rattle.subpartition.specs.Sending.{parcels_put}
 use Rattle.source_task.specs.Sources.{SourceAccount}
 use Rattle.stage_task.specs.Stages.{StageAccount}
 use Rattle.aggregate_task.specs.Aggregates.{AggregateAccount}

@@ -7,12 +7,11 @@ use Rattle.flow_defs.specs.declared.task.BarrierKind.TheVariants.{Inline, Front}
 use Rattle.flow_defs.specs.declared.parcel.Parcel.{Parcel}
 use Rattle.flow_defs.specs.declared.parcel.Parcel.TheVariants.{Data, Barrier, End}
 use Rattle.subpartition.specs.declared.entry.SendEntry.{SendEntry}
-use Rattle.subpartition.specs.Sending.{taken}
+use Rattle.subpartition.specs.Sending.{parcels_put, taken}
 use Rattle.input_channel.specs.declared.entry.ReceiveEntry.{ReceiveEntry}
 use Rattle.input_channel.specs.Inboxes.{inbox, pushed}
 use Rattle.input_gate.specs.Told.{told}
 use Rattle.input_gate.specs.States.{GateState, account_in, given_at}
-use Rattle.task_output.specs.Outputs.{parcels_put}
 
 -- No barrier that overtakes data.
 abbrev pub IsInline : Parcel → Type 0

@@ -15,10 +15,10 @@ use Rattle.conn_parts.specs.declared.share.ConnShare.{ConnShare}
 use Rattle.conn_parts.specs.declared.share.SharePasses.{SharePasses}
 use Rattle.conn_parts.specs.Shares.{AreOf, AreOwn, HavePoolSize}
 use Rattle.conn_parts.specs.Stopping.{StopCell}
-use Rattle.conn_send.specs.Sending.{MaySendItems}
-use Rattle.conn_grant.specs.Granting.{MayReadControl}
-use Rattle.conn_receive.specs.Receiving.{MayReadItems}
-use Rattle.conn_announce.specs.Announcing.{MaySendControl}
+use Rattle.conn_send_items.specs.Sending.{MaySendItems}
+use Rattle.conn_read_control.specs.Controlling.{MayReadControl}
+use Rattle.conn_read_items.specs.Receiving.{MayReadItems}
+use Rattle.conn_send_control.specs.Announcing.{MaySendControl}
 use Rattle.input_gate.specs.States.{PoolCell}
 use Rattle.job_cells.specs.declared.edge.Edge.{Edge}
 use Rattle.job_deploy.specs.Sharing.{IsOver, IsWired}

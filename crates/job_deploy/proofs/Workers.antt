@@ -10,10 +10,10 @@ use Rattle.flow_defs.specs.Jobs.{last_edge, tasks}
 use Rattle.outside.specs.declared.wires.Wire.{Wire}
 use Rattle.conn_parts.specs.declared.share.ConnShare.{ConnShare}
 use Rattle.conn_parts.specs.Shares.{AreNew}
-use Rattle.conn_send.specs.Sending.{MaySendItems}
-use Rattle.conn_grant.specs.Granting.{MayReadControl}
-use Rattle.conn_receive.specs.Receiving.{MayReadItems}
-use Rattle.conn_announce.specs.Announcing.{MaySendControl}
+use Rattle.conn_send_items.specs.Sending.{MaySendItems}
+use Rattle.conn_read_control.specs.Controlling.{MayReadControl}
+use Rattle.conn_read_items.specs.Receiving.{MayReadItems}
+use Rattle.conn_send_control.specs.Announcing.{MaySendControl}
 use Rattle.record_writer.specs.Writers.{SendPass}
 use Rattle.snapshot_channel.specs.declared.opened.SnapshotChannel.{SnapshotChannel}
 use Rattle.job_cells.specs.declared.edge.Edge.{Edge}
@@ -36,8 +36,8 @@ ends_from passes = record {
   senders = record { own = passes.senders; pools = passes.task_partitions };
   takers = record { own = passes.gates; pools = passes.task_gates };
   loops = record {
-    writer = passes.writer;
-    granter = passes.granter;
+    send_items = passes.send_items;
+    read_control = passes.read_control;
     takers = passes.takers;
     sizers = passes.sizers;
     pushers = passes.pushers;
@@ -64,8 +64,8 @@ ends_are job e size edge passes of are = record {
   };
   takers_all = are.gates;
   loops = record {
-    writer = (are.writer, are.writer_new);
-    granter = (are.granter, are.granter_new);
+    send_items = (are.send_items, are.send_items_new);
+    read_control = (are.read_control, are.read_control_new);
     takers = are.takers;
     sizers = are.sizers;
     pushers = are.pushers;

@@ -7,10 +7,10 @@ use Rattle.flow_defs.specs.declared.job.Job.{Job}
 use Rattle.flow_defs.specs.Jobs.{last_edge, tasks}
 use Rattle.outside.specs.declared.wires.Wire.{Wire}
 use Rattle.conn_parts.specs.Shares.{AreNew}
-use Rattle.conn_send.specs.Sending.{MaySendItems}
-use Rattle.conn_grant.specs.Granting.{MayReadControl}
-use Rattle.conn_receive.specs.Receiving.{MayReadItems}
-use Rattle.conn_announce.specs.Announcing.{MaySendControl}
+use Rattle.conn_send_items.specs.Sending.{MaySendItems}
+use Rattle.conn_read_control.specs.Controlling.{MayReadControl}
+use Rattle.conn_read_items.specs.Receiving.{MayReadItems}
+use Rattle.conn_send_control.specs.Announcing.{MaySendControl}
 use Rattle.record_writer.specs.declared.partition.Partition.{Partition}
 use Rattle.record_writer.specs.Writers.{SendPass, ways_into}
 use Rattle.snapshot_channel.specs.declared.opened.SnapshotChannel.{SnapshotChannel}

@@ -15,10 +15,10 @@ use Rattle.outside.specs.declared.wires.Wire.{Wire}
 use Rattle.conn_parts.specs.declared.share.ConnShare.{ConnShare}
 use Rattle.conn_parts.specs.Shares.{AreOf, AreOwn, AreNew, HavePoolSize}
 use Rattle.conn_parts.specs.Stopping.{StopCell}
-use Rattle.conn_send.specs.Sending.{MaySendItems}
-use Rattle.conn_grant.specs.Granting.{MayReadControl}
-use Rattle.conn_receive.specs.Receiving.{MayReadItems}
-use Rattle.conn_announce.specs.Announcing.{MaySendControl}
+use Rattle.conn_send_items.specs.Sending.{MaySendItems}
+use Rattle.conn_read_control.specs.Controlling.{MayReadControl}
+use Rattle.conn_read_items.specs.Receiving.{MayReadItems}
+use Rattle.conn_send_control.specs.Announcing.{MaySendControl}
 use Rattle.record_writer.specs.Writers.{SendPass}
 use Rattle.job_cells.specs.declared.edge.Edge.{Edge}
 use Rattle.job_workers.specs.declared.connection.ConnLoop.TheVariants.{SendItems, ReadControl, ReadItems, SendControl}
@@ -54,8 +54,8 @@ pub record IsOver (edge : Edge) (size : ℕ) (stop : StopCell) (share : ConnShar
 
 -- The passes of the loops, of which none has made an entry at the readers.
 pub record AreLoopPasses (edge : Edge) (passes : LoopPasses) : Type 0 where
-  pub writer : IsReaderPass edge.readers 0 passes.writer × (mine passes.writer ≡ [])
-  pub granter : IsReaderPass edge.readers 1 passes.granter × (mine passes.granter ≡ [])
+  pub send_items : IsReaderPass edge.readers 0 passes.send_items × (mine passes.send_items ≡ [])
+  pub read_control : IsReaderPass edge.readers 1 passes.read_control × (mine passes.read_control ≡ [])
   pub takers : AreOwn 1 edge.subpartitions.items passes.takers.items
   pub sizers : AreOwn 2 edge.subpartitions.items passes.sizers.items
   pub pushers : AreOwn 1 edge.inputs.items passes.pushers.items

@@ -3,10 +3,10 @@ ghost use Rattle.std.specs.Prelude.{◌≡◌, ◌<◌, ◌≤◌, ◌+◌, ◌*
 ghost use Rattle.turn_cell.specs.Passes.{mine, seen};
 ghost use Rattle.reader_state.specs.Turning.{IsReaderPass};
 ghost use Rattle.conn_parts.specs.Shares.{AreNew, AreOf, AreOwn};
-ghost use Rattle.conn_send.specs.Sending.{MaySendItems};
-ghost use Rattle.conn_grant.specs.Granting.{MayReadControl};
-ghost use Rattle.conn_receive.specs.Receiving.{MayReadItems};
-ghost use Rattle.conn_announce.specs.Announcing.{MaySendControl};
+ghost use Rattle.conn_send_items.specs.Sending.{MaySendItems};
+ghost use Rattle.conn_read_control.specs.Controlling.{MayReadControl};
+ghost use Rattle.conn_read_items.specs.Receiving.{MayReadItems};
+ghost use Rattle.conn_send_control.specs.Announcing.{MaySendControl};
 ghost use Rattle.record_writer.specs.Writers.{SendPass};
 ghost use Rattle.job_deploy.specs.declared.loops.Shares.{Shares};
 ghost use Rattle.job_deploy.specs.Placing.{AreFewer, AreStops, HasTheirs, IsStop};
@@ -29,8 +29,8 @@ use turn_cell::{Pass, TurnCell};
 /// The passes of the four loops of an edge.
 #[derive(Drop)]
 pub struct LoopPasses<'p> {
-    pub writer: Pass<ReaderState>,
-    pub granter: Pass<ReaderState>,
+    pub send_items: Pass<ReaderState>,
+    pub read_control: Pass<ReaderState>,
     pub takers: ListOf<Pass<Subpartition>>,
     pub sizers: ListOf<Pass<Subpartition>>,
     pub pushers: ListOf<Pass<InputChannel>>,
@@ -96,17 +96,17 @@ fn receiving_share<'a, 'p>(
 }
 
 // What the loop that writes items is lent.
-fn share_to_send<'a, 'p>(
+fn share_to_send_items<'a, 'p>(
     alloc: Global,
     size: u32,
     edge: &'a Edge<'p>,
-    writer: Pass<ReaderState>,
+    send_items: Pass<ReaderState>,
     takers: ListOf<Pass<Subpartition>>,
     pools: ListOf<Pass<HeldPool<'p>>>,
     shared: &mut Shared<'a>,
 ) -> ConnShare<'a, 'p>
     requires edge { IsWired size edge.now }
-    requires writer { IsReaderPass edge.now.readers 0 writer × (mine writer ≡ []) }
+    requires send_items { IsReaderPass edge.now.readers 0 send_items × (mine send_items ≡ []) }
     requires takers { AreOwn 1 edge.now.subpartitions.items takers.items }
     requires unseen { All (λ (pass : SendPass). seen pass ≡ []) takers.items }
     requires pools { AreOf edge.now.partitions.items pools.items }
@@ -120,7 +120,7 @@ fn share_to_send<'a, 'p>(
 {
     let stop = shared.next_stop();
     let passes = SharePasses {
-        readers: Some(writer),
+        readers: Some(send_items),
         subpartitions: takers,
         inputs: ListOf::new(alloc),
         pools,
@@ -130,16 +130,16 @@ fn share_to_send<'a, 'p>(
 }
 
 // What the loop that reads control frames is lent.
-fn share_to_grant<'a, 'p>(
+fn share_to_read_control<'a, 'p>(
     alloc: Global,
     size: u32,
     edge: &'a Edge<'p>,
-    granter: Pass<ReaderState>,
+    read_control: Pass<ReaderState>,
     sizers: ListOf<Pass<Subpartition>>,
     shared: &mut Shared<'a>,
 ) -> ConnShare<'a, 'p>
     requires edge { IsWired size edge.now }
-    requires granter { IsReaderPass edge.now.readers 1 granter × (mine granter ≡ []) }
+    requires read_control { IsReaderPass edge.now.readers 1 read_control × (mine read_control ≡ []) }
     requires sizers { AreOwn 2 edge.now.subpartitions.items sizers.items }
     requires stops { AreStops shared.old × (0 < length shared.old.stops.items) }
     ensures stops { AreFewer 1 shared.old shared.new }
@@ -148,7 +148,7 @@ fn share_to_grant<'a, 'p>(
 {
     let stop = shared.next_stop();
     let passes = SharePasses {
-        readers: Some(granter),
+        readers: Some(read_control),
         subpartitions: sizers,
         inputs: ListOf::new(alloc),
         pools: ListOf::new(alloc),
@@ -158,7 +158,7 @@ fn share_to_grant<'a, 'p>(
 }
 
 // What the loop that reads items is lent.
-fn share_to_receive<'a, 'p>(
+fn share_to_read_items<'a, 'p>(
     alloc: Global,
     size: u32,
     edge: &'a Edge<'p>,
@@ -190,7 +190,7 @@ fn share_to_receive<'a, 'p>(
 }
 
 // What the loop that writes control frames is lent.
-fn share_to_announce<'a, 'p>(
+fn share_to_send_control<'a, 'p>(
     alloc: Global,
     size: u32,
     edge: &'a Edge<'p>,
@@ -231,8 +231,8 @@ pub fn shares_of<'a, 'p, O: Drop, I: Drop>(
     ensures shares { IfOk result (AreSharesOf edge.now) }
 {
     let LoopPasses {
-        writer,
-        granter,
+        send_items,
+        read_control,
         takers,
         sizers,
         pushers,
@@ -242,10 +242,10 @@ pub fn shares_of<'a, 'p, O: Drop, I: Drop>(
     } = passes;
     let mut row = ListOf::new(alloc);
     row.reserve(4)?;
-    let send = share_to_send(alloc, size, edge, writer, takers, partitions, shared);
-    let control = share_to_grant(alloc, size, edge, granter, sizers, shared);
-    let items = share_to_receive(alloc, size, edge, pushers, gates, shared);
-    let announce = share_to_announce(alloc, size, edge, tellers, shared);
+    let send = share_to_send_items(alloc, size, edge, send_items, takers, partitions, shared);
+    let control = share_to_read_control(alloc, size, edge, read_control, sizers, shared);
+    let items = share_to_read_items(alloc, size, edge, pushers, gates, shared);
+    let announce = share_to_send_control(alloc, size, edge, tellers, shared);
     Ok(Shares {
         send,
         control,

@@ -23,8 +23,8 @@ pub fn ends_of<'p>(passes: EdgePasses<'p>) -> Ends<'p>
     ensures { (job : Job) (e size : ℕ) (edge : Edge) → IsEdgeOf job e size edge → ArePassesOf job e edge passes.entry → AreEndsOf job e edge result }
 {
     let EdgePasses {
-        writer,
-        granter,
+        send_items,
+        read_control,
         senders,
         takers,
         sizers,
@@ -46,8 +46,8 @@ pub fn ends_of<'p>(passes: EdgePasses<'p>) -> Ends<'p>
             pools: task_gates,
         },
         loops: LoopPasses {
-            writer,
-            granter,
+            send_items,
+            read_control,
             takers,
             sizers,
             pushers,

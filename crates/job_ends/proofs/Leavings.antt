@@ -146,8 +146,8 @@ module _ {S : Type 0} (job : Job) (e : ℕ) (edge : Edge) (rows : List (Items (T
 
   module _ (sent came : Items (TaskPlace S)) (at : slice_get rows e ≡ Some sent) (next_at : slice_get rows (suc e) ≡ Some came) (takers : List SendPass) (pushers : List InputPass) where
     pub is_settled : AreOwn 1 edge.subpartitions.items takers →
-        ((a : ℕ) (place : TaskPlace S) → slice_get sent.items a ≡ Some place → AllSettled sending.StandsFor a (length sent.items) (sent_in place) takers) →
-        ((b : ℕ) (place : TaskPlace S) → slice_get came.items b ≡ Some place → AllSettled receiving.StandsFor (b * length (taken_in place)) 1 (taken_in place) pushers) →
+        ((a : ℕ) (place : TaskPlace S) → slice_get sent.items a ≡ Some place → AllSettled sending.QueueStandsFor a (length sent.items) (sent_in place) takers) →
+        ((b : ℕ) (place : TaskPlace S) → slice_get came.items b ≡ Some place → AllSettled receiving.ChannelStandsFor (b * length (taken_in place)) 1 (taken_in place) pushers) →
         HasArrived job e takers pushers → IsSettled job e edge.subpartitions.items edge.inputs.items (own_at rows e) (gate_at rows e) takers pushers
     is_settled own settled settled_next arrived = record {
       cells = has.is_edge.subpartitions ∙ ap length has.is_edge.channels;
@@ -157,8 +157,8 @@ module _ {S : Type 0} (job : Job) (e : ℕ) (edge : Edge) (rows : List (Items (T
           let many = has.row_many e sent at in
           let p = stands sent.items a (omega (arith, low, many)) in
           let is : place_at rows e a ≡ p.0 = place_is rows e a sent p.0 at p.1 in
-          subst (λ (n : ℕ). AllSettled sending.StandsFor a n (own_at rows e a) takers) many
-          (subst (λ (q : TaskPlace S). AllSettled sending.StandsFor a (length sent.items) (sent_in q) takers) (sym is) (settled a p.0 p.1));
+          subst (λ (n : ℕ). AllSettled sending.QueueStandsFor a n (own_at rows e a) takers) many
+          (subst (λ (q : TaskPlace S). AllSettled sending.QueueStandsFor a (length sent.items) (sent_in q) takers) (sym is) (settled a p.0 p.1));
       gate_many = λ b low. ap length (gate_are b low) ∙ (has.taken_by b low).2.many;
       gate_are = λ b low. subst (AreTaskAt edge.inputs.items (b * ways_into job e) 1) (sym (gate_are b low)) (has.taken_by b low).2.own;
       came = λ b low.
@@ -166,7 +166,7 @@ module _ {S : Type 0} (job : Job) (e : ℕ) (edge : Edge) (rows : List (Items (T
           let p = stands came.items b (omega (arith, low, many)) in
           let is : place_at rows (suc e) b ≡ p.0 = place_is rows (suc e) b came p.0 next_at p.1 in
           let count : length (gate_at rows e b) ≡ ways_into job e = ap length (gate_are b low) ∙ (has.taken_by b low).2.many in
-          subst (λ (n : ℕ). AllSettled receiving.StandsFor (b * n) 1 (gate_at rows e b) pushers) count
-          (subst (λ (q : TaskPlace S). AllSettled receiving.StandsFor (b * length (taken_in q)) 1 (taken_in q) pushers) (sym is) (settled_next b p.0 p.1));
+          subst (λ (n : ℕ). AllSettled receiving.ChannelStandsFor (b * n) 1 (gate_at rows e b) pushers) count
+          (subst (λ (q : TaskPlace S). AllSettled receiving.ChannelStandsFor (b * length (taken_in q)) 1 (taken_in q) pushers) (sym is) (settled_next b p.0 p.1));
       arrived = arrived;
     }

@@ -21,10 +21,10 @@ pub record IsSettled (job : Job) (e : ℕ) (senders : List SendCell) (inputs : L
   pub cells : length senders ≡ length (channels_on job e)
   pub takers_are : AreOwn 1 senders takers
   pub own_many : (a : ℕ) → a < tasks job e → length (own a) ≡ ways_on job e
-  pub sent : (a : ℕ) → a < tasks job e → AllSettled sending.StandsFor a (tasks job e) (own a) takers
+  pub sent : (a : ℕ) → a < tasks job e → AllSettled sending.QueueStandsFor a (tasks job e) (own a) takers
   pub gate_many : (b : ℕ) → b < tasks job (suc e) → length (gate b) ≡ ways_into job e
   pub gate_are : (b : ℕ) → b < tasks job (suc e) → AreTaskAt inputs (b * ways_into job e) 1 (gate b)
-  pub came : (b : ℕ) → b < tasks job (suc e) → AllSettled receiving.StandsFor (b * ways_into job e) 1 (gate b) pushers
+  pub came : (b : ℕ) → b < tasks job (suc e) → AllSettled receiving.ChannelStandsFor (b * ways_into job e) 1 (gate b) pushers
   pub arrived : (k : ℕ) (c : ChannelId) → slice_get (channels_on job e) k ≡ Some c → StartsWith (taken (entries_of (seen_at k takers))) (pushed (mine_at k pushers))
 
 -- On each channel of the edge what the gate gave begins what the task put, barriers among the data, between the passes of the tasks that

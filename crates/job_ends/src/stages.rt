@@ -33,7 +33,7 @@ fn settle_sender<'a, 'p, S, R: Wait>(
     ensures takers { AreOwn 1 cells.now takers.new.items }
     ensures go_on { GoOn takers.old.items takers.new.items }
     ensures place { WithoutPartition place.old place.new }
-    ensures settled { AllSettled sending.StandsFor first stride (sent_in place.old) takers.old.items }
+    ensures settled { AllSettled sending.QueueStandsFor first stride (sent_in place.old) takers.old.items }
 {
     let passes = take_partition(place);
     let PartitionPasses {
@@ -57,7 +57,7 @@ fn settle_taker<'a, 'p, S, R: Wait>(
     ensures pushers { AreOwn 1 cells.now pushers.new.items }
     ensures go_on { GoOn pushers.old.items pushers.new.items }
     ensures place { WithoutGate place.old place.new }
-    ensures settled { AllSettled receiving.StandsFor (number * length (taken_in place.old)) 1 (taken_in place.old) pushers.old.items }
+    ensures settled { AllSettled receiving.ChannelStandsFor (number * length (taken_in place.old)) 1 (taken_in place.old) pushers.old.items }
 {
     let passes = take_gate(place);
     let GatePasses {
@@ -82,7 +82,7 @@ pub fn settle_senders<'a, 'p, S, R: Wait>(
     requires takers { AreOwn 1 cells.now takers.old.items }
     ensures many { length row.new.items ≡ length row.old.items }
     ensures row { Pairs WithoutPartition row.old.items row.new.items }
-    ensures settled { (a : ℕ) (place : _) → slice_get row.old.items a ≡ Some place → AllSettled sending.StandsFor a (length row.old.items) (sent_in place) takers.old.items }
+    ensures settled { (a : ℕ) (place : _) → slice_get row.old.items a ≡ Some place → AllSettled sending.QueueStandsFor a (length row.old.items) (sent_in place) takers.old.items }
 {
     let tasks = row.as_slice().len();
     for task in 0..tasks {
@@ -111,7 +111,7 @@ pub fn settle_takers<'a, 'p, S, R: Wait>(
     ensures many { length row.new.items ≡ length row.old.items }
     ensures row { Pairs WithoutGate row.old.items row.new.items }
     ensures settled { (b : ℕ) (place : _) → slice_get row.old.items b ≡ Some place →
-        AllSettled receiving.StandsFor (b * length (taken_in place)) 1 (taken_in place) pushers.old.items }
+        AllSettled receiving.ChannelStandsFor (b * length (taken_in place)) 1 (taken_in place) pushers.old.items }
 {
     let tasks = row.as_slice().len();
     for task in 0..tasks {

@@ -16,8 +16,8 @@ use Rattle.input_channel.specs.Inboxes.{pushed}
 use Rattle.outside.specs.Keepers.{KeptImage}
 use Rattle.outside.specs.declared.wires.Wire.{Wire}
 use Rattle.conn_parts.specs.Shares.{AreOwn}
-use Rattle.conn_send.specs.Sending.{SendAccount}
-use Rattle.conn_receive.specs.Receiving.{ItemsAccount}
+use Rattle.conn_send_items.specs.Sending.{SendAccount}
+use Rattle.conn_read_items.specs.Receiving.{ItemsAccount}
 use Rattle.conn_run.specs.Theorems.{ItemsArrive}
 use Rattle.record_writer.specs.declared.partition.Partition.{Partition}
 use Rattle.record_writer.specs.Writers.{SendCell, SendPass, AreOwnAt, place_of, ways_on, ways_into}

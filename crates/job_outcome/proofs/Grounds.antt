@@ -21,11 +21,11 @@ use Rattle.outside.specs.declared.stop.StopEntry.{StopEntry}
 use Rattle.outside.specs.Keepers.{KeptImage}
 use Rattle.conn_parts.specs.declared.share.ConnShare.{ConnShare}
 use Rattle.conn_parts.specs.declared.share.SharePasses.{SharePasses}
-use Rattle.conn_send.specs.Sending.{IsSendCause as IsSendItemsCause}
+use Rattle.conn_send_items.specs.Sending.{IsSendCause as IsSendItemsCause}
 use Rattle.net_frames.specs.Frames.{all_spelled}
-use Rattle.conn_grant.specs.Granting.{EndedBy as ControlEndedBy, MetPeer as MetAtControl}
-use Rattle.conn_receive.specs.Receiving.{EndedBy as ItemsEndedBy, MetPeer as MetAtItems, arrival_with}
-use Rattle.conn_announce.specs.Announcing.{IsSendCause as IsAnnounceCause}
+use Rattle.conn_read_control.specs.Controlling.{EndedBy as ControlEndedBy, MetPeer as MetAtControl}
+use Rattle.conn_read_items.specs.Receiving.{EndedBy as ItemsEndedBy, MetPeer as MetAtItems, arrival_with}
+use Rattle.conn_send_control.specs.Announcing.{IsSendCause as IsAnnounceCause}
 use Rattle.input_gate.specs.Gates.{Account}
 use Rattle.snapshot_channel.specs.declared.opened.SnapshotChannel.{SnapshotChannel}
 use Rattle.snapshot_channel.specs.Passes.{received_by}

@@ -10,7 +10,7 @@ use Rattle.input_channel.specs.declared.fault.AcceptFault.{AcceptFault}
 use Rattle.input_channel.specs.declared.fault.AcceptFault.TheVariants.{WrongSequence, AfterEnd, OverCredit, OverSize, WrongBarrier}
 use Rattle.input_channel.specs.Answers.{kind_refused, refused}
 use Rattle.input_channel.specs.Counts.{Numbers, at_opening, numbers, numbers_from, numbers_one}
-use Rattle.input_channel.specs.States.{ChannelState, StandsFor}
+use Rattle.input_channel.specs.States.{ChannelState, ChannelStandsFor}
 use Rattle.job_outcome.specs.Grounds.{IsOverByOne}
 
 -- What the refusal tells of the channel: no credit was open there, and these were its numbers.
@@ -85,7 +85,7 @@ grows n (e ∷ es) =
     omega (arith, first, rest)
 
 pub is_over_by_one : (c : ChannelState) (history : List (ℕ × ReceiveEntry)) (a : Arrival) (bytes : List ℕ) (received announced : ℕ) →
-    StandsFor c history → refused c a bytes ≡ Some (OverCredit received announced) → IsOverByOne received announced
+    ChannelStandsFor c history → refused c a bytes ≡ Some (OverCredit received announced) → IsOverByOne received announced
 is_over_by_one c history a bytes received announced stands is =
     let t = told c a bytes received announced is in
     let keeps = stands.keeps in

@@ -12,8 +12,8 @@ use Rattle.conn_parts.specs.declared.share.ConnShare.{ConnShare}
 use Rattle.conn_parts.specs.declared.share.SharePasses.{SharePasses}
 use Rattle.conn_parts.specs.Messages.{Message, is_from_receiver}
 use Rattle.conn_parts.specs.Reading.{BeginsWith}
-use Rattle.conn_receive.specs.Receiving.{WasRefused, MetPeer as MetAtItems}
-use Rattle.conn_grant.specs.Granting.{IsWrong, IsTooLarge, seen_readers, MetPeer as MetAtControl}
+use Rattle.conn_read_items.specs.Receiving.{WasRefused, MetPeer as MetAtItems}
+use Rattle.conn_read_control.specs.Controlling.{IsWrong, IsTooLarge, seen_readers, MetPeer as MetAtControl}
 use Rattle.reader_state.specs.declared.entry.ReaderEntry.{ReaderEntry}
 use Rattle.job_outcome.specs.Grounds.{BeginsWithItem, ItemsBegin, ControlBegins}
 

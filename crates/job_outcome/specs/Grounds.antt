@@ -13,8 +13,8 @@ use Rattle.net_frames.specs.Frames.{AreFrames, all_spelled}
 use Rattle.conn_parts.specs.Messages.{Message, AreFrom, is_from_sender, is_from_receiver}
 use Rattle.conn_parts.specs.Reading.{BeginsBadly, BeginsWith}
 use Rattle.conn_parts.specs.declared.share.LoopEnd.{LoopEnd}
-use Rattle.conn_receive.specs.Receiving.{reads_items, NamesWrong}
-use Rattle.conn_grant.specs.Granting.{reads_control}
+use Rattle.conn_read_items.specs.Receiving.{reads_items, NamesWrong}
+use Rattle.conn_read_control.specs.Controlling.{reads_control}
 use Rattle.job_cells.specs.Edges.{channels_on}
 use Rattle.job_workers.specs.declared.connection.LoopLeft.TheVariants.{ReadControl, ReadItems}
 use Rattle.job_workers.specs.declared.place.Place.TheVariants.{Ended}

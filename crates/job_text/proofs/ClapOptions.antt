@@ -20,7 +20,7 @@ use Rattle.job_text.specs.Matches.{Values, value_of, bare, run_app, option_value
 use Rattle.job_text.proofs.Numbers.{number_known}
 use Rattle.job_text.proofs.NumberWords.{if_none, digits_operand}
 use Rattle.job_text.proofs.SpellingLemmas.{same_bytes}
-use Rattle.job_text.proofs.OptionLemmas.{Takes, taken, no_value}
+use Rattle.job_text.proofs.OptionLemmas.{TakesOption, taken, no_value}
 use Rattle.job_text.proofs.ClapWalks.{Passes, row, used_once, used_row, no_row_yet, no_defaults, between, plain_walked, plain_turn}
 
 -- ---- the options
@@ -381,7 +381,7 @@ options_walked given more h values [] fits rows settles is =
     }
 options_walked given more h values (word ∷ []) fits rows settles is = absurd (no_value given more word is)
 options_walked given more h values (word ∷ value ∷ words) fits rows settles is =
-    let step : Takes given more word value words = taken given more word value words is in
+    let step : TakesOption given more word value words = taken given more word value words is in
     let o : RunOption = step.option in
     let fresh : IsNew given word o = new_option given word o step.option_is in
     let gives : Gives given step.next o value = value_gives given step.next o value step.next_is in

@@ -16,7 +16,7 @@ use Rattle.job_text.specs.declared.fault.JobFault.{JobFault}
 use Rattle.job_text.specs.declared.fault.JobFault.TheVariants.{Extra, Missing, BadLine}
 use Rattle.job_text.specs.JobText.{line_of}
 use Rattle.job_text.specs.JobFaults.{Place, line_fault, words_fault, behind, fault_from}
-use Rattle.job_text.specs.Reading.{place_of, lines_left, fault_left, IsLine, behind_line, GoesOn, Takes}
+use Rattle.job_text.specs.Reading.{place_of, lines_left, fault_left, IsLine, behind_line, LinesGoOn, TakesLine}
 use Rattle.job_text.proofs.AcceptLemmas.{source_accepted, source_behind, stage_accepted, stage_behind, aggregate_accepted, aggregate_behind}
 
 abbrev pub pieces_left : Option (Bor (List ℕ)) → List (List ℕ)
@@ -122,7 +122,7 @@ module _ (functions : Functions) (old : JobLines) (text rest : List ℕ) (l : Li
         passed_line functions old text (lines rest) lines_are l is_line ∙ ap (λ p. fault_from functions p (suc old.number) (lines rest)) (sym place)
         ∙ ap (λ n. fault_from functions (place_of new) n (lines rest)) (sym number) ∙ ap (λ r. fault_from functions (place_of new) new.number (lines r)) (sym rest_is)
 
-  pub takes : (new : JobLines) → new.rest.now ≡ rest → length rest < length old.rest.now → GoesOn functions old new l → Takes functions old new l
+  pub takes : (new : JobLines) → new.rest.now ≡ rest → length rest < length old.rest.now → LinesGoOn functions old new l → TakesLine functions old new l
   takes new rest_is shorter goes = record {
     text = text;
     lines_are = lines_are ∙ ap (λ r. text ∷ lines r) (sym rest_is);

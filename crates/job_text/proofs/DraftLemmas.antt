@@ -14,7 +14,7 @@ use Rattle.job_text.specs.declared.lines.JobLines.{JobLines}
 use Rattle.job_text.specs.declared.lines.Line.TheVariants as line
 use Rattle.job_text.specs.JobText.{IsJobText, head_lines, source_line, stage_line}
 use Rattle.job_text.specs.JobFaults.{Place}
-use Rattle.job_text.specs.Reading.{lines_left, Takes, IsStageBehind}
+use Rattle.job_text.specs.Reading.{lines_left, TakesLine, IsStageBehind}
 use Rattle.job_text.proofs.Drafts.{IsDraft, last_tasks}
 use Rattle.job_text.proofs.Lists.{fit_push, last_push, widths_of, counts_of, arguments_of, functions_of, tasks_before}
 
@@ -32,7 +32,7 @@ push_length : {X : Type 0} (xs : List X) (x : X) (n : ℕ) → n ≡ length xs �
 push_length xs x n is = let pushed = length_push xs x in omega (arith, is, pushed)
 
 module _ (functions : Functions) (text : List ℕ) (sources : List (Items ℕ)) (old new : JobLines) where
-  pub takes_stage : (stages : List Stage) (kind : StageKind) (arg : Bor (List ℕ)) (item : Items ℕ) (n : ℕ) (e : Exchange) → IsDraft functions text sources stages old → Takes functions old new (line.Stage kind arg n e) → item.items ≡ arg.now
+  pub takes_stage : (stages : List Stage) (kind : StageKind) (arg : Bor (List ℕ)) (item : Items ℕ) (n : ℕ) (e : Exchange) → IsDraft functions text sources stages old → TakesLine functions old new (line.Stage kind arg n e) → item.items ≡ arg.now
       → let s : Stage = record { kind = kind; arg = item; tasks = n; exchange = e } in IsDraft functions text sources (stages ++ s ∷ []) new
   takes_stage stages kind arg item n e draft takes arg_is =
       let s : Stage = record { kind = kind; arg = item; tasks = n; exchange = e } in
@@ -63,7 +63,7 @@ pub before_is : (job : Job) (e : ℕ) → tasks_before (length job.sources.items
 before_is job zero = refl
 before_is job (suc e) = refl
 
-module _ (functions : Functions) (text : List ℕ) (job : Job) (old new : JobLines) (draft : IsDraft functions text job.sources.items job.stages.items old) (takes : Takes functions old new (line.Aggregate job.agg job.agg_tasks)) (text_is : job.text.items ≡ text) where
+module _ (functions : Functions) (text : List ℕ) (job : Job) (old new : JobLines) (draft : IsDraft functions text job.sources.items job.stages.items old) (takes : TakesLine functions old new (line.Aggregate job.agg job.agg_tasks)) (text_is : job.text.items ≡ text) where
   counts : (i : ℕ) → (1 ≤ tasks job i) × (tasks job i ≤ TASKS_MAX)
   counts zero = let some = takes.is_line.sources in let count = draft.source_count in let few = draft.few_sources in (omega (arith, some, count), few)
   counts (suc i) = counts_of functions job.agg_tasks (length job.sources.items) job.stages.items draft.stages_fit (takes.is_line.low, takes.is_line.high) i

@@ -61,21 +61,21 @@ nothing_within : AreWithin nothing
 nothing_within = record { every = tt; segment = tt; pool = tt }
 
 -- an option and its value: what is given then, and what the words behind give
-pub record Takes (given more : Given) (word value : List ℕ) (words : List (List ℕ)) : Type 0 where
+pub record TakesOption (given more : Given) (word value : List ℕ) (words : List (List ℕ)) : Type 0 where
   pub option : RunOption
   pub option_is : option_behind given word ≡ Ok option
   pub next : Given
   pub next_is : with_value given option value ≡ Some next
   pub rest : given_from next words ≡ Ok more
 
-pub taken : (given more : Given) (word value : List ℕ) (words : List (List ℕ)) → given_from given (word ∷ value ∷ words) ≡ Ok more → Takes given more word value words
+pub taken : (given more : Given) (word value : List ℕ) (words : List (List ℕ)) → given_from given (word ∷ value ∷ words) ≡ Ok more → TakesOption given more word value words
 taken given more word value words is = by_option (option_behind given word) refl is
   where
-    by_value : (option : RunOption) → option_behind given word ≡ Ok option → (v : Option Given) → with_value given option value ≡ v → and_then (ok_or v BadValue) (λ next. given_from next words) ≡ Ok more → Takes given more word value words
+    by_value : (option : RunOption) → option_behind given word ≡ Ok option → (v : Option Given) → with_value given option value ≡ v → and_then (ok_or v BadValue) (λ next. given_from next words) ≡ Ok more → TakesOption given more word value words
     by_value option option_is None value_is is = absurd (cc)
     by_value option option_is (Some next) value_is is = record { option = option; option_is = option_is; next = next; next_is = value_is; rest = is }
 
-    by_option : (o : Result RunOption UsageKind) → option_behind given word ≡ o → and_then o (λ option. and_then (ok_or (with_value given option value) BadValue) (λ next. given_from next words)) ≡ Ok more → Takes given more word value words
+    by_option : (o : Result RunOption UsageKind) → option_behind given word ≡ o → and_then o (λ option. and_then (ok_or (with_value given option value) BadValue) (λ next. given_from next words)) ≡ Ok more → TakesOption given more word value words
     by_option (Err kind) option_is is = absurd (cc)
     by_option (Ok option) option_is is = by_value option option_is (with_value given option value) refl is
 
@@ -129,7 +129,7 @@ given_within : (given more : Given) (words : List (List ℕ)) → AreWithin give
 given_within given more [] within is = let same : given ≡ more = cc in subst AreWithin same within
 given_within given more (word ∷ []) within is = absurd (no_value given more word is)
 given_within given more (word ∷ value ∷ words) within is =
-    let step : Takes given more word value words = taken given more word value words is in
+    let step : TakesOption given more word value words = taken given more word value words is in
     given_within step.next more words (value_within given step.next step.option value within step.next_is) step.rest
 
 defaults_within : (given : Given) → AreWithin given → HasRange (with_defaults given)

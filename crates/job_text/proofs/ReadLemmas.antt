@@ -10,7 +10,7 @@ use Rattle.flow_defs.specs.declared.job.Exchange.{Exchange}
 use Rattle.flow_defs.specs.declared.job.Exchange.TheVariants.{Forward}
 use Rattle.stage_fns.specs.Functions.{Functions, has_stage, has_agg, HasStage, HasAgg}
 use Rattle.job_text.specs.JobText.{kind_word, agg_word, line_of}
-use Rattle.job_text.specs.JobFaults.{Place, is_token, number_of, kind_of, exchange_of, agg_of, tasks_of, source_fault, stage_fault, aggregate_fault}
+use Rattle.job_text.specs.JobFaults.{Place, is_token, number_of, stage_kind_of, exchange_of, agg_of, tasks_of, source_fault, stage_fault, aggregate_fault}
 use Rattle.job_text.specs.Reading.{IsSource, IsStage, IsAggregate}
 use Rattle.job_text.proofs.SpellingLemmas.{same_bytes, same_some, token_known, number_decimal, agg_known, exchange_known, kind_known}
 
@@ -52,7 +52,7 @@ module _ (functions : Functions) (place : Place) (first kind tasks : List ℕ) (
 
 module _ (functions : Functions) (place : Place) (first kind tasks exchange : List ℕ) (k : StageKind) (arg : List ℕ) (n : ℕ) (e : Exchange)
     (word : bytes_eq first (codes "stage") ≡ true) (some : 0 < place.sources) (few : place.stages < STAGES_MAX)
-    (kind_is : let found : StageKind × List ℕ = (k, arg) in kind_of kind ≡ Some found) (has : HasStage functions k) (tasks_are : number_of TASKS_MAX tasks ≡ Some n)
+    (kind_is : let found : StageKind × List ℕ = (k, arg) in stage_kind_of kind ≡ Some found) (has : HasStage functions k) (tasks_are : number_of TASKS_MAX tasks ≡ Some n)
     (exchange_is : exchange_of exchange ≡ Some e) (width : e ≡ Forward → place.tasks ≡ n) where
   no_width : bytes_eq exchange (codes "forward") ≡ true → not (eqb (tasks_of tasks) place.tasks) ≡ false
   no_width forward =

@@ -20,7 +20,7 @@ use Rattle.job_text.specs.declared.shape.StageShape.{StageShape}
 use Rattle.job_text.specs.KnownKinds.{every_kind}
 use Rattle.job_text.specs.JobText.{head_lines, source_line, exchange_word, stage_line, aggregate_line}
 use Rattle.job_text.specs.JobFaults.{Place, tasks_of, exchange_of, first_fault, fault_from}
-use Rattle.job_text.specs.Reading.{lines_left, Takes}
+use Rattle.job_text.specs.Reading.{lines_left, TakesLine}
 use Rattle.job_text.specs.Laws.{HaveSameTasks, JobTextSaysShape}
 use Rattle.job_text.specs.Shapes.{Shape, full, stage_shape, shape_of, with_words, shape_in, plain_stage, job_of, IsShapeOf}
 use Rattle.job_text.proofs.SpellingLemmas.{decimal_number, exchange_spelled}
@@ -93,7 +93,7 @@ all_push P [] x all here = (here, tt)
 all_push P (y ∷ xs) x all here = (all.0, all_push P xs x all.1 here)
 
 -- a job under way, of which only the shape is kept
-pub record IsUnderWay (text : List ℕ) (sources : ℕ) (stages : List StageShape) (reader : JobLines) : Type 0 where
+pub record IsTextUnderWay (text : List ℕ) (sources : ℕ) (stages : List StageShape) (reader : JobLines) : Type 0 where
   pub files : List (Items ℕ)
   pub made : List Stage
   pub draft : IsDraft every_kind text files made reader
@@ -101,7 +101,7 @@ pub record IsUnderWay (text : List ℕ) (sources : ℕ) (stages : List StageShap
   pub stages_are : stages ≡ map stage_shape made
 
 module _ (text : List ℕ) (old new : JobLines) where
-  takes_source : (files : List (Items ℕ)) (made : List Stage) (file : Bor (List ℕ)) → IsDraft every_kind text files made old → Takes every_kind old new (line.Source file)
+  takes_source : (files : List (Items ℕ)) (made : List Stage) (file : Bor (List ℕ)) → IsDraft every_kind text files made old → TakesLine every_kind old new (line.Source file)
       → let item : Items ℕ = record { items = file.now; room = 0 } in IsDraft every_kind text (files ++ item ∷ []) made new
   takes_source files (s ∷ made) file draft takes = let count = draft.stage_count in let none = takes.is_line.no_stage in absurd (omega (arith, count, none))
   takes_source files [] file draft takes =
@@ -127,8 +127,8 @@ module _ (text : List ℕ) (old new : JobLines) where
         stages_fit = tt;
       }
 
-  module _ (sources : ℕ) (stages : List StageShape) (way : IsUnderWay text sources stages old) where
-    pub next_source : (file : Bor (List ℕ)) → Takes every_kind old new (line.Source file) → IsUnderWay text (sources + 1) stages new × (sources < SOURCES_MAX)
+  module _ (sources : ℕ) (stages : List StageShape) (way : IsTextUnderWay text sources stages old) where
+    pub next_source : (file : Bor (List ℕ)) → TakesLine every_kind old new (line.Source file) → IsTextUnderWay text (sources + 1) stages new × (sources < SOURCES_MAX)
     next_source file takes =
         let item : Items ℕ = record { items = file.now; room = 0 } in
         let pushed = length_push way.files item in
@@ -145,7 +145,7 @@ module _ (text : List ℕ) (old new : JobLines) where
           omega (arith, is, count, few),
         )
 
-    pub next_stage : (kind : _) (arg : Bor (List ℕ)) (n : ℕ) (e : Exchange) → Takes every_kind old new (line.Stage kind arg n e) → IsUnderWay text sources (stages ++ record { tasks = n; exchange = e } ∷ []) new × (length stages < STAGES_MAX)
+    pub next_stage : (kind : _) (arg : Bor (List ℕ)) (n : ℕ) (e : Exchange) → TakesLine every_kind old new (line.Stage kind arg n e) → IsTextUnderWay text sources (stages ++ record { tasks = n; exchange = e } ∷ []) new × (length stages < STAGES_MAX)
     next_stage kind arg n e takes =
         let item : Items ℕ = record { items = arg.now; room = 0 } in
         let s : Stage = record { kind = kind; arg = item; tasks = n; exchange = e } in
@@ -164,7 +164,7 @@ module _ (text : List ℕ) (old new : JobLines) where
           omega (arith, mapped, same, count, few),
         )
 
-    pub last_line : (kind : AggKind) (n : ℕ) → Takes every_kind old new (line.Aggregate kind n) → IsShapeOf text (record { sources = sources; stages = stages; aggregate = n })
+    pub last_line : (kind : AggKind) (n : ℕ) → TakesLine every_kind old new (line.Aggregate kind n) → IsShapeOf text (record { sources = sources; stages = stages; aggregate = n })
     last_line kind n takes =
         let job : Job = record { sources = record { items = way.files; room = 0 }; stages = record { items = way.made; room = 0 }; agg = kind; agg_tasks = n; text = record { items = text; room = 0 } } in
         record {
@@ -173,7 +173,7 @@ module _ (text : List ℕ) (old new : JobLines) where
           shape_is = ap (λ k. let s : Shape = record { sources = k; stages = stages; aggregate = n } in s) way.sources_are ∙ ap (λ l. let s : Shape = record { sources = length way.files; stages = l; aggregate = n } in s) way.stages_are;
         }
 
-pub none_under_way : (text : List ℕ) (reader : JobLines) → reader.rest.now ≡ text → reader.number ≡ 1 → reader.sources ≡ 0 → reader.stages ≡ 0 → reader.tasks ≡ 0 → first_fault every_kind text ≡ None → IsUnderWay text 0 [] reader
+pub none_under_way : (text : List ℕ) (reader : JobLines) → reader.rest.now ≡ text → reader.number ≡ 1 → reader.sources ≡ 0 → reader.stages ≡ 0 → reader.tasks ≡ 0 → first_fault every_kind text ≡ None → IsTextUnderWay text 0 [] reader
 none_under_way text reader rest number sources stages before none =
     let at = λ (p : ℕ × ℕ × ℕ × ℕ × List ℕ). fault_from every_kind (record { sources = p.0; stages = p.1; tasks = p.2; ended = false }) p.3 (lines p.4) in
     let same : (reader.sources, reader.stages, reader.tasks, reader.number, reader.rest.now) ≡ (0, 0, 0, 1, text) = cc in

@@ -15,7 +15,7 @@ use Rattle.flow_defs.specs.declared.job.AggKind.TheVariants.{Count, Sum, Max}
 use Rattle.flow_defs.specs.declared.job.Exchange.{Exchange}
 use Rattle.flow_defs.specs.declared.job.Exchange.TheVariants.{Hash, Rebalance, Forward}
 use Rattle.job_text.specs.JobText.{kind_word, exchange_word, agg_word}
-use Rattle.job_text.specs.JobFaults.{is_token, number_of, kind_of, exchange_of, agg_of}
+use Rattle.job_text.specs.JobFaults.{is_token, number_of, stage_kind_of, exchange_of, agg_of}
 use Rattle.job_text.proofs.Numbers.{number_known, number_spelled, spelled_decimal, decimal_spelled}
 
 pub same_bytes : (a b : List ℕ) → bytes_eq a b ≡ true → a ≡ b
@@ -155,13 +155,13 @@ upper_known word arg kind is = elim (cond_cases {A = Option Kind} (bytes_eq word
   | inr miss ↦ keep_known word arg kind miss.1
 ]
 
-pub kind_known : (word arg : List ℕ) (kind : StageKind) → kind_of word ≡ some_kind kind arg → (word ≡ kind_word kind arg) × IsArgument kind arg
+pub kind_known : (word arg : List ℕ) (kind : StageKind) → stage_kind_of word ≡ some_kind kind arg → (word ≡ kind_word kind arg) × IsArgument kind arg
 kind_known word arg kind is = elim (cond_cases {A = Option Kind} (bytes_eq word (codes "words")) (some_kind Words []) (cond {A = Option Kind} (bytes_eq word (codes "upper")) (some_kind Upper []) (keep_of word)) (some_kind kind arg) is) [
   | inl hit ↦ behind_known kind Words word arg [] (same_bytes word (codes "words") hit.0) refl hit.1
   | inr miss ↦ upper_known word arg kind miss.1
 ]
 
-pub kind_spelled : (kind : StageKind) (arg : List ℕ) → IsArgument kind arg → kind_of (kind_word kind arg) ≡ some_kind kind arg
+pub kind_spelled : (kind : StageKind) (arg : List ℕ) → IsArgument kind arg → stage_kind_of (kind_word kind arg) ≡ some_kind kind arg
 kind_spelled Words arg is = ap (λ a. some_kind Words a) (sym is)
 kind_spelled Upper arg is = ap (λ a. some_kind Upper a) (sym is)
 kind_spelled Keep arg is = cond-true (is_token arg) (some_kind Keep arg) None (token_spelled arg is)

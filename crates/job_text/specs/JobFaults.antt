@@ -36,8 +36,8 @@ abbrev pub tasks_of : List ℕ → ℕ
 tasks_of word = unwrap_or (number_of tasks_max word) 0
 
 -- The kind of stages that a word spells, and its argument.
-abbrev pub kind_of : List ℕ → Option (StageKind × List ℕ)
-kind_of word =
+abbrev pub stage_kind_of : List ℕ → Option (StageKind × List ℕ)
+stage_kind_of word =
     if bytes_eq word (codes "words") then Some (Words, [])
     else if bytes_eq word (codes "upper") then Some (Upper, [])
     else if bytes_eq (take 5 word) (codes "keep:") then (if is_token (drop 5 word) then Some (Keep, drop 5 word) else None)
@@ -93,8 +93,8 @@ stage_fault functions place first kind tasks exchange =
     first_that_holds
     ((not (bytes_eq first (codes "stage") && nat_lt 0 place.sources), BadLine)
     ∷ (nat_le stages_max place.stages, TooMany)
-    ∷ (is_none (kind_of kind), UnknownKind)
-    ∷ (not (option_map_or (λ k. has_stage functions k.0) (kind_of kind) true), NoFunction)
+    ∷ (is_none (stage_kind_of kind), UnknownKind)
+    ∷ (not (option_map_or (λ k. has_stage functions k.0) (stage_kind_of kind) true), NoFunction)
     ∷ (is_none (number_of tasks_max tasks), BadNumber)
     ∷ (is_none (exchange_of exchange), BadExchange)
     ∷ (bytes_eq exchange (codes "forward") && not (tasks_of tasks == place.tasks), BadWidth)

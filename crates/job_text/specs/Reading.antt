@@ -74,15 +74,15 @@ behind_line place (line.Stage kind arg tasks exchange) = record place { stages =
 behind_line place (line.Aggregate kind tasks) = record place { ended = true }
 
 -- What is left behind a line. Behind the aggregate's nothing is, and there is no fault.
-abbrev pub GoesOn : Functions → JobLines → JobLines → Line → Type 0
-GoesOn functions old new (line.Source file) = (place_of new ≡ behind_line (place_of old) (line.Source file)) × (fault_left functions old ≡ fault_left functions new)
-GoesOn functions old new (line.Stage kind arg tasks exchange) = (place_of new ≡ behind_line (place_of old) (line.Stage kind arg tasks exchange)) × (fault_left functions old ≡ fault_left functions new)
-GoesOn functions old new (line.Aggregate kind tasks) = (lines_left new ≡ []) × (fault_left functions old ≡ None)
+abbrev pub LinesGoOn : Functions → JobLines → JobLines → Line → Type 0
+LinesGoOn functions old new (line.Source file) = (place_of new ≡ behind_line (place_of old) (line.Source file)) × (fault_left functions old ≡ fault_left functions new)
+LinesGoOn functions old new (line.Stage kind arg tasks exchange) = (place_of new ≡ behind_line (place_of old) (line.Stage kind arg tasks exchange)) × (fault_left functions old ≡ fault_left functions new)
+LinesGoOn functions old new (line.Aggregate kind tasks) = (lines_left new ≡ []) × (fault_left functions old ≡ None)
 
 -- The first of the lines that were left is this one.
-pub record Takes (functions : Functions) (old new : JobLines) (line : Line) : Type 0 where
+pub record TakesLine (functions : Functions) (old new : JobLines) (line : Line) : Type 0 where
   pub text : List ℕ
   pub lines_are : lines_left old ≡ text ∷ lines_left new
   pub is_line : IsLine functions (place_of old) line text
-  pub goes_on : GoesOn functions old new line
+  pub goes_on : LinesGoOn functions old new line
   pub shorter : length new.rest.now < length old.rest.now

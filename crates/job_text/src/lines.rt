@@ -5,7 +5,7 @@ ghost use Rattle.std.specs.Prelude.{◌≡◌, ◌<◌, ◌^◌, ◌+◌, ◌∷
 ghost use Rattle.flow_defs.specs.Lines.{lines};
 
 use crate::known::Known;
-use crate::spelling::{agg_of, cut_word, exchange_of, is, is_token, kind_of, number_of};
+use crate::spelling::{agg_of, cut_word, exchange_of, is, is_token, number_of, stage_kind_of};
 use crate::{JobFault, JobReadFault};
 use flow_defs::{AggKind, Exchange, SOURCES_MAX, STAGES_MAX, StageKind, TASKS_MAX, cut_line};
 
@@ -43,7 +43,7 @@ pub(crate) struct JobLines<'a> {
 
 impl<'a> JobLines<'a> {
     ghost use Rattle.job_text.specs.JobFaults.{line_fault, source_fault, stage_fault, aggregate_fault};
-    ghost use Rattle.job_text.specs.Reading.{place_of, fault_left, IsTold, Takes, IsLine};
+    ghost use Rattle.job_text.specs.Reading.{place_of, fault_left, IsTold, TakesLine, IsLine};
     ghost use Rattle.job_text.specs.JobText.{line_of};
     ghost use Rattle.stage_fns.specs.Functions.{Functions};
     ghost use Rattle.job_text.specs.KnownKinds.{known};
@@ -68,7 +68,7 @@ impl<'a> JobLines<'a> {
     // Takes the next line. The aggregate's is the last, and is a fault where another follows it; it is
     // not called again behind that one, nor behind a fault.
     pub fn next(&mut self, functions: Known) -> Result<Line<'a>, JobReadFault>
-        ensures ok { IfOk result (Takes (known functions.entry) self.old self.new) }
+        ensures ok { IfOk result (TakesLine (known functions.entry) self.old self.new) }
         ensures err { IfErr result (λ told. IsTold told (fault_left (known functions.entry) self.old)) }
     {
         let Some((text, rest)) = next_line(self.rest) else {
@@ -193,7 +193,7 @@ impl<'a> JobLines<'a> {
         if self.stages >= STAGES_MAX {
             return Err(JobFault::TooMany);
         }
-        let (kind, arg) = kind_of(kind).ok_or(JobFault::UnknownKind)?;
+        let (kind, arg) = stage_kind_of(kind).ok_or(JobFault::UnknownKind)?;
         if !functions.has_stage(kind) {
             return Err(JobFault::NoFunction);
         }

@@ -2,7 +2,7 @@
 ghost use Rattle.std.specs.Prelude.{◌≡◌, ◌∷◌, [], option_map, bytes_eq};
 ghost use Rattle.std.specs.Option.{option_map_or};
 ghost use Rattle.flow_defs.specs.Stages.{pieces};
-ghost use Rattle.job_text.specs.JobFaults.{is_token, number_of, kind_of, exchange_of, agg_of};
+ghost use Rattle.job_text.specs.JobFaults.{is_token, number_of, stage_kind_of, exchange_of, agg_of};
 ghost use Rattle.job_text.specs.Words.{whole_number};
 
 use flow_defs::{AggKind, Exchange, StageKind};
@@ -70,8 +70,8 @@ pub(crate) fn whole_number(word: &[u8], most: u64) -> Option<u64>
 }
 
 // The kind of stages that the word spells, and its argument.
-pub(crate) fn kind_of(word: &[u8]) -> Option<(StageKind, &[u8])>
-    ensures { option_map (λ kind. (kind.0, kind.1.now)) result ≡ kind_of word.now }
+pub(crate) fn stage_kind_of(word: &[u8]) -> Option<(StageKind, &[u8])>
+    ensures { option_map (λ kind. (kind.0, kind.1.now)) result ≡ stage_kind_of word.now }
 {
     if is(word, "words") {
         Some((StageKind::Words, &[]))

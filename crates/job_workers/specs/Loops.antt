@@ -4,10 +4,10 @@ use Rattle.outside.specs.Links.{IsUnfinished}
 use Rattle.conn_parts.specs.declared.share.ConnShare.{ConnShare}
 use Rattle.conn_parts.specs.declared.share.LoopEnd.{LoopEnd}
 use Rattle.conn_parts.specs.Stopping.{ToldStop}
-use Rattle.conn_send.specs.Sending.{MaySendItems, SendHandsBack, SendAccount}
-use Rattle.conn_grant.specs.Granting.{MayReadControl, ControlHandsBack, ControlAccount}
-use Rattle.conn_receive.specs.Receiving.{MayReadItems, ItemsHandBack, ItemsAccount}
-use Rattle.conn_announce.specs.Announcing.{MaySendControl, AnnounceHandsBack, AnnounceAccount}
+use Rattle.conn_send_items.specs.Sending.{MaySendItems, SendHandsBack, SendAccount}
+use Rattle.conn_read_control.specs.Controlling.{MayReadControl, ControlHandsBack, ControlAccount}
+use Rattle.conn_read_items.specs.Receiving.{MayReadItems, ItemsHandBack, ItemsAccount}
+use Rattle.conn_send_control.specs.Announcing.{MaySendControl, AnnounceHandsBack, AnnounceAccount}
 use Rattle.job_workers.specs.declared.connection.ConnLoop.{ConnLoop}
 use Rattle.job_workers.specs.declared.connection.ConnLoop.TheVariants as todo
 use Rattle.job_workers.specs.declared.connection.LoopLeft.{LoopLeft}

@@ -1,10 +1,10 @@
 // The loops of a connection as workers.
 ghost use Rattle.std.specs.Prelude.{◌≡◌};
 ghost use Rattle.outside.specs.Links.{IsUnfinished};
-ghost use Rattle.conn_send.specs.Sending.{MaySendItems};
-ghost use Rattle.conn_grant.specs.Granting.{MayReadControl};
-ghost use Rattle.conn_receive.specs.Receiving.{MayReadItems};
-ghost use Rattle.conn_announce.specs.Announcing.{MaySendControl};
+ghost use Rattle.conn_send_items.specs.Sending.{MaySendItems};
+ghost use Rattle.conn_read_control.specs.Controlling.{MayReadControl};
+ghost use Rattle.conn_read_items.specs.Receiving.{MayReadItems};
+ghost use Rattle.conn_send_control.specs.Announcing.{MaySendControl};
 ghost use Rattle.job_workers.specs.Loops.{LeftByLoop, MayRunLoop, ReadControl, ReadItems, SentControl, SentItems};
 
 use crate::place::Worker;

@@ -4,13 +4,13 @@
 use Rattle.std.specs.Prelude.{ℕ, zero, suc, ◌+◌, ◌*◌, ◌/◌, ◌%◌, ◌^◌, List, [], ◌∷◌, ◌++◌, decimal}
 
 -- The number behind another.
-abbrev pub after : ℕ → ℕ
-after x = (x * 6364136223846793005 + 1442695040888963407) % 2 ^ 64
+abbrev pub state_next : ℕ → ℕ
+state_next x = (x * 6364136223846793005 + 1442695040888963407) % 2 ^ 64
 
 -- The number of line i. Lines are counted from 1, and the seed stands before the first.
 abbrev pub number_at : ℕ → ℕ → ℕ
 number_at seed zero = seed
-number_at seed (suc i) = after (number_at seed i)
+number_at seed (suc i) = state_next (number_at seed i)
 
 -- The line of a number: one of 1,000 words, a space, one of 100 words, a newline.
 abbrev pub line_text : ℕ → List ℕ

@@ -1,6 +1,6 @@
 // Makes lines of a seed.
 ghost use Rattle.std.specs.Prelude.{◌≡◌, ◌++◌, IfOk, OnOk};
-ghost use Rattle.line_generator.specs.Generated.{after, line_text, generated};
+ghost use Rattle.line_generator.specs.Generated.{state_next, line_text, generated};
 
 use flow_defs::Bytes;
 use itoa::Buffer;
@@ -24,7 +24,7 @@ pub fn generate(alloc: Global, lines: u64, seed: u64) -> Result<Bytes, AllocErro
 
 // The number behind another.
 fn next(number: u64) -> u64
-    ensures { result ≡ after number }
+    ensures { result ≡ state_next number }
 {
     number
         .wrapping_mul(6_364_136_223_846_793_005)

@@ -6,7 +6,7 @@ use Rattle.turn_cell.specs.History.{StartsWith, entries_of}
 use Rattle.local_pool.specs.declared.held.HeldPool.{HeldPool}
 use Rattle.local_pool.specs.declared.entry.PoolEntry.{PoolEntry}
 use Rattle.local_pool.specs.declared.entry.PoolEntry.TheVariants.{Lent, Returned}
-use Rattle.local_pool.specs.Helds.{first_of, local_of, pool_of, terms_of, StandsFor}
+use Rattle.local_pool.specs.Helds.{first_of, local_of, pool_of, terms_of, HeldStandsFor}
 use Rattle.local_pool.specs.Lending.{lent_after, lent_by}
 use Rattle.local_pool.specs.Locals.{IsSameLocal, lent_of, limit_of}
 
@@ -35,22 +35,22 @@ pub same_terms : (old new : HeldPool) → (pool_of new ≡ pool_of old) × (firs
 same_terms old new same = let pool = same.0 in let first = same.1 in let limit = same.2.limit in let number = same.2.number in cc
 
 -- One more is lent after a request that got one.
-pub stands_more : (old new : HeldPool) (history : List (ℕ × PoolEntry)) (n : ℕ) → StandsFor old history → first_of new ≡ first_of old → lent_of (local_of new) ≡ lent_of (local_of old) + 1 → StandsFor new (history ++ (n, Lent) ∷ [])
+pub stands_more : (old new : HeldPool) (history : List (ℕ × PoolEntry)) (n : ℕ) → HeldStandsFor old history → first_of new ≡ first_of old → lent_of (local_of new) ≡ lent_of (local_of old) + 1 → HeldStandsFor new (history ++ (n, Lent) ∷ [])
 stands_more old new history n stands first more =
     let after = lent_more old history n in let same : lent_by new (history ++ (n, Lent) ∷ []) ≡ lent_by old (history ++ (n, Lent) ∷ []) = ap (λ k. lent_after k (entries_of (history ++ (n, Lent) ∷ []))) first in
     omega (arith, stands, more, after, same)
 
 -- One less is lent where one was given back, and none where none was lent.
-pub stands_less : (old new : HeldPool) (history : List (ℕ × PoolEntry)) (n : ℕ) → StandsFor old history → first_of new ≡ first_of old → lent_of (local_of old) ≡ lent_of (local_of new) + 1 → StandsFor new (history ++ (n, Returned) ∷ [])
+pub stands_less : (old new : HeldPool) (history : List (ℕ × PoolEntry)) (n : ℕ) → HeldStandsFor old history → first_of new ≡ first_of old → lent_of (local_of old) ≡ lent_of (local_of new) + 1 → HeldStandsFor new (history ++ (n, Returned) ∷ [])
 stands_less old new history n stands first less =
     let after = lent_less old history n in let same : lent_by new (history ++ (n, Returned) ∷ []) ≡ lent_by old (history ++ (n, Returned) ∷ []) = ap (λ k. lent_after k (entries_of (history ++ (n, Returned) ∷ []))) first in
     omega (arith, stands, less, after, same)
 
-pub stands_none : (held : HeldPool) (history : List (ℕ × PoolEntry)) (n : ℕ) → StandsFor held history → lent_of (local_of held) ≡ 0 → StandsFor held (history ++ (n, Returned) ∷ [])
+pub stands_none : (held : HeldPool) (history : List (ℕ × PoolEntry)) (n : ℕ) → HeldStandsFor held history → lent_of (local_of held) ≡ 0 → HeldStandsFor held (history ++ (n, Returned) ∷ [])
 stands_none held history n stands none = let after = lent_less held history n in omega (arith, stands, none, after)
 
 -- Where a pool answered that its limit is reached, the history says so.
-pub limit_reached : (held opened : HeldPool) (history : List (ℕ × PoolEntry)) → StandsFor held history → terms_of held ≡ terms_of opened → limit_of (local_of held) ≤ lent_of (local_of held) → limit_of (local_of opened) ≤ lent_by opened history
+pub limit_reached : (held opened : HeldPool) (history : List (ℕ × PoolEntry)) → HeldStandsFor held history → terms_of held ≡ terms_of opened → limit_of (local_of held) ≤ lent_of (local_of held) → limit_of (local_of opened) ≤ lent_by opened history
 limit_reached held opened history stands same reached =
     let limit : limit_of (local_of held) ≡ limit_of (local_of opened) = ap (λ (t : Pool × ℕ × ℕ × ℕ). t.2) same in
     let lent = same_lent opened held history same in omega (arith, stands, reached, limit, lent)

@@ -26,9 +26,9 @@ abbrev pub terms_of : HeldPool → Pool × ℕ × ℕ × ℕ
 terms_of held = (pool_of held, number (pass_of (local_of held)), limit_of (local_of held), first_of held)
 
 -- it has lent what this history says
-abbrev pub StandsFor : HeldPool → List (ℕ × PoolEntry) → Type 0
-StandsFor held history = lent_of (local_of held) ≡ lent_by held history
+abbrev pub HeldStandsFor : HeldPool → List (ℕ × PoolEntry) → Type 0
+HeldStandsFor held history = lent_of (local_of held) ≡ lent_by held history
 
 -- and it is that of this cell
 abbrev pub StandsIn : PoolCell → List (ℕ × PoolEntry) → HeldPool → Type 0
-StandsIn cell history held = StandsFor held history × (terms_of held ≡ terms_of (opened_with cell))
+StandsIn cell history held = HeldStandsFor held history × (terms_of held ≡ terms_of (opened_with cell))

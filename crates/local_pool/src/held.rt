@@ -19,7 +19,7 @@ pub struct HeldPool<'a> {
 }
 
 impl<'a> Turned for HeldPool<'a> {
-    ghost use Rattle.local_pool.specs.Helds.{terms_of, StandsFor};
+    ghost use Rattle.local_pool.specs.Helds.{terms_of, HeldStandsFor};
 
     type Entry = PoolEntry;
 
@@ -27,7 +27,7 @@ impl<'a> Turned for HeldPool<'a> {
     // and the pass, so that the local pool can be closed once its cell is.
     type Fixed = (Pool, u32, u32, u32);
 
-    ghost stands = { StandsFor };
+    ghost stands = { HeldStandsFor };
 
     ghost fixed = { terms_of };
 }

@@ -12,10 +12,10 @@ use Rattle.subpartition.specs.declared.entry.SendEntry.TheVariants.{Put, PutInli
 use Rattle.subpartition.specs.declared.item.Filled.{Filled}
 use Rattle.subpartition.specs.Sending.{is_finished}
 use Rattle.subpartition.specs.Queues.{Queue, last_bytes, with_buffer}
-use Rattle.subpartition.specs.Standing.{StandsFor}
+use Rattle.subpartition.specs.Standing.{QueueStandsFor}
 use Rattle.subpartition.specs.Theorems.{PutAdds, LastIsPut}
 use Rattle.conn_parts.specs.Shares.{AreOf, AreOwn}
-use Rattle.conn_send.specs.Fronts.{SendCell, SendPass}
+use Rattle.conn_send_items.specs.Fronts.{SendCell, SendPass}
 
 some_is : {X : Type 0} (x y : X) → Some x ≡ Some y → x ≡ y
 some_is x y e = cc
@@ -57,8 +57,8 @@ open_put (Take ∷ es) bytes = open_put es bytes
 open_put (Size n ∷ es) bytes = open_put es bytes
 
 -- The queue with a buffer stands for one more entry, whose bytes are read off the last item.
-pub buffer_put : PutAdds → LastIsPut → (old now : Queue) (filled : Filled) (history : List (ℕ × SendEntry)) (n : ℕ) → StandsFor old history → n ≡ 0 → old.finished ≡ false → length filled.segment ≡ old.size → now ≡ with_buffer old filled →
-    StandsFor now (history ++ (n, Put (last_bytes now.items)) ∷ [])
+pub buffer_put : PutAdds → LastIsPut → (old now : Queue) (filled : Filled) (history : List (ℕ × SendEntry)) (n : ℕ) → QueueStandsFor old history → n ≡ 0 → old.finished ≡ false → length filled.segment ≡ old.size → now ≡ with_buffer old filled →
+    QueueStandsFor now (history ++ (n, Put (last_bytes now.items)) ∷ [])
 buffer_put adds last old now filled history n stands zero_is open_end long is =
-    subst (λ (queue : Queue). StandsFor queue (history ++ (n, Put (last_bytes queue.items)) ∷ [])) (sym is)
-    (subst (λ bytes. StandsFor (with_buffer old filled) (history ++ (n, Put bytes) ∷ [])) (sym (last old filled)) (adds old history n filled stands zero_is open_end long))
+    subst (λ (queue : Queue). QueueStandsFor queue (history ++ (n, Put (last_bytes queue.items)) ∷ [])) (sym is)
+    (subst (λ bytes. QueueStandsFor (with_buffer old filled) (history ++ (n, Put bytes) ∷ [])) (sym (last old filled)) (adds old history n filled stands zero_is open_end long))

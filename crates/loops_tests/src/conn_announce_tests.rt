@@ -5,14 +5,14 @@ ghost use Rattle.flow_defs.specs.declared.parcel.Parcel.TheVariants as parcels;
 ghost use Rattle.segment_pool.specs.Pools as pools;
 ghost use Rattle.segment_pool.specs.Pools.{limits_of, size_of};
 ghost use Rattle.input_channel.specs.declared.entry.ReceiveEntry.TheVariants as entries;
-ghost use Rattle.input_channel.specs.States.{StandsFor};
+ghost use Rattle.input_channel.specs.States.{ChannelStandsFor};
 ghost use Rattle.credit_reader.specs.Senders.{AreDistinct};
 ghost use Rattle.conn_parts.specs.Shares.{AreOwn};
 ghost use Rattle.outside.specs.Stops.{is_fault};
 
 use crate::lent::{CLOSING, deal, deal_place, open_stop};
 use crate::slow_links::SlowOut;
-use conn_announce::send_control;
+use conn_send_control::send_control;
 use conn_parts::{ConnShare, LoopEnd, SharePasses};
 use flow_defs::{Cause, ChannelId, ListOf};
 use input_channel::laws::{answers_tell, channels_stand_for_histories};
@@ -84,7 +84,7 @@ fn open_channel<R: Wait + Abort>(
 fn leave_backlog<E: Named<ReceiveEntry>>(turn: Turn<InputChannel>)
     requires entry { E.entry ≡ entries.Backlog 1 }
     requires turn { IsTurnOf turn.cell.now turn.pass.now }
-    requires state { StandsFor turn.state (seen turn.pass.now ++ (number turn.pass.now, entries.Backlog 1) ∷ []) }
+    requires state { ChannelStandsFor turn.state (seen turn.pass.now ++ (number turn.pass.now, entries.Backlog 1) ∷ []) }
     requires size { turn.state.size ≡ (opened_with turn.cell.now).size }
     ensures pass { IsPassOf turn.entry.cell.now turn.exit.1.0.now }
     ensures entered { HasEntered (entries.Backlog 1) turn.entry.pass.now turn.exit.1.0.now }
@@ -128,7 +128,7 @@ fn add_one<R: Wait>(
 fn leave_end<E: Named<ReceiveEntry>>(turn: Turn<InputChannel>)
     requires entry { E.entry ≡ entries.Push parcels.End 0 }
     requires turn { IsTurnOf turn.cell.now turn.pass.now }
-    requires state { StandsFor turn.state (seen turn.pass.now ++ (number turn.pass.now, entries.Push parcels.End 0) ∷ []) }
+    requires state { ChannelStandsFor turn.state (seen turn.pass.now ++ (number turn.pass.now, entries.Push parcels.End 0) ∷ []) }
     requires size { turn.state.size ≡ (opened_with turn.cell.now).size }
     ensures pass { IsPassOf turn.entry.cell.now turn.exit.1.0.now }
     ensures entered { HasEntered (entries.Push parcels.End 0) turn.entry.pass.now turn.exit.1.0.now }

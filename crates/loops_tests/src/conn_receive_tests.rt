@@ -7,16 +7,16 @@ ghost use Rattle.segment_pool.specs.Pools.{limits_of, size_of};
 ghost use Rattle.local_pool.specs.Helds.{pool_of};
 ghost use Rattle.input_channel.specs.declared.entry.ReceiveEntry.TheVariants as entries;
 ghost use Rattle.input_channel.specs.Answers.{gave_of};
-ghost use Rattle.input_channel.specs.States.{ChannelState, StandsFor};
+ghost use Rattle.input_channel.specs.States.{ChannelState, ChannelStandsFor};
 ghost use Rattle.credit_reader.specs.Senders.{AreDistinct};
 ghost use Rattle.outside.specs.Stops.{is_fault};
 ghost use Rattle.conn_parts.specs.Shares.{AreOf, AreOwn, HavePoolSize};
-ghost use Rattle.conn_receive.specs.Receiving.{MayReadItems};
+ghost use Rattle.conn_read_items.specs.Receiving.{MayReadItems};
 
 use crate::lent::{CLOSING, deal, deal_place, open_stop};
 use crate::slow_links::SlowIn;
 use conn_parts::{ConnShare, LoopEnd, SharePasses};
-use conn_receive::read_items;
+use conn_read_items::read_items;
 use flow_defs::{BarrierKind, Cause, ChannelId, ListOf, PeerFault};
 use input_channel::laws::{answers_tell, channels_stand_for_histories};
 use input_channel::{InputChannel, Polled, ReceiveEntry};
@@ -186,7 +186,7 @@ fn see(polled: Polled) -> Seen {
 fn leave_poll<E: Named<ReceiveEntry>>(turn: Turn<InputChannel>, polled: &Polled)
     requires entry { E.entry ≡ entries.Poll false (gave_of polled.now) }
     requires turn { IsTurnOf turn.cell.now turn.pass.now }
-    requires state { StandsFor turn.state (seen turn.pass.now ++ (number turn.pass.now, entries.Poll false (gave_of polled.now)) ∷ []) }
+    requires state { ChannelStandsFor turn.state (seen turn.pass.now ++ (number turn.pass.now, entries.Poll false (gave_of polled.now)) ∷ []) }
     requires size { turn.state.size ≡ (opened_with turn.cell.now).size }
     ensures pass { IsPassOf turn.entry.cell.now turn.exit.1.0.now }
     ensures entered { HasEntered (entries.Poll false (gave_of polled.now)) turn.entry.pass.now turn.exit.1.0.now }
@@ -240,7 +240,7 @@ fn wanted<R: Wait>(rt: &R, cell: &TurnCell<InputChannel>, pass: &mut Pass<InputC
 fn leave_credit<E: Named<ReceiveEntry>>(turn: Turn<InputChannel>, credit: u32)
     requires entry { E.entry ≡ entries.Credit credit }
     requires turn { IsTurnOf turn.cell.now turn.pass.now }
-    requires state { StandsFor turn.state (seen turn.pass.now ++ (number turn.pass.now, entries.Credit credit) ∷ []) }
+    requires state { ChannelStandsFor turn.state (seen turn.pass.now ++ (number turn.pass.now, entries.Credit credit) ∷ []) }
     requires size { turn.state.size ≡ (opened_with turn.cell.now).size }
     ensures pass { IsPassOf turn.entry.cell.now turn.exit.1.0.now }
     ensures entered { HasEntered (entries.Credit credit) turn.entry.pass.now turn.exit.1.0.now }

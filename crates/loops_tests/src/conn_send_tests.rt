@@ -8,13 +8,13 @@ ghost use Rattle.local_pool.specs.Helds.{pool_of};
 ghost use Rattle.subpartition.specs.declared.entry.SendEntry.TheVariants.{Put};
 ghost use Rattle.subpartition.specs.Sending.{is_finished};
 ghost use Rattle.subpartition.specs.Queues.{last_bytes};
-ghost use Rattle.subpartition.specs.Standing.{StandsFor};
+ghost use Rattle.subpartition.specs.Standing.{QueueStandsFor};
 ghost use Rattle.reader_state.specs.Turning.{channels_in, IsReaderPass};
 ghost use Rattle.conn_parts.specs.Shares.{AreOf, HavePoolSize};
 ghost use Rattle.loops_tests.specs.declared.conn_send_tests.TheConstants.{CHANNEL};
 
 use conn_parts::{ConnShare, LoopEnd, SharePasses, request_segment};
-use conn_send::send_items;
+use conn_send_items::send_items;
 use flow_defs::{Cause, ChannelId, ListOf};
 use local_pool::{HeldPool, LocalPool};
 use outside::{Failed, LinkOut, StopState, tell_stop};
@@ -79,7 +79,7 @@ impl LinkOut for FaultyOut {
 fn leave_put<E: Named<SendEntry>>(turn: Turn<Subpartition>)
     requires entry { E.entry ≡ Put (last_bytes turn.state.items) }
     requires turn { IsTurnOf turn.cell.now turn.pass.now }
-    requires state { StandsFor turn.state (seen turn.pass.now ++ (number turn.pass.now, Put (last_bytes turn.state.items)) ∷ []) }
+    requires state { QueueStandsFor turn.state (seen turn.pass.now ++ (number turn.pass.now, Put (last_bytes turn.state.items)) ∷ []) }
     requires size { turn.state.size ≡ (opened_with turn.cell.now).size }
     ensures pass { IsPassOf turn.entry.cell.now turn.exit.1.0.now }
     ensures entered { HasEntered (Put (last_bytes turn.entry.state.items)) turn.entry.pass.now turn.exit.1.0.now }

@@ -1,5 +1,5 @@
-//! Tests of the loops of a connection, over the built crates: reader_state, conn_parts, conn_send, conn_grant,
-//! conn_receive and conn_announce each alone, and all four with a source and a sink, as conn_harness
+//! Tests of the loops of a connection, over the built crates: reader_state, conn_parts, conn_send_items, conn_read_control,
+//! conn_read_items and conn_send_control each alone, and all four with a source and a sink, as conn_harness
 //! runs them.
 #![tactic(auto)]
 

@@ -12,7 +12,7 @@ use Rattle.net_frames.specs.declared.frame.ArrivalKind2.TheVariants.{Buffer, Inl
 use Rattle.net_frames.specs.declared.kind.Kind.{Kind}
 use Rattle.net_frames.specs.declared.kind.Kind.TheVariants as kinds
 use Rattle.net_frames.specs.Kinds.{may_have}
-use Rattle.net_frames.specs.Frames.{u8, u32, KeepsRanges, IsArrival, kind_of, head_len, frame_len, channel_numbers, arrival_numbers, body_numbers}
+use Rattle.net_frames.specs.Frames.{u8, u32, KeepsRanges, IsArrival, frame_kind, head_len, frame_len, channel_numbers, arrival_numbers, body_numbers}
 use Rattle.net_frames.specs.Faults.{number_at}
 use Rattle.net_frames.specs.Reading.{◌>>=◌, channel_in, ranged, barrier_in, arrival_of, arrival_in, frame_in}
 use Rattle.net_frames.proofs.Choices.{both, some_is, guard_some, bind_some, chosen}
@@ -43,7 +43,7 @@ arrival_again End content bytes reads range len =
     let size : length bytes - 39 ≡ 0 = omega (arith, ap length range) in
     rw (reads.0, reads.1.0, reads.1.1.0, size) refl
 
-pub frame_again : (frame : Frame) (content bytes : List ℕ) → Reads 9 (body_numbers frame content) bytes → KeepsRanges frame content → length bytes ≡ frame_len frame content → frame_in (kind_of frame) bytes ≡ Some frame
+pub frame_again : (frame : Frame) (content bytes : List ℕ) → Reads 9 (body_numbers frame content) bytes → KeepsRanges frame content → length bytes ≡ frame_len frame content → frame_in (frame_kind frame) bytes ≡ Some frame
 unfolding frame_in
 frame_again (BufferResponse channel sequence backlog what) content bytes reads range len =
     rw (
@@ -203,7 +203,7 @@ arrival_found bytes what least most e =
 
 -- what a body that was read tells
 pub record IsBody (kind : Kind) (bytes : List ℕ) (frame : Frame) : Type 0 where
-  pub kind_is : kind_of frame ≡ kind
+  pub kind_is : frame_kind frame ≡ kind
   pub reads : Reads 9 (body_numbers frame (drop (head_len frame) bytes)) bytes
   pub in_range : KeepsRanges frame (drop (head_len frame) bytes)
   pub whole : head_len frame ≤ length bytes

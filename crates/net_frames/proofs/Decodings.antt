@@ -8,7 +8,7 @@ use Rattle.net_frames.specs.declared.fault.FrameFault.{FrameFault}
 use Rattle.net_frames.specs.declared.fault.FrameFault.TheVariants.{NeedMore}
 use Rattle.net_frames.specs.declared.kind.Kind.{Kind}
 use Rattle.net_frames.specs.Kinds.{id_of, may_have}
-use Rattle.net_frames.specs.Frames.{Begins, kind_of, head_len, frame_len, body_numbers, numbers, spelled, spelling}
+use Rattle.net_frames.specs.Frames.{Begins, frame_kind, head_len, frame_len, body_numbers, numbers, spelled, spelling}
 use Rattle.net_frames.specs.Faults.{len_at, magic_at, id_at, tests, first_that_holds, IsFound, HasFound, CannotBegin}
 use Rattle.net_frames.specs.Reading.{IsHeader, frame_in}
 use Rattle.net_frames.proofs.Numbers.{IsBytes, IsBytes-take, Reads, number_at-append, reads_spelled, reads_fit}
@@ -80,27 +80,27 @@ from_none x o none some = absurd (let e : None ≡ Some x = sym none ∙ some in
 -- where a test holds no frame stands there
 pub fault_only : (bytes : List ℕ) (fault : FrameFault) → first_that_holds (tests bytes) ≡ Some fault → (frame : Frame) (content rest : List ℕ) → Begins bytes frame content rest → ⊥
 fault_only bytes fault fault_is frame content rest begins =
-    from_none fault (first_that_holds (tests bytes)) (passed bytes (kind_of frame) (frame_len frame content) (header_told bytes frame content rest begins)) fault_is
+    from_none fault (first_that_holds (tests bytes)) (passed bytes (frame_kind frame) (frame_len frame content) (header_told bytes frame content rest begins)) fault_is
 
 -- and no bytes mend it, but where it wants more
 pub fault_stays : (bytes : List ℕ) (fault : FrameFault) → first_that_holds (tests bytes) ≡ Some fault → fault ≢ NeedMore → CannotBegin bytes
 fault_stays bytes fault fault_is other more frame content rest begins =
-    elim (pass bytes (kind_of frame) (frame_len frame content) (begun bytes more frame content rest begins)) [
+    elim (pass bytes (frame_kind frame) (frame_len frame content) (begun bytes more frame content rest begins)) [
       | inl few ↦ other (let e : Some fault ≡ Some NeedMore = sym fault_is ∙ few.fault_is in cc)
-      | inr header ↦ from_none fault (first_that_holds (tests bytes)) (passed bytes (kind_of frame) (frame_len frame content) header) fault_is
+      | inr header ↦ from_none fault (first_that_holds (tests bytes)) (passed bytes (frame_kind frame) (frame_len frame content) header) fault_is
     ]
 
 -- a body that gives no frame gives none with more bytes
 pub body_stays : (bytes : List ℕ) (kind : Kind) (used : ℕ) → IsHeader bytes kind used → frame_in kind (take used bytes) ≡ None → CannotBegin bytes
 body_stays bytes kind used header none more frame content rest begins =
-    elim (pass bytes (kind_of frame) (frame_len frame content) (begun bytes more frame content rest begins)) [
+    elim (pass bytes (frame_kind frame) (frame_len frame content) (begun bytes more frame content rest begins)) [
       | inl few ↦ from_none NeedMore (first_that_holds (tests bytes)) (passed bytes kind used header) few.fault_is
       | inr header2 ↦
-          let same = one_kind bytes kind (kind_of frame) used (frame_len frame content) header header2 in
+          let same = one_kind bytes kind (frame_kind frame) used (frame_len frame content) header header2 in
           let read = (told (bytes ++ more) frame content rest begins).read in
           let front : take (frame_len frame content) (bytes ++ more) ≡ take used bytes =
           ap (λ (n : ℕ). take n (bytes ++ more)) (sym same.1) ∙ take-append-le used bytes more header.whole in
-          from_none frame (frame_in kind (take used bytes)) none (ap (λ (k : Kind). frame_in k (take used bytes)) same.0 ∙ ap (frame_in (kind_of frame)) (sym front) ∙ read)
+          from_none frame (frame_in kind (take used bytes)) none (ap (λ (k : Kind). frame_in k (take used bytes)) same.0 ∙ ap (frame_in (frame_kind frame)) (sym front) ∙ read)
     ]
 
 pub body_only : (bytes : List ℕ) (kind : Kind) (used : ℕ) → IsHeader bytes kind used → frame_in kind (take used bytes) ≡ None → (frame : Frame) (content rest : List ℕ) → Begins bytes frame content rest → ⊥

@@ -11,7 +11,7 @@ use Rattle.net_frames.specs.declared.fault.FrameFault.TheVariants.{NeedMore}
 use Rattle.net_frames.specs.declared.kind.Kind.{Kind}
 use Rattle.net_frames.specs.declared.kind.Kind.TheVariants as kinds
 use Rattle.net_frames.specs.Kinds.{kinds as kinds_list, id_of, kind_with, may_have}
-use Rattle.net_frames.specs.Frames.{KeepsRanges, IsFrame, Begins, kind_of, frame_len, body_numbers, numbers, numbers_len, spelled, Fit}
+use Rattle.net_frames.specs.Frames.{KeepsRanges, IsFrame, Begins, frame_kind, frame_len, body_numbers, numbers, numbers_len, spelled, Fit}
 use Rattle.net_frames.specs.Faults.{len_at, magic_at, id_at, tests, first_that_holds, is_wrong_len}
 use Rattle.net_frames.specs.Reading.{IsHeader}
 use Rattle.net_frames.proofs.Choices.{find_passes}
@@ -31,7 +31,7 @@ same_len kind m n same is_len = rw (← same) is_len
 none : (head : ℕ) (content : List ℕ) → content ≡ [] → head ≡ head + length content
 none head content empty = rw empty (omega arith)
 
-pub is_len : (frame : Frame) (content : List ℕ) → KeepsRanges frame content → IsLen (kind_of frame) (frame_len frame content)
+pub is_len : (frame : Frame) (content : List ℕ) → KeepsRanges frame content → IsLen (frame_kind frame) (frame_len frame content)
 is_len (BufferResponse channel sequence backlog Buffer) content range = record { least = omega arith; most = omega (arith, range.1); may_have_len = le-leb 39 (39 + length content) (omega arith) }
 is_len (BufferResponse channel sequence backlog (Inline k)) content range = same_len kinds.Buffer 47 (47 + length content) (none 47 content range.1.1) (record { least = lit≤ tt; most = lit≤ tt; may_have_len = refl })
 is_len (BufferResponse channel sequence backlog (Front k)) content range = same_len kinds.Buffer 47 (47 + length content) (none 47 content range.1.1) (record { least = lit≤ tt; most = lit≤ tt; may_have_len = refl })
@@ -88,7 +88,7 @@ id_of-kind_with id kind found = sym (eqb-true id (id_of kind) (find_passes (λ (
 
 -- the numbers of a frame fit, those before its body too
 pub fit_all : (frame : Frame) (content : List ℕ) → IsFrame frame content → Fit (numbers frame content)
-fit_all frame content frame_is = let len = is_len frame content frame_is.in_range in (omega (arith, len.most), (lit< tt, (id_fits (kind_of frame), frame_is.fits)))
+fit_all frame content frame_is = let len = is_len frame content frame_is.in_range in (omega (arith, len.most), (lit< tt, (id_fits (frame_kind frame), frame_is.fits)))
 
 -- ---- the tests
 
@@ -100,7 +100,7 @@ pub record Tells (bytes : List ℕ) (kind : Kind) (len : ℕ) : Type 0 where
   pub id_is : 9 ≤ length bytes → id_at bytes ≡ id_of kind
 
 -- the beginning of a frame, or more
-pub begun : (bytes more : List ℕ) (frame : Frame) (content rest : List ℕ) → Begins (bytes ++ more) frame content rest → Tells bytes (kind_of frame) (frame_len frame content)
+pub begun : (bytes more : List ℕ) (frame : Frame) (content rest : List ℕ) → Begins (bytes ++ more) frame content rest → Tells bytes (frame_kind frame) (frame_len frame content)
 begun bytes more frame content rest begins =
     let len = is_len frame content begins.is_frame.in_range in
     let reads : Reads 0 (numbers frame content) (bytes ++ more) =

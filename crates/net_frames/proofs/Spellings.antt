@@ -4,7 +4,7 @@ use Rattle.std.proofs.lemmas.List.{take_at, drop_at}
 use Rattle.std.proofs.lemmas.List.Sums.{sum_by-cons}
 use Rattle.net_frames.specs.declared.frame.Frame.{Frame}
 use Rattle.net_frames.specs.declared.kind.Kind.{Kind}
-use Rattle.net_frames.specs.Frames.{IsFrame, Begins, kind_of, head_len, frame_len, numbers, numbers_len, spelled, spelling, all_spelled, AreFrames}
+use Rattle.net_frames.specs.Frames.{IsFrame, Begins, frame_kind, head_len, frame_len, numbers, numbers_len, spelled, spelling, all_spelled, AreFrames}
 use Rattle.net_frames.specs.Reading.{IsHeader, frame_in}
 use Rattle.net_frames.proofs.Numbers.{Reads, length-spelled, spelled_reads}
 use Rattle.net_frames.proofs.Headers.{is_len, body_len, begun, fit_all, pass}
@@ -19,7 +19,7 @@ length-spelling frame content = length-append (spelled (numbers frame content)) 
 -- what bytes tell that begin with a frame
 pub record IsTold (bytes : List ℕ) (frame : Frame) (content rest : List ℕ) : Type 0 where
   pub within : frame_len frame content ≤ length bytes
-  pub read : frame_in (kind_of frame) (take (frame_len frame content) bytes) ≡ Some frame
+  pub read : frame_in (frame_kind frame) (take (frame_len frame content) bytes) ≡ Some frame
   pub content_is : content ≡ drop (head_len frame) (take (frame_len frame content) bytes)
   pub rest_is : rest ≡ drop (frame_len frame content) bytes
 
@@ -32,18 +32,18 @@ told bytes frame content rest begins =
     spelled_reads (numbers frame content) 0 [] content text refl refl (fit_all frame content begins.is_frame) in
     record {
       within = rw begins.bytes_are (omega (arith, length-append text rest));
-      read = ap (frame_in (kind_of frame)) whole ∙ frame_again frame content text reads.1.1.1 begins.is_frame.in_range len;
+      read = ap (frame_in (frame_kind frame)) whole ∙ frame_again frame content text reads.1.1.1 begins.is_frame.in_range len;
       content_is = sym (ap (drop (head_len frame)) whole ∙ drop_at (spelled (numbers frame content)) content (head_len frame) (length-spelled (numbers frame content) ∙ numbers_len_is frame content));
       rest_is = sym (ap (drop (frame_len frame content)) begins.bytes_are ∙ drop_at text rest (frame_len frame content) len);
     }
 
 -- with their header
-pub header_told : (bytes : List ℕ) (frame : Frame) (content rest : List ℕ) → Begins bytes frame content rest → IsHeader bytes (kind_of frame) (frame_len frame content)
+pub header_told : (bytes : List ℕ) (frame : Frame) (content rest : List ℕ) → Begins bytes frame content rest → IsHeader bytes (frame_kind frame) (frame_len frame content)
 header_told bytes frame content rest begins =
     let same : bytes ++ [] ≡ bytes = append-nil bytes in
     let begins_so : Begins (bytes ++ []) frame content rest = record { is_frame = begins.is_frame; bytes_are = same ∙ begins.bytes_are } in
     let within = (told bytes frame content rest begins).within in
-    elim (pass bytes (kind_of frame) (frame_len frame content) (begun bytes [] frame content rest begins_so)) [
+    elim (pass bytes (frame_kind frame) (frame_len frame content) (begun bytes [] frame content rest begins_so)) [
       | inl few ↦ absurd (let short = few.short in omega arith)
       | inr header ↦ header
     ]
@@ -59,8 +59,8 @@ pub begins_with_one : (bytes : List ℕ) (f g : Frame) (c d rest more : List ℕ
 begins_with_one bytes f g c d rest more first second =
     let a = told bytes f c rest first in
     let b = told bytes g d more second in
-    let same = one_kind bytes (kind_of f) (kind_of g) (frame_len f c) (frame_len g d) (header_told bytes f c rest first) (header_told bytes g d more second) in
-    let frames : f ≡ g = one_frame bytes f g (kind_of f) (kind_of g) (frame_len f c) (frame_len g d) same.0 same.1 a.read b.read in (
+    let same = one_kind bytes (frame_kind f) (frame_kind g) (frame_len f c) (frame_len g d) (header_told bytes f c rest first) (header_told bytes g d more second) in
+    let frames : f ≡ g = one_frame bytes f g (frame_kind f) (frame_kind g) (frame_len f c) (frame_len g d) same.0 same.1 a.read b.read in (
       frames,
       a.content_is ∙ ap (λ (h : Frame). drop (head_len h) (take (frame_len f c) bytes)) frames ∙ ap (λ (l : ℕ). drop (head_len g) (take l bytes)) same.1 ∙ sym b.content_is,
       a.rest_is ∙ ap (λ (l : ℕ). drop l bytes) same.1 ∙ sym b.rest_is,

@@ -17,15 +17,15 @@ use Rattle.net_frames.specs.declared.kind.Kind.TheVariants as kinds
 use Rattle.net_frames.specs.Kinds.{id_of}
 
 -- The kind of a frame.
-abbrev pub kind_of : Frame → Kind
-kind_of (BufferResponse channel sequence backlog what) = kinds.Buffer
-kind_of (ErrorResponse channel code) = kinds.Error
-kind_of (PartitionRequest channel credit) = kinds.Request
-kind_of Close = kinds.Closing
-kind_of (AddCredit channel credit) = kinds.Credit
-kind_of (ResumeConsumption channel) = kinds.Resumption
-kind_of (BacklogAnnouncement channel backlog) = kinds.Backlog
-kind_of (NewBufferSize channel size) = kinds.Size
+abbrev pub frame_kind : Frame → Kind
+frame_kind (BufferResponse channel sequence backlog what) = kinds.Buffer
+frame_kind (ErrorResponse channel code) = kinds.Error
+frame_kind (PartitionRequest channel credit) = kinds.Request
+frame_kind Close = kinds.Closing
+frame_kind (AddCredit channel credit) = kinds.Credit
+frame_kind (ResumeConsumption channel) = kinds.Resumption
+frame_kind (BacklogAnnouncement channel backlog) = kinds.Backlog
+frame_kind (NewBufferSize channel size) = kinds.Size
 
 -- ---- ranges
 
@@ -107,7 +107,7 @@ frame_len frame content = head_len frame + length content
 
 -- All numbers of a frame: its length, the magic number, its id, and those of its body.
 abbrev pub numbers : Frame → List ℕ → List Number
-numbers frame content = u32 (frame_len frame content) ∷ u32 magic ∷ u8 (id_of (kind_of frame)) ∷ body_numbers frame content
+numbers frame content = u32 (frame_len frame content) ∷ u32 magic ∷ u8 (id_of (frame_kind frame)) ∷ body_numbers frame content
 
 -- ---- the spelling
 

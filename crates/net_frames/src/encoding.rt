@@ -7,7 +7,7 @@ ghost use Rattle.net_frames.specs.Frames.{
   IsArrival,
   IsFrame,
   Fit,
-  kind_of,
+  frame_kind,
   frame_len,
   numbers_len,
   channel_numbers,

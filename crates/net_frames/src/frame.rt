@@ -1,6 +1,6 @@
 // Frames as values.
 ghost use Rattle.std.specs.Prelude.{◌≡◌};
-ghost use Rattle.net_frames.specs.Frames.{kind_of, head_len};
+ghost use Rattle.net_frames.specs.Frames.{frame_kind, head_len};
 
 use crate::kind::Kind;
 use flow_defs::ChannelId;
@@ -90,7 +90,7 @@ pub enum Frame {
 
 impl Frame {
     pub(crate) fn kind(&self) -> Kind
-        ensures { result ≡ kind_of self.now }
+        ensures { result ≡ frame_kind self.now }
     {
         match self {
             Frame::BufferResponse { .. } => Kind::Buffer,

@@ -9,7 +9,7 @@ use Rattle.turn_cell.specs.Passes.{HasEntered, HasRested, number, seen, mine}
 use Rattle.credit_reader.specs.declared.reader.Reader.{Reader}
 use Rattle.credit_reader.specs.declared.reader.Told.{Told}
 use Rattle.credit_reader.specs.Answers.{due_first, told_of}
-use Rattle.credit_reader.specs.Readers.{Happening, Asked, Granted, Resumed, Ready, Sent, Announced, after, is_due}
+use Rattle.credit_reader.specs.Readers.{Happening, Asked, Granted, Resumed, Ready, Sent, Announced, reader_next, is_due}
 use Rattle.credit_reader.specs.Senders.{Sender, AreDistinct, is_same, reader_of, after_at}
 use Rattle.reader_state.specs.declared.entry.ReaderEntry.{ReaderEntry}
 use Rattle.reader_state.specs.declared.entry.ReaderEntry.TheVariants as entry
@@ -36,14 +36,14 @@ is_same_comm c d =
     ∙ ap (λ b. eqb d.edge c.edge && eqb d.from c.from && b) (eqb_comm c.to d.to)
 
 -- A reader is told a number.
-told_anew : (c d : ChannelId) (h : Happening) (rs : List Reader) (m n : ℕ) → ((r : Reader) → (after r h).backlog ≡ m) → told (λ r. r.backlog) c rs ≡ Some n →
+told_anew : (c d : ChannelId) (h : Happening) (rs : List Reader) (m n : ℕ) → ((r : Reader) → (reader_next r h).backlog ≡ m) → told (λ r. r.backlog) c rs ≡ Some n →
     told (λ r. r.backlog) c (after_at d h rs) ≡ Some (cond (is_same d c) m n)
 told_anew c d h rs m n new is =
     ap (option_map (λ (r : Reader). r.backlog)) (reader_after d h c rs)
-    ∙ ap (λ b. option_map (λ (r : Reader). r.backlog) (option_map (λ r. cond b (after r h) r) (reader_of c rs))) (is_same_comm c d)
+    ∙ ap (λ b. option_map (λ (r : Reader). r.backlog) (option_map (λ r. cond b (reader_next r h) r) (reader_of c rs))) (is_same_comm c d)
     ∙ of_reader (is_same d c) (reader_of c rs) is
   where
-    of_reader : (b : Bool) (o : Option Reader) → option_map (λ (r : Reader). r.backlog) o ≡ Some n → option_map (λ (r : Reader). r.backlog) (option_map (λ r. cond b (after r h) r) o) ≡ Some (cond b m n)
+    of_reader : (b : Bool) (o : Option Reader) → option_map (λ (r : Reader). r.backlog) o ≡ Some n → option_map (λ (r : Reader). r.backlog) (option_map (λ r. cond b (reader_next r h) r) o) ≡ Some (cond b m n)
     of_reader b None was = absurd (none-some _ was)
     of_reader true (Some r) was = ap Some (new r)
     of_reader false (Some r) was = was
@@ -51,14 +51,14 @@ told_anew c d h rs m n new is =
 pub backlogs_told : (c : ChannelId) (es : List ReaderEntry) (l : Ledger) (n : ℕ) → backlog_in c l ≡ Some n → backlog_in c (after_all l es) ≡ Some (told_last_from c n es)
 backlogs_told c [] l n is = is
 backlogs_told c (entry.Ready d head backlog ∷ es) l n is =
-    backlogs_told c es (ledgers.after l (entry.Ready d head backlog)) (cond (is_same d c) backlog n) (told_anew c d (Ready head backlog) l.sender.readers backlog n (λ r. refl) is)
+    backlogs_told c es (ledgers.ledger_next l (entry.Ready d head backlog)) (cond (is_same d c) backlog n) (told_anew c d (Ready head backlog) l.sender.readers backlog n (λ r. refl) is)
 backlogs_told c (entry.Sent d what head backlog ∷ es) l n is =
-    backlogs_told c es (ledgers.after l (entry.Sent d what head backlog)) (cond (is_same d c) backlog n)
+    backlogs_told c es (ledgers.ledger_next l (entry.Sent d what head backlog)) (cond (is_same d c) backlog n)
     (settled_backlog c d _ ∙ told_anew c d (Sent what head backlog) l.sender.readers backlog n (λ r. refl) is)
-backlogs_told c (entry.Told d ∷ es) l n is = backlogs_told c es (ledgers.after l (entry.Told d)) n (told_stays (λ r. r.backlog) Announced (λ r. refl) c d l.sender.readers ∙ is)
-backlogs_told c (entry.Asked d k ∷ es) l n is = backlogs_told c es (ledgers.after l (entry.Asked d k)) n (told_stays (λ r. r.backlog) (Asked k) (λ r. refl) c d l.sender.readers ∙ is)
-backlogs_told c (entry.Granted d k ∷ es) l n is = backlogs_told c es (ledgers.after l (entry.Granted d k)) n (settled_backlog c d _ ∙ is)
-backlogs_told c (entry.Resumed d ∷ es) l n is = backlogs_told c es (ledgers.after l (entry.Resumed d)) n (settled_backlog c d _ ∙ is)
+backlogs_told c (entry.Told d ∷ es) l n is = backlogs_told c es (ledgers.ledger_next l (entry.Told d)) n (told_stays (λ r. r.backlog) Announced (λ r. refl) c d l.sender.readers ∙ is)
+backlogs_told c (entry.Asked d k ∷ es) l n is = backlogs_told c es (ledgers.ledger_next l (entry.Asked d k)) n (told_stays (λ r. r.backlog) (Asked k) (λ r. refl) c d l.sender.readers ∙ is)
+backlogs_told c (entry.Granted d k ∷ es) l n is = backlogs_told c es (ledgers.ledger_next l (entry.Granted d k)) n (settled_backlog c d _ ∙ is)
+backlogs_told c (entry.Resumed d ∷ es) l n is = backlogs_told c es (ledgers.ledger_next l (entry.Resumed d)) n (settled_backlog c d _ ∙ is)
 
 pub replayed_backlog : (c : ChannelId) (channels : List ChannelId) (es : List ReaderEntry) → IsOneOf c channels → backlog_in c (replayed channels es) ≡ Some (told_last c es)
 replayed_backlog c channels es one = backlogs_told c es (opened channels) 0 (ap (option_map (λ (r : Reader). r.backlog)) (fresh_there c channels one.0 one.1))

@@ -12,8 +12,8 @@ use Rattle.credit_reader.specs.Senders.{Sender, is_same, reader_of}
 use Rattle.reader_state.specs.declared.state.Early.{Early}
 use Rattle.reader_state.specs.declared.state.Kept.{Kept}
 use Rattle.reader_state.specs.declared.entry.ReaderEntry.{ReaderEntry}
-use Rattle.reader_state.specs.Ledgers.{Ledger, early_of, with_early, with_reader, fitting, credit_given, is_requested, settled, after, MayEnter}
-use Rattle.reader_state.specs.Settling.{alone, put_at, IsKept, Took}
+use Rattle.reader_state.specs.Ledgers.{Ledger, early_of, with_early, with_reader, fitting, credit_given, is_requested, settled, ledger_next, MayEnter}
+use Rattle.reader_state.specs.Settling.{alone, put_at, IsEarlyKept, Took}
 use Rattle.reader_state.specs.Turning.{IsRefused}
 use Rattle.reader_state.proofs.Channels.{is_same_self}
 use Rattle.reader_state.proofs.Ledgers.{asked_credit}
@@ -62,13 +62,13 @@ none_then (Some e) P Q then p = tt
 -- ---- messages
 
 -- another early part at its place
-pub put_is : (c : ChannelId) (kept : Kept) (f : Early → Early) (l : Ledger) → IsKept l.early c kept → put_at kept.place (f kept.early) l ≡ with_early c f l
+pub put_is : (c : ChannelId) (kept : Kept) (f : Early → Early) (l : Ledger) → IsEarlyKept l.early c kept → put_at kept.place (f kept.early) l ≡ with_early c f l
 put_is c kept f l is =
     let only = only_at l.early c kept is in
     ap (λ es. record { sender = l.sender; early = es }) (ap (λ e. set l.early kept.place (f e)) (sym only.1) ∙ sym (touched_place l.early kept.place c only.0 f))
 
 -- what fits of it is given
-pub goes_on : (c : ChannelId) (kept : Kept) (f : Early → Early) → ((e : Early) → (f e).channel ≡ e.channel) → (l : Ledger) → IsKept l.early c kept → (e : Early) → e ≡ f kept.early → settled e.channel (put_at kept.place e l) ≡ settled c (with_early c f l)
+pub goes_on : (c : ChannelId) (kept : Kept) (f : Early → Early) → ((e : Early) → (f e).channel ≡ e.channel) → (l : Ledger) → IsEarlyKept l.early c kept → (e : Early) → e ≡ f kept.early → settled e.channel (put_at kept.place e l) ≡ settled c (with_early c f l)
 goes_on c kept f keeps l is e e_is =
     ap (λ (x : Early). settled x.channel (put_at kept.place x l)) e_is
     ∙ ap (λ d. settled d (put_at kept.place (f kept.early) l)) (keeps kept.early ∙ is.channel_is)
@@ -78,7 +78,7 @@ pub on_ok : (result : Result (Unit {0}) PeerFault) (P Q : Type 0) → (P → Q) 
 on_ok (Ok done) P Q then p = then p
 on_ok (Err fault) P Q then p = tt
 
-pub took : (entry : ReaderEntry) (old new goes : Ledger) (result : Result (Unit {0}) PeerFault) (Not : Type 0) → OnOk result (new ≡ goes) → goes ≡ after old entry → OnOk result (MayEnter old entry)
+pub took : (entry : ReaderEntry) (old new goes : Ledger) (result : Result (Unit {0}) PeerFault) (Not : Type 0) → OnOk result (new ≡ goes) → goes ≡ ledger_next old entry → OnOk result (MayEnter old entry)
     → OnErr result ((new ≡ old) × Not) → (Not → IsRefused old entry) → IfErr result (λ fault. fault ≡ peer.Channel) → Took entry old new result
 took entry old new goes (Ok done) Not ok is may err refuse fault = (may, ok ∙ is)
 took entry old new goes (Err f) Not ok is may err refuse fault = (fault, refuse err.1, err.0)

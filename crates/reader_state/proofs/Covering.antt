@@ -12,7 +12,7 @@ use Rattle.flow_defs.specs.declared.task.Head.{Head}
 use Rattle.credit_reader.specs.declared.reader.Reader.{Reader}
 use Rattle.credit_reader.specs.declared.reader.SentKind.{SentKind}
 use Rattle.credit_reader.specs.declared.reader.SentKind.TheVariants as kinds
-use Rattle.credit_reader.specs.Readers.{fresh, Happening, Asked, Granted, Resumed, Ready, Sent, Announced, after, can_send, may_go, cost, blocks}
+use Rattle.credit_reader.specs.Readers.{fresh, Happening, Asked, Granted, Resumed, Ready, Sent, Announced, reader_next, can_send, may_go, cost, blocks}
 use Rattle.credit_reader.specs.Senders.{Sender, is_same, is_able, has_sent, reader_of}
 use Rattle.reader_state.specs.declared.state.Early.{Early}
 use Rattle.reader_state.specs.declared.entry.ReaderEntry.{ReaderEntry}
@@ -164,11 +164,11 @@ module _ (c : ChannelId) (es : List ReaderEntry) (l : Ledger) (old : Covers c es
   or_last true = refl
   or_last false = refl
 
-  goes_sent : (what : SentKind) (head : Head) (backlog : ℕ) → MayEnter l (entry.Sent c what head backlog) → is_able c l.sender.readers ≡ true → Goes (entry.Sent c what head backlog) (ledgers.after l (entry.Sent c what head backlog))
+  goes_sent : (what : SentKind) (head : Head) (backlog : ℕ) → MayEnter l (entry.Sent c what head backlog) → is_able c l.sender.readers ≡ true → Goes (entry.Sent c what head backlog) (ledgers.ledger_next l (entry.Sent c what head backlog))
   goes_sent what head backlog may able =
       let h = Sent what head backlog in
       let k : Ledger = record l { sender = has_sent c what head backlog l.sender } in
-      let m = settled_own c (with_early c (ended_by what) k) (after old.reader h) (ended_by what old.early) (reader_own c h l.sender.readers old.reader old.reader_is) (early_own (ended_by what) (λ e. refl) c k old.early old.early_is) in
+      let m = settled_own c (with_early c (ended_by what) k) (reader_next old.reader h) (ended_by what old.early) (reader_own c h l.sender.readers old.reader old.reader_is) (early_own (ended_by what) (λ e. refl) c k old.early old.early_is) in
       let can = sends able in let asked = can.0 in let unblocked = can.1 in
       let fits : cost what ≤ old.reader.credit = subst (λ o. IsSomeAnd o (λ r. cost what ≤ r.credit)) old.reader_is may.1 in
       let sum : data_on c (entry.Sent c what head backlog ∷ []) ≡ cost what = ap (count_by is_data) (own_sent what head backlog) ∙ cost_is what in
@@ -187,12 +187,12 @@ module _ (c : ChannelId) (es : List ReaderEntry) (l : Ledger) (old : Covers c es
         ended = m.ended ∙ ap (λ b. old.early.ended || b) (or_last (is_end what)) ∙ ap (λ ks. old.early.ended || list_any is_end ks) (sym (own_sent what head backlog));
       }
 
-  goes_asked : (n : ℕ) → MayEnter l (entry.Asked c n) → Goes (entry.Asked c n) (ledgers.after l (entry.Asked c n))
+  goes_asked : (n : ℕ) → MayEnter l (entry.Asked c n) → Goes (entry.Asked c n) (ledgers.ledger_next l (entry.Asked c n))
   goes_asked n may =
       let asked : old.reader.requested ≡ false = subst (λ o. IsSomeAnd o (λ r. r.requested ≡ false)) old.reader_is may.0 in
       let none = old.bare asked in let came = all_of n in
       record {
-        reader = after old.reader (Asked n);
+        reader = reader_next old.reader (Asked n);
         early = old.early;
         reader_is = reader_own c (Asked n) l.sender.readers old.reader old.reader_is;
         early_is = old.early_is;
@@ -206,7 +206,7 @@ module _ (c : ChannelId) (es : List ReaderEntry) (l : Ledger) (old : Covers c es
   asked_now : is_requested c l ≡ true → old.reader.requested ≡ true
   asked_now is = ap (λ o. option_map_or (λ (r : Reader). r.requested) o false) (sym old.reader_is) ∙ is
 
-  goes_granted : (n : ℕ) → MayEnter l (entry.Granted c n) → Goes (entry.Granted c n) (ledgers.after l (entry.Granted c n))
+  goes_granted : (n : ℕ) → MayEnter l (entry.Granted c n) → Goes (entry.Granted c n) (ledgers.ledger_next l (entry.Granted c n))
   goes_granted n may =
       let f : Early → Early = λ e. record e { credit = min (e.credit + n) KEPT_MAX } in
       let m = settled_own c (with_early c f l) old.reader (f old.early) old.reader_is (early_own f (λ e. refl) c l old.early old.early_is) in
@@ -225,7 +225,7 @@ module _ (c : ChannelId) (es : List ReaderEntry) (l : Ledger) (old : Covers c es
         ended = m.ended ∙ or_last old.early.ended;
       }
 
-  goes_resumed : MayEnter l (entry.Resumed c) → Goes (entry.Resumed c) (ledgers.after l (entry.Resumed c))
+  goes_resumed : MayEnter l (entry.Resumed c) → Goes (entry.Resumed c) (ledgers.ledger_next l (entry.Resumed c))
   goes_resumed may =
       let f : Early → Early = λ e. record e { resumptions = min (e.resumptions + 1) KEPT_MAX } in
       let m = settled_own c (with_early c f l) old.reader (f old.early) old.reader_is (early_own f (λ e. refl) c l old.early old.early_is) in
@@ -245,18 +245,18 @@ module _ (c : ChannelId) (es : List ReaderEntry) (l : Ledger) (old : Covers c es
       }
 
   -- what an entry of this channel comes to, and so that of any
-  by_channel : (d : ChannelId) (X : ChannelId → ReaderEntry) → (MayEnter l (X c) → Goes (X c) (ledgers.after l (X c))) → (is_same c d ≡ false → Goes (X d) (ledgers.after l (X d))) → MayEnter l (X d) → Goes (X d) (ledgers.after l (X d))
+  by_channel : (d : ChannelId) (X : ChannelId → ReaderEntry) → (MayEnter l (X c) → Goes (X c) (ledgers.ledger_next l (X c))) → (is_same c d ≡ false → Goes (X d) (ledgers.ledger_next l (X d))) → MayEnter l (X d) → Goes (X d) (ledgers.ledger_next l (X d))
   by_channel d X own other may =
-      elim (is_same c d) as (λ b. is_same c d ≡ b → Goes (X d) (ledgers.after l (X d))) [
-        | true ↦ λ same. subst (λ z. MayEnter l (X z) → Goes (X z) (ledgers.after l (X z))) (same_channel c d same) own may
+      elim (is_same c d) as (λ b. is_same c d ≡ b → Goes (X d) (ledgers.ledger_next l (X d))) [
+        | true ↦ λ same. subst (λ z. MayEnter l (X z) → Goes (X z) (ledgers.ledger_next l (X z))) (same_channel c d same) own may
         | false ↦ other
       ] refl
 
-  goes_quiet : (h : Happening) (x : ReaderEntry) → (after old.reader h).requested ≡ old.reader.requested → (after old.reader h).credit ≡ old.reader.credit → (after old.reader h).blocked ≡ old.reader.blocked →
+  goes_quiet : (h : Happening) (x : ReaderEntry) → (reader_next old.reader h).requested ≡ old.reader.requested → (reader_next old.reader h).credit ≡ old.reader.credit → (reader_next old.reader h).blocked ≡ old.reader.blocked →
       sent_on c (x ∷ []) ≡ [] → credit_on c (x ∷ []) ≡ 0 → resumptions_on c (x ∷ []) ≡ 0 → Goes x (with_reader c h l)
-  goes_quiet h x requested credit blocked = quiet x (with_reader c h l) (after old.reader h) (reader_own c h l.sender.readers old.reader old.reader_is) old.early_is requested credit blocked
+  goes_quiet h x requested credit blocked = quiet x (with_reader c h l) (reader_next old.reader h) (reader_own c h l.sender.readers old.reader old.reader_is) old.early_is requested credit blocked
 
-  goes : (x : ReaderEntry) → MayEnter l x → Queued l.sender → Goes x (ledgers.after l x)
+  goes : (x : ReaderEntry) → MayEnter l x → Queued l.sender → Goes x (ledgers.ledger_next l x)
   goes (entry.Ready d head backlog) may queued = by_channel d (λ z. entry.Ready z head backlog)
       (λ own. goes_quiet (Ready head backlog) (entry.Ready c head backlog) refl refl refl refl refl refl)
       (λ other. apart (entry.Ready d head backlog) _ (reader_other c d (Ready head backlog) l.sender.readers other) refl refl refl refl) may
@@ -280,8 +280,8 @@ module _ (c : ChannelId) (es : List ReaderEntry) (l : Ledger) (old : Covers c es
       let settles = settled_other c d (with_early d (λ e. record e { resumptions = min (e.resumptions + 1) KEPT_MAX }) l) other in
       apart (entry.Resumed d) _ settles.0 (settles.1 ∙ early_other (λ e. record e { resumptions = min (e.resumptions + 1) KEPT_MAX }) (λ e. refl) c d l other) refl refl (none_of 1 d other)) may
 
-  pub entry_covers : (x : ReaderEntry) → MayEnter l x → Queued l.sender → Covers c (es ++ x ∷ []) (ledgers.after l x)
-  entry_covers x may queued = covers_more x (ledgers.after l x) (goes x may queued)
+  pub entry_covers : (x : ReaderEntry) → MayEnter l x → Queued l.sender → Covers c (es ++ x ∷ []) (ledgers.ledger_next l x)
+  entry_covers x may queued = covers_more x (ledgers.ledger_next l x) (goes x may queued)
 
 -- ---- every legal history
 
@@ -312,14 +312,14 @@ module _ (channels : List ChannelId) (history : List (ℕ × ReaderEntry)) (c : 
   covers one = (history_keeps (MayEnterAs channels) (λ h. Queued (ledger_after channels h).sender × Covers c (entries_of h) (ledger_after channels h)) (opened_queued channels, opened_covers c channels one)
       (λ h x both may.
       let l = ledger_after channels h in
-      let grown : ledger_after channels (h ++ x ∷ []) ≡ ledgers.after l x.1 = ledger_more channels h x.0 x.1 in (
+      let grown : ledger_after channels (h ++ x ∷ []) ≡ ledgers.ledger_next l x.1 = ledger_more channels h x.0 x.1 in (
         subst (λ (k : Ledger). Queued k.sender) (sym grown) (entry_queued l x.1 may.1 both.0),
-        subst (λ k. Covers c (entries_of (h ++ x ∷ [])) k) (sym grown) (subst (λ xs. Covers c xs (ledgers.after l x.1)) (sym (entries_of-append h (x ∷ []))) (entry_covers c (entries_of h) l both.1 x.1 may.1 both.0)),
+        subst (λ k. Covers c (entries_of (h ++ x ∷ [])) k) (sym grown) (subst (λ xs. Covers c xs (ledgers.ledger_next l x.1)) (sym (entries_of-append h (x ∷ []))) (entry_covers c (entries_of h) l both.1 x.1 may.1 both.0)),
       )) history legal).1
 
   names_after : (l : Ledger) (es : List ReaderEntry) → channels_of (after_all l es) ≡ channels_of l
   names_after l [] = refl
-  names_after l (x ∷ es) = names_after (ledgers.after l x) es ∙ channels_stay l x
+  names_after l (x ∷ es) = names_after (ledgers.ledger_next l x) es ∙ channels_stay l x
 
   pub one_of_parts : (r : Reader) → reader_of c (ledger_after channels history).sender.readers ≡ Some r → IsOneOf c channels
   one_of_parts r is = subst (IsOneOf c) (names_after (opened channels) (entries_of history) ∙ fresh_names channels) (key_of_found (λ (r : Reader). r.channel) c (ledger_after channels history).sender.readers r is)

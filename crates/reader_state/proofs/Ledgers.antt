@@ -6,7 +6,7 @@ use Rattle.flow_defs.specs.declared.task.ChannelId.{ChannelId}
 use Rattle.flow_defs.specs.declared.task.Head.{Head}
 use Rattle.credit_reader.specs.declared.reader.Reader.{Reader}
 use Rattle.credit_reader.specs.declared.reader.SentKind.{SentKind}
-use Rattle.credit_reader.specs.Readers.{Happening, Asked, Granted, Resumed, Ready, Sent, Announced, after}
+use Rattle.credit_reader.specs.Readers.{Happening, Asked, Granted, Resumed, Ready, Sent, Announced, reader_next}
 use Rattle.credit_reader.specs.Senders.{Sender, is_same, reader_of, after_at, happened, has_sent}
 use Rattle.credit_reader.specs.Answers.{due_first, announced}
 use Rattle.reader_state.specs.declared.state.Early.{Early}
@@ -16,7 +16,7 @@ use Rattle.reader_state.specs.Ledgers as ledgers
 use Rattle.reader_state.specs.Ledgers.{Ledger, channels_of, early_of, with_early, with_reader, fitting, credit_given, may_resume, resumption_given, settled, is_requested}
 use Rattle.reader_state.proofs.Channels.{found_after, keys_after}
 
-pub channel_stays : (r : Reader) (h : Happening) → (after r h).channel ≡ r.channel
+pub channel_stays : (r : Reader) (h : Happening) → (reader_next r h).channel ≡ r.channel
 channel_stays r (Asked n) = refl
 channel_stays r (Granted n) = refl
 channel_stays r Resumed = refl
@@ -24,11 +24,11 @@ channel_stays r (Ready head backlog) = refl
 channel_stays r (Sent what head backlog) = refl
 channel_stays r Announced = refl
 
-pub reader_after : (c : ChannelId) (h : Happening) (d : ChannelId) (rs : List Reader) → reader_of d (after_at c h rs) ≡ option_map (λ r. cond (is_same d c) (after r h) r) (reader_of d rs)
-reader_after c h d rs = found_after (λ (r : Reader). r.channel) c (λ r. after r h) (λ r. channel_stays r h) d rs
+pub reader_after : (c : ChannelId) (h : Happening) (d : ChannelId) (rs : List Reader) → reader_of d (after_at c h rs) ≡ option_map (λ r. cond (is_same d c) (reader_next r h) r) (reader_of d rs)
+reader_after c h d rs = found_after (λ (r : Reader). r.channel) c (λ r. reader_next r h) (λ r. channel_stays r h) d rs
 
 pub channels_after : (c : ChannelId) (h : Happening) (rs : List Reader) → map (λ (r : Reader). r.channel) (after_at c h rs) ≡ map (λ (r : Reader). r.channel) rs
-channels_after c h rs = keys_after (λ (r : Reader). r.channel) c (λ r. after r h) (λ r. channel_stays r h) rs
+channels_after c h rs = keys_after (λ (r : Reader). r.channel) c (λ r. reader_next r h) (λ r. channel_stays r h) rs
 
 -- the channels of readers
 abbrev pub names_of : Sender → List ChannelId
@@ -65,7 +65,7 @@ module _ {X : Type 0} (P : List Reader → X) (granted : (c : ChannelId) (n : �
 
 -- ---- the channels
 
-pub channels_stay : (l : Ledger) (e : ReaderEntry) → channels_of (ledgers.after l e) ≡ channels_of l
+pub channels_stay : (l : Ledger) (e : ReaderEntry) → channels_of (ledgers.ledger_next l e) ≡ channels_of l
 channels_stay l (entry.Ready c head backlog) = channels_after c (Ready head backlog) l.sender.readers
 channels_stay l (entry.Sent c what head backlog) =
     settled_keeps (map (λ (r : Reader). r.channel)) (λ d n rs. channels_after d (Granted n) rs) (λ d rs. channels_after d Resumed rs) c _
@@ -89,12 +89,12 @@ module _ {X : Type 0} (f : Reader → X) where
   told_some false g same (Some r) = refl
 
   -- a happening that f doesn't see
-  pub told_stays : (h : Happening) → ((r : Reader) → f (after r h) ≡ f r) → (c d : ChannelId) (rs : List Reader) → told c (after_at d h rs) ≡ told c rs
-  told_stays h same c d rs = ap (option_map f) (reader_after d h c rs) ∙ told_some (is_same c d) (λ r. after r h) same (reader_of c rs)
+  pub told_stays : (h : Happening) → ((r : Reader) → f (reader_next r h) ≡ f r) → (c d : ChannelId) (rs : List Reader) → told c (after_at d h rs) ≡ told c rs
+  told_stays h same c d rs = ap (option_map f) (reader_after d h c rs) ∙ told_some (is_same c d) (λ r. reader_next r h) same (reader_of c rs)
 
   -- what happens to another reader
   pub told_other : (h : Happening) (c d : ChannelId) (rs : List Reader) → is_same c d ≡ false → told c (after_at d h rs) ≡ told c rs
-  told_other h c d rs other = ap (option_map f) (reader_after d h c rs ∙ ap (λ b. option_map (λ r. cond b (after r h) r) (reader_of c rs)) other) ∙ told_some false (λ r. r) (λ r. refl) (reader_of c rs)
+  told_other h c d rs other = ap (option_map f) (reader_after d h c rs ∙ ap (λ b. option_map (λ r. cond b (reader_next r h) r) (reader_of c rs)) other) ∙ told_some false (λ r. r) (λ r. refl) (reader_of c rs)
 
 pub names_sent : (c : ChannelId) (what : SentKind) (head : Head) (backlog : ℕ) (s t : Sender) → t ≡ has_sent c what head backlog s → names_of t ≡ names_of s
 names_sent c what head backlog s t is = ap names_of is ∙ channels_after c (Sent what head backlog) s.readers

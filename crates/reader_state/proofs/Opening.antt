@@ -5,7 +5,7 @@ use Rattle.credit_reader.specs.declared.reader.Reader.{Reader}
 use Rattle.credit_reader.specs.Readers.{fresh}
 use Rattle.reader_state.specs.declared.state.Early.{Early}
 use Rattle.reader_state.specs.Ledgers.{none_early, opened}
-use Rattle.reader_state.specs.Standing.{StandsFor, MayEnterAs}
+use Rattle.reader_state.specs.Standing.{LedgerStandsFor, MayEnterAs}
 use Rattle.reader_state.proofs.Histories.{history_nil}
 
 pub fresh_names : (channels : List ChannelId) → map (λ (r : Reader). r.channel) (map fresh channels) ≡ channels
@@ -16,7 +16,7 @@ pub early_names : (channels : List ChannelId) → map (λ (e : Early). e.channel
 early_names [] = refl
 early_names (c ∷ channels) = ap (λ cs. c ∷ cs) (early_names channels)
 
-pub opened_stands : (channels : List ChannelId) → StandsFor (opened channels) []
+pub opened_stands : (channels : List ChannelId) → LedgerStandsFor (opened channels) []
 opened_stands channels = record {
   legal = history_nil (MayEnterAs (map (λ (r : Reader). r.channel) (map fresh channels)));
   replayed = ap opened (sym (fresh_names channels));

@@ -5,7 +5,7 @@ use Rattle.std.specs.Option.{option_map, option_map_or}
 use Rattle.std.proofs.lemmas.Bool.{and_parts, ltb-true}
 use Rattle.flow_defs.specs.declared.task.ChannelId.{ChannelId}
 use Rattle.credit_reader.specs.declared.reader.Reader.{Reader}
-use Rattle.credit_reader.specs.Readers.{Happening, Granted, Resumed, after}
+use Rattle.credit_reader.specs.Readers.{Happening, Granted, Resumed, reader_next}
 use Rattle.credit_reader.specs.Senders.{Sender, is_same, reader_of, after_at}
 use Rattle.reader_state.specs.declared.state.Early.{Early}
 use Rattle.reader_state.specs.Ledgers.{Ledger, early_of, with_early, with_reader, fitting, credit_given, may_resume, resumption_given, settled}
@@ -20,11 +20,11 @@ same_map (Some x) = refl
 
 -- ---- one step
 
-pub reader_own : (c : ChannelId) (h : Happening) (rs : List Reader) (r : Reader) → reader_of c rs ≡ Some r → reader_of c (after_at c h rs) ≡ Some (after r h)
-reader_own c h rs r is = reader_after c h c rs ∙ ap (option_map (λ r. cond (is_same c c) (after r h) r)) is ∙ ap (λ b. Some (cond b (after r h) r)) (is_same_self c)
+pub reader_own : (c : ChannelId) (h : Happening) (rs : List Reader) (r : Reader) → reader_of c rs ≡ Some r → reader_of c (after_at c h rs) ≡ Some (reader_next r h)
+reader_own c h rs r is = reader_after c h c rs ∙ ap (option_map (λ r. cond (is_same c c) (reader_next r h) r)) is ∙ ap (λ b. Some (cond b (reader_next r h) r)) (is_same_self c)
 
 pub reader_other : (c d : ChannelId) (h : Happening) (rs : List Reader) → is_same c d ≡ false → reader_of c (after_at d h rs) ≡ reader_of c rs
-reader_other c d h rs other = reader_after d h c rs ∙ ap (λ b. option_map (λ r. cond b (after r h) r) (reader_of c rs)) other ∙ same_map (reader_of c rs)
+reader_other c d h rs other = reader_after d h c rs ∙ ap (λ b. option_map (λ r. cond b (reader_next r h) r) (reader_of c rs)) other ∙ same_map (reader_of c rs)
 
 module _ (f : Early → Early) (keeps : (e : Early) → (f e).channel ≡ e.channel) where
   early_after : (c d : ChannelId) (l : Ledger) → early_of c (with_early d f l) ≡ option_map (λ e. cond (is_same c d) (f e) e) (early_of c l)
@@ -78,7 +78,7 @@ credit_own c n l r e reader_is early_is fits =
     elim (eqb n 0) as (λ b. Moved c (cond b l (with_early c (λ e. record e { credit = e.credit - n }) (with_reader c (Granted n) l))) r e) [
       | true ↦ record { reader = r; early = e; reader_is = reader_is; early_is = early_is; credit = refl; resumptions = refl; requested = refl; ended = refl }
       | false ↦ record {
-        reader = after r (Granted n);
+        reader = reader_next r (Granted n);
         early = record e { credit = e.credit - n };
         reader_is = reader_own c (Granted n) l.sender.readers r reader_is;
         early_is = early_own (λ e. record e { credit = e.credit - n }) (λ e. refl) c (with_reader c (Granted n) l) e early_is;
@@ -100,7 +100,7 @@ resumption_own c l r e reader_is early_is =
           let some = ltb-true 0 e.resumptions parts.0 in
           let was : one_if r.blocked ≡ 1 = ap one_if parts.1 in
           record {
-            reader = after r Resumed;
+            reader = reader_next r Resumed;
             early = record e { resumptions = e.resumptions - 1 };
             reader_is = reader_own c Resumed l.sender.readers r reader_is;
             early_is = early_own (λ e. record e { resumptions = e.resumptions - 1 }) (λ e. refl) c (with_reader c Resumed l) e early_is;

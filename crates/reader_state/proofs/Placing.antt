@@ -17,7 +17,7 @@ use Rattle.credit_reader.specs.Senders.{Sender, AreDistinct, is_same, reader_of,
 use Rattle.reader_state.specs.declared.state.Early.{Early}
 use Rattle.reader_state.specs.declared.state.Kept.{Kept}
 use Rattle.reader_state.specs.Ledgers.{Ledger, early_of, none_early, with_early, with_reader, fitting, credit_given, may_resume, resumption_given, settled, is_requested}
-use Rattle.reader_state.specs.Settling.{alone, put_at, IsKept}
+use Rattle.reader_state.specs.Settling.{alone, put_at, IsEarlyKept}
 use Rattle.reader_state.proofs.Channels.{is_same_of, is_other, same_channel, touched, found_of_key}
 
 abbrev pub no_early : Early
@@ -42,7 +42,7 @@ pub record OnlyAt (es : List Early) (i : ℕ) (c : ChannelId) : Type 0 where
   pub here : (get_or es i no_early).channel ≡ c
   pub others : (k : ℕ) → k < length es → (k ≡ i → ⊥) → is_same (get_or es k no_early).channel c ≡ false
 
-pub only_at : (es : List Early) (c : ChannelId) (kept : Kept) → IsKept es c kept → OnlyAt es kept.place c × (get_or es kept.place no_early ≡ kept.early)
+pub only_at : (es : List Early) (c : ChannelId) (kept : Kept) → IsEarlyKept es c kept → OnlyAt es kept.place c × (get_or es kept.place no_early ≡ kept.early)
 only_at es c kept is =
     let stands : get_or es kept.place no_early ≡ kept.early = get_or_default es kept.place no_early kept.early is.within ∙ is.stands in
     let here : (get_or es kept.place no_early).channel ≡ c = ap channel_of stands ∙ is.channel_is in (
@@ -185,7 +185,7 @@ module _ (early : List Early) (readers : List Reader) (own : map channel_of earl
       let names : AreDistinct (map channel_of early) = subst AreDistinct (sym own) distinct in
       names i j c less (omega (arith, length-map early channel_of)) (get_or-map channel_of early i d c (omega arith) ∙ same ∙ sym (get_or-map channel_of early j d c j_in))
 
-  pub is_kept : AreDistinct (map (λ r. r.channel) readers) → (i : ℕ) (x : Early) → position (λ e. is_same e.channel c) early ≡ Some i → x ≡ get_or early i no_early → IsKept early c (record { place = i; early = x })
+  pub is_kept : AreDistinct (map (λ r. r.channel) readers) → (i : ℕ) (x : Early) → position (λ e. is_same e.channel c) early ≡ Some i → x ≡ get_or early i no_early → IsEarlyKept early c (record { place = i; early = x })
   is_kept distinct i x is read =
       let at = position-Some (λ e. is_same e.channel c) early i no_early is in
       record {

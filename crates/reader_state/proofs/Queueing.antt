@@ -7,7 +7,7 @@ use Rattle.std.proofs.lemmas.List.Sums.{sum_by-cons, sum_by_push}
 use Rattle.std.proofs.lemmas.Option.{none-some, same_Some}
 use Rattle.flow_defs.specs.declared.task.ChannelId.{ChannelId}
 use Rattle.credit_reader.specs.declared.reader.Reader.{Reader}
-use Rattle.credit_reader.specs.Readers.{fresh, Happening, Asked, Granted, Resumed, Ready, Sent, Announced, after, can_send}
+use Rattle.credit_reader.specs.Readers.{fresh, Happening, Asked, Granted, Resumed, Ready, Sent, Announced, reader_next, can_send}
 use Rattle.credit_reader.specs.Senders.{Sender, is_same, is_able, reader_of, after_at, happened, has_sent, queue_after}
 use Rattle.reader_state.specs.declared.entry.ReaderEntry.{ReaderEntry}
 use Rattle.reader_state.specs.declared.entry.ReaderEntry.TheVariants as entry
@@ -67,7 +67,7 @@ other_after c d false false queue other = refl
 
 -- another reader can send or not as before
 able_other : (c d : ChannelId) (h : Happening) (rs : List Reader) → is_same c d ≡ false → is_able c (after_at d h rs) ≡ is_able c rs
-able_other c d h rs other = ap (λ o. option_map_or can_send o false) (reader_after d h c rs ∙ ap (λ b. option_map (λ r. cond b (after r h) r) (reader_of c rs)) other ∙ same (reader_of c rs))
+able_other c d h rs other = ap (λ o. option_map_or can_send o false) (reader_after d h c rs ∙ ap (λ b. option_map (λ r. cond b (reader_next r h) r) (reader_of c rs)) other ∙ same (reader_of c rs))
   where
     same : (o : Option Reader) → option_map (λ (r : Reader). r) o ≡ o
     same None = refl
@@ -132,7 +132,7 @@ settled_queued c l queued = resumption_queued (credit_given c (fitting c l) l) (
     resumption_queued k queued =
         elim (may_resume c k) as (λ b. Queued (cond b (with_early c (λ e. record e { resumptions = e.resumptions - 1 }) (with_reader c Resumed k)) k).sender) [ true ↦ happened_queued c Resumed k.sender queued | false ↦ queued ]
 
-pub entry_queued : (l : Ledger) (e : ReaderEntry) → MayEnter l e → Queued l.sender → Queued (ledgers.after l e).sender
+pub entry_queued : (l : Ledger) (e : ReaderEntry) → MayEnter l e → Queued l.sender → Queued (ledgers.ledger_next l e).sender
 entry_queued l (entry.Ready c head backlog) may queued = happened_queued c (Ready head backlog) l.sender queued
 entry_queued l (entry.Sent c what head backlog) may queued = settled_queued c _ (sent_queued c (Sent what head backlog) l.sender may.0 queued)
 entry_queued l (entry.Told c) may queued = happened_queued c Announced l.sender queued

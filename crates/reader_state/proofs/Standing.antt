@@ -13,7 +13,7 @@ use Rattle.credit_reader.specs.declared.reader.Reader.{Reader}
 use Rattle.credit_reader.specs.declared.reader.SentKind.{SentKind}
 use Rattle.credit_reader.specs.declared.reader.SentKind.TheVariants as kinds
 use Rattle.credit_reader.specs.declared.reader.TheConstants.{CREDIT_MAX}
-use Rattle.credit_reader.specs.Readers.{Happening, Granted, Resumed, Ready, Sent, Announced, after, can_send, may_go, cost, is_due}
+use Rattle.credit_reader.specs.Readers.{Happening, Granted, Resumed, Ready, Sent, Announced, reader_next, can_send, may_go, cost, is_due}
 use Rattle.credit_reader.specs.declared.reader.Told.{Told}
 use Rattle.credit_reader.specs.Answers.{due_first, told_of}
 use Rattle.credit_reader.specs.Senders.{Sender, is_same, is_able, reader_of, after_at}
@@ -21,7 +21,7 @@ use Rattle.reader_state.specs.declared.entry.ReaderEntry.{ReaderEntry}
 use Rattle.reader_state.specs.declared.entry.ReaderEntry.TheVariants as entry
 use Rattle.reader_state.specs.Ledgers as ledgers
 use Rattle.reader_state.specs.Ledgers.{Ledger, MayEnter, channels_of, replayed}
-use Rattle.reader_state.specs.Standing.{StandsFor, may_make, MayEnterAs}
+use Rattle.reader_state.specs.Standing.{LedgerStandsFor, may_make, MayEnterAs}
 use Rattle.reader_state.specs.Turning.{ReaderCell, ReaderPass, channels_in, IsOneOf, IsReaderPass, StandsIn, ledger_after, head_told, CanSend, HeadsStay, HeadsChange}
 use Rattle.reader_state.proofs.Histories.{history_more}
 use Rattle.reader_state.proofs.Channels.{is_same_self, find_there, found_of_key, key_of_found}
@@ -30,20 +30,20 @@ use Rattle.reader_state.proofs.Waiting.{Waited, waited, ledger_more, head_of_tol
 
 -- ---- one more entry
 
-module _ (l : Ledger) (channels : List ChannelId) (history : List (ℕ × ReaderEntry)) (stands : StandsFor l history) (fixed : channels_of l ≡ channels) where
+module _ (l : Ledger) (channels : List ChannelId) (history : List (ℕ × ReaderEntry)) (stands : LedgerStandsFor l history) (fixed : channels_of l ≡ channels) where
   pub ledger_is : l ≡ ledger_after channels history
   ledger_is = stands.replayed ∙ ap (λ cs. ledger_after cs history) fixed
 
   pub legal_is : IsHistory (MayEnterAs channels) history
   legal_is = subst (λ cs. IsHistory (MayEnterAs cs) history) fixed stands.legal
 
-  pub stands_on : (new : Ledger) (n : ℕ) (e : ReaderEntry) → may_make n e ≡ true → MayEnter l e → new ≡ ledgers.after l e → StandsFor new (history ++ (n, e) ∷ []) × (channels_of new ≡ channels)
+  pub stands_on : (new : Ledger) (n : ℕ) (e : ReaderEntry) → may_make n e ≡ true → MayEnter l e → new ≡ ledgers.ledger_next l e → LedgerStandsFor new (history ++ (n, e) ∷ []) × (channels_of new ≡ channels)
   stands_on new n e makes may is =
       let names : channels_of new ≡ channels = ap channels_of is ∙ channels_stay l e ∙ fixed in
       let legal : IsHistory (MayEnterAs channels) (history ++ (n, e) ∷ []) = history_more (MayEnterAs channels) history (n, e) legal_is (makes, subst (λ k. MayEnter k e) ledger_is may) in (
         record {
           legal = subst (λ cs. IsHistory (MayEnterAs cs) (history ++ (n, e) ∷ [])) (sym names) legal;
-          replayed = is ∙ ap (λ k. ledgers.after k e) ledger_is ∙ sym (ledger_more channels history n e) ∙ ap (λ cs. ledger_after cs (history ++ (n, e) ∷ [])) (sym names);
+          replayed = is ∙ ap (λ k. ledgers.ledger_next k e) ledger_is ∙ sym (ledger_more channels history n e) ∙ ap (λ cs. ledger_after cs (history ++ (n, e) ∷ [])) (sym names);
         },
         names,
       )
@@ -67,13 +67,13 @@ module _ (channels : List ChannelId) (history : List (ℕ × ReaderEntry)) (n : 
   head_by_told : (c : ChannelId) (h : List (ℕ × ReaderEntry)) → head_told channels c h ≡ option_map_or (λ h. h) (told (λ r. r.head) c (ledger_after channels h).sender.readers) Nothing
   head_by_told c h = head_of_told (reader_of c (ledger_after channels h).sender.readers)
 
-  head_after : (c : ChannelId) (e : ReaderEntry) (o : Option Head) → told (λ r. r.head) c (ledgers.after (ledger_after channels history) e).sender.readers ≡ o → head_told channels c (history ++ (n, e) ∷ []) ≡ option_map_or (λ h. h) o Nothing
+  head_after : (c : ChannelId) (e : ReaderEntry) (o : Option Head) → told (λ r. r.head) c (ledgers.ledger_next (ledger_after channels history) e).sender.readers ≡ o → head_told channels c (history ++ (n, e) ∷ []) ≡ option_map_or (λ h. h) o Nothing
   head_after c e o is = head_by_told c (history ++ (n, e) ∷ []) ∙ ap (λ (l : Ledger). option_map_or (λ h. h) (told (λ r. r.head) c l.sender.readers) Nothing) (ledger_more channels history n e) ∙ ap (λ o. option_map_or (λ h. h) o Nothing) is
 
-  head_new : (c : ChannelId) (h : Happening) (rs : List Reader) (r : Reader) → reader_of c rs ≡ Some r → told (λ r. r.head) c (after_at c h rs) ≡ Some (after r h).head
+  head_new : (c : ChannelId) (h : Happening) (rs : List Reader) (r : Reader) → reader_of c rs ≡ Some r → told (λ r. r.head) c (after_at c h rs) ≡ Some (reader_next r h).head
   head_new c h rs r there =
-      ap (option_map (λ (r : Reader). r.head)) (reader_after c h c rs ∙ ap (option_map (λ r. cond (is_same c c) (after r h) r)) there)
-      ∙ ap (λ b. Some (cond b (after r h) r).head) (is_same_self c)
+      ap (option_map (λ (r : Reader). r.head)) (reader_after c h c rs ∙ ap (option_map (λ r. cond (is_same c c) (reader_next r h) r)) there)
+      ∙ ap (λ b. Some (cond b (reader_next r h) r).head) (is_same_self c)
 
   pub ready_heads : (c : ChannelId) (head : Head) (backlog : ℕ) (r : Reader) → reader_of c (ledger_after channels history).sender.readers ≡ Some r → HeadsChange channels c head history (history ++ (n, entry.Ready c head backlog) ∷ [])
   ready_heads c head backlog r there =
@@ -87,7 +87,7 @@ module _ (channels : List ChannelId) (history : List (ℕ × ReaderEntry)) (n : 
       HeadsChange channels c head history (history ++ (n, entry.Sent c what head backlog) ∷ [])
   sent_heads c what head backlog r there =
       let rs = (ledger_after channels history).sender.readers in
-      let keeps : (d : ChannelId) → told (λ r. r.head) d (ledgers.after (ledger_after channels history) (entry.Sent c what head backlog)).sender.readers ≡ told (λ r. r.head) d (after_at c (Sent what head backlog) rs) = λ d.
+      let keeps : (d : ChannelId) → told (λ r. r.head) d (ledgers.ledger_next (ledger_after channels history) (entry.Sent c what head backlog)).sender.readers ≡ told (λ r. r.head) d (after_at c (Sent what head backlog) rs) = λ d.
       settled_keeps (told (λ r. r.head) d) (λ a m qs. told_stays (λ r. r.head) (Granted m) (λ r. refl) d a qs) (λ a qs. told_stays (λ r. r.head) Resumed (λ r. refl) d a qs) c _ in
       record {
         told = head_after c (entry.Sent c what head backlog) (Some head) (keeps c ∙ head_new c (Sent what head backlog) rs r there);
@@ -105,17 +105,17 @@ pub record Entered (cell : ReaderCell) (before now : ReaderPass) (l : Ledger) : 
   pub turn : IsTurnOf cell now
   pub same : IsSamePass before now
   pub begins : StartsWith (seen now) (seen before)
-  pub stands : StandsFor l (seen now)
+  pub stands : LedgerStandsFor l (seen now)
   pub fixed : channels_of l ≡ channels_in cell
 
 pub entered : (cell there : ReaderCell) (before now : ReaderPass) (l state : Ledger) → IsReaderPass cell 0 before → IsTurnOf there now → there ≡ cell → IsSamePass before now → StartsWith (seen now) (seen before)
-    → StandsFor state (seen now) → channels_of state ≡ channels_in there → l ≡ state → Entered cell before now l
+    → LedgerStandsFor state (seen now) → channels_of state ≡ channels_in there → l ≡ state → Entered cell before now l
 entered cell there before now l state was turn is same begins stands fixed of = record {
   was = was;
   turn = subst (λ k. IsTurnOf k now) is turn;
   same = same;
   begins = begins;
-  stands = subst (λ k. StandsFor k (seen now)) (sym of) stands;
+  stands = subst (λ k. LedgerStandsFor k (seen now)) (sym of) stands;
   fixed = ap channels_of of ∙ fixed ∙ ap channels_in is;
 }
 
@@ -155,7 +155,7 @@ module _ (cell : ReaderCell) (before now : ReaderPass) (l : Ledger) (e : Entered
   pub rested_told : (after : ReaderPass) → HasRested now after → HeadsStay (channels_in cell) (seen before) (seen after)
   rested_told after has = subst (HeadsStay (channels_in cell) (seen before)) (sym has.1) entered_waited.heads
 
-  pub stands_then : (there : ReaderCell) (new : Ledger) (x : ReaderEntry) → there ≡ cell → may_make (number now) x ≡ true → MayEnter l x → new ≡ ledgers.after l x → StandsIn there (seen now ++ (number now, x) ∷ []) new
+  pub stands_then : (there : ReaderCell) (new : Ledger) (x : ReaderEntry) → there ≡ cell → may_make (number now) x ≡ true → MayEnter l x → new ≡ ledgers.ledger_next l x → StandsIn there (seen now ++ (number now, x) ∷ []) new
   stands_then there new x is makes may becomes =
       subst (λ k. StandsIn k (seen now ++ (number now, x) ∷ []) new) (sym is) (stands_on l (channels_in cell) (seen now) e.stands e.fixed new (number now) x makes may becomes)
 
@@ -227,7 +227,7 @@ of_first P rs queue (Some c) is able then = then c (sym is) able
 
 -- ---- a turn with a message
 
-pub stands_message : (there : ReaderCell) (state l new : Ledger) (history : List (ℕ × ReaderEntry)) (n : ℕ) (x : ReaderEntry) → StandsIn there history state → l ≡ state → may_make n x ≡ true → MayEnter l x → new ≡ ledgers.after l x →
+pub stands_message : (there : ReaderCell) (state l new : Ledger) (history : List (ℕ × ReaderEntry)) (n : ℕ) (x : ReaderEntry) → StandsIn there history state → l ≡ state → may_make n x ≡ true → MayEnter l x → new ≡ ledgers.ledger_next l x →
     StandsIn there (history ++ (n, x) ∷ []) new
 stands_message there state l new history n x stands is makes may becomes =
     let now = subst (λ k. StandsIn there history k) (sym is) stands in

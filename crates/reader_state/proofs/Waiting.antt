@@ -11,7 +11,7 @@ use Rattle.flow_defs.specs.declared.task.Head.{Head}
 use Rattle.flow_defs.specs.declared.task.Head.TheVariants as heads
 use Rattle.turn_cell.specs.History.{by, entries_of, IsHistory, StartsWith}
 use Rattle.credit_reader.specs.declared.reader.Reader.{Reader}
-use Rattle.credit_reader.specs.Readers.{Happening, Asked, Granted, Resumed, after, can_send, may_go}
+use Rattle.credit_reader.specs.Readers.{Happening, Asked, Granted, Resumed, reader_next, can_send, may_go}
 use Rattle.credit_reader.specs.Senders.{Sender, is_same, is_able, reader_of, after_at, happened, queue_after}
 use Rattle.reader_state.specs.declared.entry.ReaderEntry.{ReaderEntry}
 use Rattle.reader_state.specs.declared.entry.ReaderEntry.TheVariants as entry
@@ -42,10 +42,10 @@ stays_then s t u a b = record {
 
 -- one that can send can still send after it
 abbrev KeepsAble : Happening → Option Reader → Type 0
-KeepsAble h o = (r : Reader) → o ≡ Some r → can_send r ≡ true → can_send (after r h) ≡ true
+KeepsAble h o = (r : Reader) → o ≡ Some r → can_send r ≡ true → can_send (reader_next r h) ≡ true
 
-able_kept : (h : Happening) (b : Bool) (o : Option Reader) → ((r : Reader) → b ≡ true → o ≡ Some r → can_send r ≡ true → can_send (after r h) ≡ true)
-    → option_map_or can_send o false ≡ true → option_map_or can_send (option_map (λ r. cond b (after r h) r) o) false ≡ true
+able_kept : (h : Happening) (b : Bool) (o : Option Reader) → ((r : Reader) → b ≡ true → o ≡ Some r → can_send r ≡ true → can_send (reader_next r h) ≡ true)
+    → option_map_or can_send o false ≡ true → option_map_or can_send (option_map (λ r. cond b (reader_next r h) r) o) false ≡ true
 able_kept h b None keeps can = absurd (false≢true can)
 able_kept h true (Some r) keeps can = keeps r refl refl can
 able_kept h false (Some r) keeps can = can
@@ -57,7 +57,7 @@ front_kept c d false true [] keeps first = absurd (none-some _ first)
 front_kept c d false true (x ∷ xs) keeps first = first
 front_kept c d false false queue keeps first = first
 
-happened_stays : (d : ChannelId) (h : Happening) (s : Sender) → ((r : Reader) → (after r h).head ≡ r.head) → KeepsAble h (reader_of d s.readers) → Stays s (happened d h s)
+happened_stays : (d : ChannelId) (h : Happening) (s : Sender) → ((r : Reader) → (reader_next r h).head ≡ r.head) → KeepsAble h (reader_of d s.readers) → Stays s (happened d h s)
 happened_stays d h s same keeps =
     let able : (c : ChannelId) → is_able c s.readers ≡ true → is_able c (after_at d h s.readers) ≡ true = λ c can.
     ap (λ o. option_map_or can_send o false) (reader_after d h c s.readers)
@@ -75,10 +75,10 @@ more_may_go heads.Nothing credit n may = may
 more_may_go heads.Buffer credit n may = grind (arith, nat_tests)
 more_may_go heads.Event credit n may = may
 
-granted_able : (r : Reader) (n : ℕ) → can_send r ≡ true → can_send (after r (Granted n)) ≡ true
+granted_able : (r : Reader) (n : ℕ) → can_send r ≡ true → can_send (reader_next r (Granted n)) ≡ true
 granted_able r n can = let parts = and_parts (r.requested && not r.blocked) (may_go r.head r.credit) can in and_from _ _ parts.0 (more_may_go r.head r.credit n parts.1)
 
-resumed_able : (r : Reader) → can_send r ≡ true → can_send (after r Resumed) ≡ true
+resumed_able : (r : Reader) → can_send r ≡ true → can_send (reader_next r Resumed) ≡ true
 resumed_able r can =
     let parts = and_parts (r.requested && not r.blocked) (may_go r.head r.credit) can in
     let asked = and_parts r.requested (not r.blocked) parts.0 in
@@ -106,7 +106,7 @@ not_asked None r may is = absurd may
 not_asked (Some s) r may is = let same : s ≡ r = cc in ap (λ (t : Reader). t.requested) (sym same) ∙ may
 
 -- an entry that pass 0 doesn't make
-entry_stays : (n : ℕ) (l : Ledger) (e : ReaderEntry) → may_make n e ≡ true → eqb 0 n ≡ false → MayEnter l e → Stays l.sender (ledgers.after l e).sender
+entry_stays : (n : ℕ) (l : Ledger) (e : ReaderEntry) → may_make n e ≡ true → eqb 0 n ≡ false → MayEnter l e → Stays l.sender (ledgers.ledger_next l e).sender
 entry_stays n l (entry.Ready c head backlog) makes other may = absurd (false≢true (sym other ∙ eqb_comm 0 n ∙ makes))
 entry_stays n l (entry.Sent c what head backlog) makes other may = absurd (false≢true (sym other ∙ eqb_comm 0 n ∙ makes))
 entry_stays n l (entry.Told c) makes other may = absurd (false≢true (sym other ∙ eqb_comm 0 n ∙ makes))
@@ -120,9 +120,9 @@ entry_stays n l (entry.Resumed c) makes other may = settled_stays c _
 
 pub after_all-append : (l : Ledger) (xs ys : List ReaderEntry) → after_all l (xs ++ ys) ≡ after_all (after_all l xs) ys
 after_all-append l [] ys = refl
-after_all-append l (x ∷ xs) ys = after_all-append (ledgers.after l x) xs ys
+after_all-append l (x ∷ xs) ys = after_all-append (ledgers.ledger_next l x) xs ys
 
-pub ledger_more : (channels : List ChannelId) (history : List (ℕ × ReaderEntry)) (n : ℕ) (e : ReaderEntry) → ledger_after channels (history ++ (n, e) ∷ []) ≡ ledgers.after (ledger_after channels history) e
+pub ledger_more : (channels : List ChannelId) (history : List (ℕ × ReaderEntry)) (n : ℕ) (e : ReaderEntry) → ledger_after channels (history ++ (n, e) ∷ []) ≡ ledgers.ledger_next (ledger_after channels history) e
 ledger_more channels history n e = ap (replayed channels) (entries_of-append history ((n, e) ∷ [])) ∙ after_all-append (opened channels) (entries_of history) (e ∷ [])
 
 pub head_of_told : (o : Option Reader) → option_map_or (λ r. r.head) o heads.Nothing ≡ option_map_or (λ h. h) (option_map (λ (r : Reader). r.head) o) heads.Nothing

@@ -81,18 +81,18 @@ abbrev pub ended_by : SentKind → Early → Early
 ended_by what e = record e { ended = e.ended || is_end what }
 
 -- The ledger after an entry. Each item sent and each message that came gives what then fits on its channel.
-abbrev pub after : Ledger → ReaderEntry → Ledger
-after l (Ready c head backlog) = with_reader c (readers.Ready head backlog) l
-after l (Sent c what head backlog) = settled c (with_early c (ended_by what) (record l { sender = has_sent c what head backlog l.sender }))
-after l (Told c) = with_reader c readers.Announced l
-after l (Asked c n) = with_reader c (readers.Asked n) l
-after l (Granted c n) = settled c (with_early c (λ e. record e { credit = min (e.credit + n) KEPT_MAX }) l)
-after l (Resumed c) = settled c (with_early c (λ e. record e { resumptions = min (e.resumptions + 1) KEPT_MAX }) l)
+abbrev pub ledger_next : Ledger → ReaderEntry → Ledger
+ledger_next l (Ready c head backlog) = with_reader c (readers.Ready head backlog) l
+ledger_next l (Sent c what head backlog) = settled c (with_early c (ended_by what) (record l { sender = has_sent c what head backlog l.sender }))
+ledger_next l (Told c) = with_reader c readers.Announced l
+ledger_next l (Asked c n) = with_reader c (readers.Asked n) l
+ledger_next l (Granted c n) = settled c (with_early c (λ e. record e { credit = min (e.credit + n) KEPT_MAX }) l)
+ledger_next l (Resumed c) = settled c (with_early c (λ e. record e { resumptions = min (e.resumptions + 1) KEPT_MAX }) l)
 
 -- The ledger after several entries, one after another.
 abbrev pub after_all : Ledger → List ReaderEntry → Ledger
 after_all l [] = l
-after_all l (e ∷ es) = after_all (after l e) es
+after_all l (e ∷ es) = after_all (ledger_next l e) es
 
 -- What a history makes of newly opened channels.
 abbrev pub replayed : List ChannelId → List ReaderEntry → Ledger

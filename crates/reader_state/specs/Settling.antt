@@ -10,7 +10,7 @@ use Rattle.credit_reader.specs.Senders.{Sender, reader_of, happened}
 use Rattle.reader_state.specs.declared.state.Early.{Early}
 use Rattle.reader_state.specs.declared.state.Kept.{Kept}
 use Rattle.reader_state.specs.declared.entry.ReaderEntry.{ReaderEntry}
-use Rattle.reader_state.specs.Ledgers.{Ledger, after, fitting, credit_given, MayEnter}
+use Rattle.reader_state.specs.Ledgers.{Ledger, ledger_next, fitting, credit_given, MayEnter}
 use Rattle.reader_state.specs.Turning.{IsRefused}
 
 -- Readers, and the early part of one channel alone.
@@ -41,7 +41,7 @@ abbrev pub StaysUnasked : ChannelId → Sender → Sender → Type 0
 StaysUnasked c old new = (new ≡ old) × (asked c old ≡ false)
 
 -- The early part of a channel stands at this place, and no two are of one channel.
-pub record IsKept (early : List Early) (c : ChannelId) (kept : Kept) : Type 0 where
+pub record IsEarlyKept (early : List Early) (c : ChannelId) (kept : Kept) : Type 0 where
   pub distinct : AllPairs (λ a b. a.channel ≢ b.channel) early
   pub within : kept.place < length early
   pub stands : slice_index_or early kept.place kept.early ≡ kept.early
@@ -53,7 +53,7 @@ put_at place e l = record l { early = slice_set l.early place e }
 
 -- What a message comes to: an entry where it may come, and else a fault, and nothing changes.
 abbrev pub Took : ReaderEntry → Ledger → Ledger → Result (Unit {0}) PeerFault → Type 0
-Took entry old new (Ok done) = MayEnter old entry × (new ≡ after old entry)
+Took entry old new (Ok done) = MayEnter old entry × (new ≡ ledger_next old entry)
 Took entry old new (Err fault) = (fault ≡ peer.Channel) × IsRefused old entry × (new ≡ old)
 
 -- What is overdue of one channel: credit, and else a resumption.

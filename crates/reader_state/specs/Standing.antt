@@ -24,7 +24,7 @@ abbrev pub MayEnterAs : List ChannelId → List (ℕ × ReaderEntry) → ℕ × 
 MayEnterAs channels history pair = (may_make pair.0 pair.1 ≡ true) × MayEnter (replayed channels (entries_of history)) pair.1
 
 -- The history is legal, and the ledger is what it makes of newly opened channels.
-pub record StandsFor (l : Ledger) (history : List (ℕ × ReaderEntry)) : Type 0 where
+pub record LedgerStandsFor (l : Ledger) (history : List (ℕ × ReaderEntry)) : Type 0 where
   pub legal : IsHistory (MayEnterAs (channels_of l)) history
   pub replayed : l ≡ replayed (channels_of l) (entries_of history)
 

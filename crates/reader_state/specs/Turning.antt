@@ -16,7 +16,7 @@ use Rattle.credit_reader.specs.Senders.{is_same, is_able, reader_of}
 use Rattle.reader_state.specs.declared.entry.ReaderEntry.{ReaderEntry}
 use Rattle.reader_state.specs.declared.entry.ReaderEntry.TheVariants.{Ready, Sent, Told, Asked, Granted, Resumed}
 use Rattle.reader_state.specs.Ledgers.{Ledger, channels_of, replayed, is_requested, IsOverdueCredit, IsOverdueResumption, HasNoneOverdue}
-use Rattle.reader_state.specs.Standing.{StandsFor, told_last}
+use Rattle.reader_state.specs.Standing.{LedgerStandsFor, told_last}
 
 abbrev pub ReaderCell : Type 0
 ReaderCell = TurnCell Ledger ReaderEntry (List ChannelId)
@@ -34,7 +34,7 @@ IsOneOf c channels = (k : ℕ) × (slice_get channels k ≡ Some c)
 
 -- The readers in a cell stand for a history.
 abbrev pub StandsIn : ReaderCell → List (ℕ × ReaderEntry) → Ledger → Type 0
-StandsIn cell history l = StandsFor l history × (channels_of l ≡ channels_in cell)
+StandsIn cell history l = LedgerStandsFor l history × (channels_of l ≡ channels_in cell)
 
 -- The ledger after a history.
 abbrev pub ledger_after : List ChannelId → List (ℕ × ReaderEntry) → Ledger

@@ -6,9 +6,9 @@ ghost use Rattle.flow_defs.specs.Limits.{credit_max};
 ghost use Rattle.credit_reader.specs.Senders.{AreDistinct, reader_of, is_able};
 ghost use Rattle.credit_reader.specs.Answers.{due_first, told_of};
 ghost use Rattle.reader_state.specs.declared.entry.ReaderEntry.TheVariants.{Ready, Sent, Told as WasTold, Asked, Granted, Resumed};
-ghost use Rattle.reader_state.specs.Ledgers.{opened, after, settled, is_requested, MayEnter};
-ghost use Rattle.reader_state.specs.Standing.{StandsFor};
-ghost use Rattle.reader_state.specs.Settling.{put_at, first_overdue, IsAsked, IsKept, Took};
+ghost use Rattle.reader_state.specs.Ledgers.{opened, ledger_next, settled, is_requested, MayEnter};
+ghost use Rattle.reader_state.specs.Standing.{LedgerStandsFor};
+ghost use Rattle.reader_state.specs.Settling.{put_at, first_overdue, IsAsked, IsEarlyKept, Took};
 
 use crate::settle::{after_sent, none_early, overdue_of, place_of, settle};
 use credit_reader::laws::readers_are_in_order;
@@ -63,7 +63,7 @@ impl ReaderState {
     pub fn new(alloc: Global, channels: &[ChannelId]) -> Result<Self, AllocError>
         requires { AreDistinct channels.now }
         ensures opened { IfOk result (λ state. state ≡ opened channels.now) }
-        ensures stands { IfOk result (λ state. StandsFor state []) }
+        ensures stands { IfOk result (λ state. LedgerStandsFor state []) }
     {
         let readers = Readers::new(alloc, channels)?;
         let early = none_early(alloc, channels)?;
@@ -74,7 +74,7 @@ impl ReaderState {
     pub fn ready(&mut self, channel: ChannelId, head: Head, backlog: u32)
         requires known { IsSome (reader_of channel self.old.sender.readers) }
         requires fits { backlog ≤ credit_max }
-        ensures { self.new ≡ after self.old (Ready channel head backlog) }
+        ensures { self.new ≡ ledger_next self.old (Ready channel head backlog) }
     {
         self.readers.ready(channel, head, backlog);
     }
@@ -92,7 +92,7 @@ impl ReaderState {
     pub fn sent(&mut self, channel: ChannelId, what: SentKind, head: Head, backlog: u32) -> u32
         requires { MayEnter self.old (Sent channel what head backlog) }
         ensures number { option_map (λ r. r.sequence) (reader_of channel self.old.sender.readers) ≡ Some result }
-        ensures sent { self.new ≡ after self.old (Sent channel what head backlog) }
+        ensures sent { self.new ≡ ledger_next self.old (Sent channel what head backlog) }
     {
         let Some(kept) = self.find(channel) else {
             unreachable!()
@@ -110,7 +110,7 @@ impl ReaderState {
         ensures due { result ≡ option_map told_of (due_first self.old.sender) }
         ensures fits { IfSome result (λ told. (1 ≤ told.backlog) × (told.backlog ≤ credit_max)) }
         ensures own { IfSome result (λ told. option_map told_of (reader_of told.channel self.old.sender.readers) ≡ Some told) }
-        ensures told { IfSome result (λ told. self.new ≡ after self.old (WasTold told.channel)) }
+        ensures told { IfSome result (λ told. self.new ≡ ledger_next self.old (WasTold told.channel)) }
         ensures none { IfNone result (self.new ≡ self.old) }
     {
         readers_are_in_order(&self.readers);
@@ -179,7 +179,7 @@ impl ReaderState {
 
     // The early part of a channel.
     pub(crate) fn find(&self, channel: ChannelId) -> Option<Kept>
-        ensures found { IfSome result (λ kept. IsKept self.now.early channel kept) }
+        ensures found { IfSome result (λ kept. IsEarlyKept self.now.early channel kept) }
         ensures known { IfSome result (λ kept. IsSome (reader_of channel self.now.sender.readers)) }
         ensures none { IfNone result (reader_of channel self.now.sender.readers ≡ None) }
     {
@@ -194,7 +194,7 @@ impl ReaderState {
     // Gives the reader of a channel what fits of this early part, and keeps the rest in its place. An
     // error, and nothing changes, where there is something to give and the channel was not requested.
     fn settle(&mut self, kept: Kept, early: Early) -> Result<(), PeerFault>
-        requires { IsKept self.old.early early.channel kept }
+        requires { IsEarlyKept self.old.early early.channel kept }
         ensures ok { OnOk result (self.new ≡ settled early.channel (put_at kept.place early self.old)) }
         ensures asked { OnOk result (IsAsked self.old.sender early) }
         ensures err { OnErr result ((self.new ≡ self.old) × (is_requested early.channel self.old ≡ false)) }

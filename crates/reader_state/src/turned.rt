@@ -9,14 +9,14 @@ use turn_cell::{Named, Turned};
 
 impl Turned for ReaderState {
     ghost use Rattle.reader_state.specs.Ledgers.{channels_of};
-    ghost use Rattle.reader_state.specs.Standing.{StandsFor};
+    ghost use Rattle.reader_state.specs.Standing.{LedgerStandsFor};
 
     type Entry = ReaderEntry;
 
     // The list of its channels.
     type Fixed = LinkedList<ChannelId>;
 
-    ghost stands = { λ state history. StandsFor state history };
+    ghost stands = { λ state history. LedgerStandsFor state history };
 
     ghost fixed = { λ state. channels_of state };
 }

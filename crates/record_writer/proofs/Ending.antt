@@ -7,7 +7,8 @@ use Rattle.subpartition.specs.Sending.{put, is_finished}
 use Rattle.record_writer.specs.declared.part.Part.{Part}
 use Rattle.record_writer.specs.Writers.{bytes_in, AreCut, last_put, GrewByData}
 use Rattle.record_writer.specs.Channels.{IsPart, IsOpenAt, WasEndedAt, WasMarkedAt, WasStoppedAt, PutIfSome, laid}
-use Rattle.record_writer.proofs.Entries.{put-append, finished-more, last-append, cut-append, grew_none, grew_one, grew_up_to}
+use Rattle.subpartition.proofs.Travelling.{put-append}
+use Rattle.record_writer.proofs.Entries.{finished-more, last-append, cut-append, grew_none, grew_one, grew_up_to}
 use Rattle.record_writer.proofs.Putting.{filled_least, filled_fits, put_keeps_cut, put_keeps_unfinished, put_laid}
 
 -- Nothing was put.

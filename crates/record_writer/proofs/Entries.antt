@@ -5,35 +5,12 @@ use Rattle.flow_defs.specs.declared.task.BarrierKind.TheVariants.{Inline}
 use Rattle.subpartition.specs.declared.entry.SendEntry.{SendEntry}
 use Rattle.subpartition.specs.declared.entry.SendEntry.TheVariants.{Put, PutInline, Finish, Take, Size}
 use Rattle.subpartition.specs.Sending.{put, barriers_put, is_finished}
+use Rattle.subpartition.proofs.Travelling.{barriers_put-append, is_finished-append}
 use Rattle.record_writer.specs.Writers.{AreCutFrom, last_put, GrewByData, GrewUpTo}
 use Rattle.record_writer.specs.Channels.{IsNextAt, PutIfSome}
 
-pub put-append : (own more : List SendEntry) → put (own ++ more) ≡ put own ++ put more
-put-append [] more = refl
-put-append (Put b ∷ own) more = ap (λ l. b ++ l) (put-append own more) ∙ sym (append_assoc b (put own) (put more))
-put-append (PutInline k ∷ own) more = put-append own more
-put-append (Finish ∷ own) more = put-append own more
-put-append (Take ∷ own) more = put-append own more
-put-append (Size n ∷ own) more = put-append own more
-
-barriers-append : (own more : List SendEntry) → barriers_put (own ++ more) ≡ barriers_put own ++ barriers_put more
-barriers-append [] more = refl
-barriers-append (Put b ∷ own) more = barriers-append own more
-barriers-append (PutInline k ∷ own) more = ap (λ l. (k, Inline) ∷ l) (barriers-append own more)
-barriers-append (Finish ∷ own) more = barriers-append own more
-barriers-append (Take ∷ own) more = barriers-append own more
-barriers-append (Size n ∷ own) more = barriers-append own more
-
-finished-append : (own more : List SendEntry) → is_finished (own ++ more) ≡ cond (is_finished own) true (is_finished more)
-finished-append [] more = refl
-finished-append (Put b ∷ own) more = finished-append own more
-finished-append (PutInline k ∷ own) more = finished-append own more
-finished-append (Finish ∷ own) more = refl
-finished-append (Take ∷ own) more = finished-append own more
-finished-append (Size n ∷ own) more = finished-append own more
-
 pub finished-more : (own more : List SendEntry) → is_finished own ≡ false → is_finished (own ++ more) ≡ is_finished more
-finished-more own more was = finished-append own more ∙ ap (λ b. cond b true (is_finished more)) was
+finished-more own more was = is_finished-append own more ∙ ap (λ b. cond b true (is_finished more)) was
 
 pub last-append : (before : Option ℕ) (own more : List SendEntry) → last_put before (own ++ more) ≡ last_put (last_put before own) more
 last-append before [] more = refl
@@ -77,7 +54,7 @@ no_barriers [] = refl
 no_barriers (b ∷ buffers) = no_barriers buffers
 
 barriers_of_data : (own : List SendEntry) (buffers : List (List ℕ)) → barriers_put (own ++ map Put buffers) ≡ barriers_put own
-barriers_of_data own buffers = barriers-append own (map Put buffers) ∙ ap (λ l. barriers_put own ++ l) (no_barriers buffers) ∙ append-nil (barriers_put own)
+barriers_of_data own buffers = barriers_put-append own (map Put buffers) ∙ ap (λ l. barriers_put own ++ l) (no_barriers buffers) ∙ append-nil (barriers_put own)
 
 pub data_keeps_next : (k : ℕ) (own own' : List SendEntry) → GrewByData own own' → IsNextAt k own → IsNextAt k own'
 data_keeps_next k own own' grew next = next ∙ ap (λ l. suc (length l)) (sym (ap barriers_put grew.1 ∙ barriers_of_data own grew.0))
@@ -86,6 +63,6 @@ data_keeps_next k own own' grew next = next ∙ ap (λ l. suc (length l)) (sym (
 pub mark_is_next : (k : ℕ) (own own' : List SendEntry) → GrewUpTo (PutInline k) own own' → IsNextAt k own → IsNextAt (k + 1) own'
 mark_is_next k own own' grew next =
     let one : barriers_put own' ≡ barriers_put own ++ (k, Inline) ∷ [] =
-    ap barriers_put grew.1 ∙ barriers-append (own ++ map Put grew.0) (PutInline k ∷ []) ∙ ap (λ l. l ++ (k, Inline) ∷ []) (barriers_of_data own grew.0) in
+    ap barriers_put grew.1 ∙ barriers_put-append (own ++ map Put grew.0) (PutInline k ∷ []) ∙ ap (λ l. l ++ (k, Inline) ∷ []) (barriers_of_data own grew.0) in
     let more : length (barriers_put own') ≡ length (barriers_put own) + 1 = ap length one ∙ length-append (barriers_put own) ((k, Inline) ∷ []) in
     omega (arith, more, next)

@@ -12,7 +12,8 @@ use Rattle.record_writer.specs.declared.part.Part.{Part}
 use Rattle.record_writer.specs.Writers.{bytes_in, AreCut, last_put}
 use Rattle.record_writer.specs.Channels.{IsFilledTo, IsPart, IsOpenAt, PutIfSome, LaidSome, laid, IsSameSupply}
 use Rattle.record_writer.specs.declared.supply.Supply.{Supply}
-use Rattle.record_writer.proofs.Entries.{put-append, finished-more, last-append, cut-append}
+use Rattle.subpartition.proofs.Travelling.{put-append}
+use Rattle.record_writer.proofs.Entries.{finished-more, last-append, cut-append}
 use Rattle.flow_defs.specs.Records.{length_bytes, encoded}
 
 -- ---- a buffer that was put where it was not empty

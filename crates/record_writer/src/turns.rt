@@ -4,7 +4,7 @@ ghost use Rattle.turn_cell.specs.Passes.{IsPassOf, IsTurnOf, HasEntered, opened_
 ghost use Rattle.subpartition.specs.declared.entry.SendEntry.TheVariants.{Put, PutInline, Finish};
 ghost use Rattle.subpartition.specs.Queues.{bytes_of, last_bytes};
 ghost use Rattle.subpartition.specs.Sending.{is_finished};
-ghost use Rattle.subpartition.specs.Standing.{StandsFor};
+ghost use Rattle.subpartition.specs.Standing.{QueueStandsFor};
 ghost use Rattle.record_writer.specs.Channels.{IsTaskPass, IsNextAt};
 
 use std::marker::Brand;
@@ -17,7 +17,7 @@ use turn_cell::{Named, Pass, Turn, TurnCell};
 fn leave_put<E: Named<SendEntry>>(turn: Turn<Subpartition>)
     requires entry { E.entry ≡ Put (last_bytes turn.state.items) }
     requires turn { IsTurnOf turn.cell.now turn.pass.now }
-    requires state { StandsFor turn.state (seen turn.pass.now ++ (number turn.pass.now, Put (last_bytes turn.state.items)) ∷ []) }
+    requires state { QueueStandsFor turn.state (seen turn.pass.now ++ (number turn.pass.now, Put (last_bytes turn.state.items)) ∷ []) }
     requires size { turn.state.size ≡ (opened_with turn.cell.now).size }
     ensures pass { IsPassOf turn.entry.cell.now turn.exit.1.0.now }
     ensures entered { HasEntered (Put (last_bytes turn.entry.state.items)) turn.entry.pass.now turn.exit.1.0.now }
@@ -55,7 +55,7 @@ pub(crate) fn put_in_turn<R: Wait>(
 fn leave_barrier<E: Named<SendEntry>>(turn: Turn<Subpartition>, k: u64)
     requires entry { E.entry ≡ PutInline k }
     requires turn { IsTurnOf turn.cell.now turn.pass.now }
-    requires state { StandsFor turn.state (seen turn.pass.now ++ (number turn.pass.now, PutInline k) ∷ []) }
+    requires state { QueueStandsFor turn.state (seen turn.pass.now ++ (number turn.pass.now, PutInline k) ∷ []) }
     requires size { turn.state.size ≡ (opened_with turn.cell.now).size }
     ensures pass { IsPassOf turn.entry.cell.now turn.exit.1.0.now }
     ensures entered { HasEntered (PutInline k) turn.entry.pass.now turn.exit.1.0.now }

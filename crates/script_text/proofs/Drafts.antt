@@ -8,7 +8,7 @@ use Rattle.script_text.specs.declared.event.Event.TheVariants.{Emit}
 use Rattle.script_text.specs.declared.lines.EventLine.{EventLine}
 use Rattle.script_text.specs.declared.reader.EventLines.{EventLines}
 use Rattle.script_text.specs.Scripts.{IsEvent, event_line, contents}
-use Rattle.script_text.specs.Reading.{lines_left, bad_left, told_event, event_of, Takes}
+use Rattle.script_text.specs.Reading.{lines_left, bad_left, told_event, event_of, TakesEvent}
 use Rattle.script_text.proofs.Spellings.{event_known}
 use Rattle.script_text.proofs.Faults.{all_push}
 
@@ -37,7 +37,7 @@ event_contents channels (Emit c text) is = is
 event_contents channels e is = is
 
 -- an event whose text is the one that the line tells
-pub draft_more : (channels : ℕ) (text : List ℕ) (events : List Event) (old new : EventLines) (line : EventLine) (e : Event) → IsDraft channels text events old → Takes old new line → contents e ≡ contents (told_event line) → IsDraft channels text (events ++ e ∷ []) new
+pub draft_more : (channels : ℕ) (text : List ℕ) (events : List Event) (old new : EventLines) (line : EventLine) (e : Event) → IsDraft channels text events old → TakesEvent old new line → contents e ≡ contents (told_event line) → IsDraft channels text (events ++ e ∷ []) new
 draft_more channels text events old new line e draft takes same =
     let known = event_known channels takes.text (told_event line) (ap (λ m. event_of m takes.text) (sym draft.channels_are) ∙ takes.event_is) in
     let spelled : takes.text ≡ event_line e = known.1 ∙ sym (line_of_contents (told_event line)) ∙ ap event_line (sym same) ∙ line_of_contents e in

@@ -143,7 +143,7 @@ abbrev pub bad_left : EventLines → Option ℕ
 bad_left reader = bad_from reader.channels reader.number (lines_left reader)
 
 -- The first of the lines that were left tells this.
-pub record Takes (old new : EventLines) (line : EventLine) : Type 0 where
+pub record TakesEvent (old new : EventLines) (line : EventLine) : Type 0 where
   pub text : List ℕ
   pub lines_are : lines_left old ≡ text ∷ lines_left new
   pub event_is : event_of old.channels text ≡ Some (told_event line)
@@ -154,7 +154,7 @@ pub record Takes (old new : EventLines) (line : EventLine) : Type 0 where
 -- Nothing was left, or a line was taken.
 abbrev pub TakesOrEnds : EventLines → EventLines → Option EventLine → Type 0
 TakesOrEnds old new None = lines_left old ≡ []
-TakesOrEnds old new (Some line) = Takes old new line
+TakesOrEnds old new (Some line) = TakesEvent old new line
 
 -- The first line of the text opens this, and these bytes follow it.
 pub record Opens (text : List ℕ) (opening : Opening) (rest : List ℕ) : Type 0 where

@@ -16,10 +16,10 @@ use Rattle.segment_pool.specs.declared.stock.Terms.{Terms}
 use Rattle.segment_pool.specs.declared.stock.Dealing.{Dealing}
 use Rattle.segment_pool.specs.declared.stock.Dealing.TheVariants.{Claimed, Given}
 use Rattle.segment_pool.specs.Counting.{is_claim, is_give, balance, lent_in}
-use Rattle.segment_pool.specs.Stocks.{StandsFor, IsWithin}
+use Rattle.segment_pool.specs.Stocks.{StockStandsFor, IsWithin}
 use Rattle.segment_pool.proofs.Counting.{balance_is_lent, gives_no_more, below_limit, balance_claimed, balance_given}
 
-module _ (stock : Stock) (h : List (ℕ × Dealing)) (stands : StandsFor stock h) (n : ℕ) where
+module _ (stock : Stock) (h : List (ℕ × Dealing)) (stands : StockStandsFor stock h) (n : ℕ) where
   abbrev limits : List ℕ
   limits = stock.terms.limits.items
 
@@ -59,7 +59,7 @@ module _ (stock : Stock) (h : List (ℕ × Dealing)) (stands : StandsFor stock h
       (λ ne. subst (IsWithin limits k) (sym (by-longer k n h (Given ∷ []) ne)) (stands.within k))
 
   pub claimed : (free : Items (List ℕ)) (segment : List ℕ) → stock.free.items ≡ free.items ++ segment ∷ [] → free.room ≡ stock.free.room + 1
-      → (0 < length limits → balance (by n h) < get_or limits n 0) → StandsFor (record { terms = stock.terms; free = free }) (h ++ (n, Claimed) ∷ [])
+      → (0 < length limits → balance (by n h) < get_or limits n 0) → StockStandsFor (record { terms = stock.terms; free = free }) (h ++ (n, Claimed) ∷ [])
   claimed free segment items room below =
       let fewer = ap length items in let one = length-append free.items (segment ∷ []) in let count = stands.count in let places = stands.room in
       let fair = gives_no_more limits h stands.within in let c = sum_by_push (λ (e : ℕ × Dealing). is_claim e.1) h (n, Claimed) in let g = sum_by_push (λ (e : ℕ × Dealing). is_give e.1) h (n, Claimed) in record {
@@ -71,7 +71,7 @@ module _ (stock : Stock) (h : List (ℕ × Dealing)) (stands : StandsFor stock h
       }
 
   pub given : (free : Items (List ℕ)) (segment : List ℕ) → free.items ≡ stock.free.items ++ segment ∷ [] → stock.free.room ≤ free.room + 1 → length segment ≡ stock.terms.size
-      → 0 < balance (by n h) → StandsFor (record { terms = stock.terms; free = free }) (h ++ (n, Given) ∷ [])
+      → 0 < balance (by n h) → StockStandsFor (record { terms = stock.terms; free = free }) (h ++ (n, Given) ∷ [])
   given free segment items room size out =
       let more = ap length items in let one = length-append stock.free.items (segment ∷ []) in let count = stands.count in let places = stands.room in
       let lent = out_is_lent in let c = sum_by_push (λ (e : ℕ × Dealing). is_claim e.1) h (n, Given) in let g = sum_by_push (λ (e : ℕ × Dealing). is_give e.1) h (n, Given) in record {
@@ -84,9 +84,9 @@ module _ (stock : Stock) (h : List (ℕ × Dealing)) (stands : StandsFor stock h
 
 -- what a pass finds at its turn
 module _ (cell at_cell : TurnCell Stock Dealing Terms) (before at : Pass Stock Dealing Terms) (stock found : Stock) (turn : IsTurnOf at_cell at × (at_cell ≡ cell)) (same : IsSamePass before at)
-    (state : IsStateOf StandsFor (λ (s : Stock). s.terms) at_cell (seen at) found) (is_found : stock ≡ found) where
-  pub stands_for : StandsFor stock (seen at)
-  stands_for = subst (λ s. StandsFor s (seen at)) (sym is_found) state.0
+    (state : IsStateOf StockStandsFor (λ (s : Stock). s.terms) at_cell (seen at) found) (is_found : stock ≡ found) where
+  pub stands_for : StockStandsFor stock (seen at)
+  stands_for = subst (λ s. StockStandsFor s (seen at)) (sym is_found) state.0
 
   pub on_terms : stock.terms ≡ (opened_with cell).terms
   on_terms = ap (λ (s : Stock). s.terms) is_found ∙ (state.1 ∙ ap (λ (c : TurnCell Stock Dealing Terms). (opened_with c).terms) turn.1)

@@ -17,7 +17,7 @@ use Rattle.segment_pool.specs.declared.stock.Dealing.{Dealing}
 use Rattle.segment_pool.specs.Counting.{is_claim, is_give, balance, lent_in}
 use Rattle.segment_pool.specs.Passes.{IsPassAt, number, seen, mine, out}
 use Rattle.segment_pool.specs.Places.{inner, IsNew, FirstHasPlaces}
-use Rattle.segment_pool.specs.Stocks.{StandsFor}
+use Rattle.segment_pool.specs.Stocks.{StockStandsFor}
 use Rattle.segment_pool.proofs.Counting.{gives_no_more}
 
 module _ {A B : Type 0} (f : A → B) where
@@ -123,7 +123,7 @@ module _ (cell : TurnCell Stock Dealing Terms) where
 
 -- what all passes have out together is lent at the end, and no more than the total
 module _ (cell : TurnCell Stock Dealing Terms) (passes : List PoolPass) (places : List (Pass Stock Dealing Terms)) (is : places ≡ inner passes) (stock : Stock)
-    (whole : closing.IsWhole StandsFor (λ (s : Stock). s.terms) cell places stock) where
+    (whole : closing.IsWhole StockStandsFor (λ (s : Stock). s.terms) cell places stock) where
   fair : (k : ℕ) (pass : PoolPass) → get_elem? passes k ≡ some pass → out pass + sum_by is_give (mine pass) ≡ sum_by is_claim (mine pass)
   fair k pass at =
       let own = whole.whole.own k pass.pass (ap (λ l. get_elem? l k) is ∙ map_at (λ (p : PoolPass). p.pass) passes k pass at) in

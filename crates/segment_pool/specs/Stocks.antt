@@ -29,7 +29,7 @@ IsWithin limits number entries =
 
 -- The stock stands for this history: each pass kept to the rules, what is free and what is lent make
 -- the total, each free segment has the size, and there is room for those that are lent.
-pub record StandsFor (stock : Stock) (history : List (ℕ × Dealing)) : Type 0 where
+pub record StockStandsFor (stock : Stock) (history : List (ℕ × Dealing)) : Type 0 where
   pub legal : AreLegal stock.terms
   pub within : (number : ℕ) → IsWithin stock.terms.limits.items number (by number history)
   pub count : length stock.free.items + lent_in history ≡ stock.terms.total

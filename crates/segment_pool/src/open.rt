@@ -3,7 +3,7 @@ ghost use Rattle.std.specs.Prelude.{◌≡◌, ◌+◌, ◌^◌, ◌<◌, ◌≤
 ghost use Rattle.std.specs.List.{All, sum};
 ghost use Rattle.segment_pool.specs.Passes.{out};
 ghost use Rattle.segment_pool.specs.Pools.{AreFresh, IsOpened, passes_of};
-ghost use Rattle.segment_pool.specs.Stocks.{AreLegal, IsSize, IsTotal, StandsFor};
+ghost use Rattle.segment_pool.specs.Stocks.{AreLegal, IsSize, IsTotal, StockStandsFor};
 
 use crate::pass::PoolPass;
 use crate::places::passes_of;
@@ -17,7 +17,7 @@ use turn_cell::TurnCell;
 // A stock of all segments.
 fn stock_of(alloc: Global, terms: Terms) -> Result<Stock, AllocError>
     requires { AreLegal terms }
-    ensures { IfOk result (λ stock. StandsFor stock [] × (stock.terms ≡ terms)) }
+    ensures { IfOk result (λ stock. StockStandsFor stock [] × (stock.terms ≡ terms)) }
 {
     let mut free = ListOf::new(alloc);
     free.reserve(terms.total as usize)?;

@@ -34,13 +34,13 @@ pub struct Stock {
 }
 
 impl Turned for Stock {
-    ghost use Rattle.segment_pool.specs.Stocks.{StandsFor};
+    ghost use Rattle.segment_pool.specs.Stocks.{StockStandsFor};
 
     type Entry = Dealing;
 
     type Fixed = Terms;
 
-    ghost stands = { StandsFor };
+    ghost stands = { StockStandsFor };
 
     ghost fixed = { λ stock. stock.terms };
 }

@@ -17,7 +17,7 @@ use Rattle.plain_machine.specs.Emitting.{receiver_on, emit, count_after}
 use Rattle.plain_machine.specs.Places.{sender_place}
 use Rattle.plain_machine.specs.Theorems.{EmittedAreShort}
 use Rattle.checkpoint_laws.specs.Puts.{stretches}
-use Rattle.checkpoint_laws.specs.Chapters.{Linked, GoesOn, Chapter, opening, Step}
+use Rattle.checkpoint_laws.specs.Chapters.{Linked, OffsetGoesOn, Chapter, opening, Step}
 use Rattle.record_writer.specs.Writers.{ways, receiver_at}
 use Rattle.task_output.specs.Outputs.{brought, all_of, place_to, parcels_to}
 use Rattle.source_task.specs.Emitting.{IsInterval, AreSnapshots, has_ended}
@@ -80,7 +80,7 @@ module _ (job : Job) (a : ℕ) where
 -- ---- one chapter behind another
 
 -- how far it goes
-goes : (every : Option ℕ) (all old new lines : ℕ) (ended : Bool) → IsInterval every lines ended → new ≡ old + lines → new ≤ all → (ended ≡ true → all ≡ new) → GoesOn every all old new ended
+goes : (every : Option ℕ) (all old new lines : ℕ) (ended : Bool) → IsInterval every lines ended → new ≡ old + lines → new ≤ all → (ended ≡ true → all ≡ new) → OffsetGoesOn every all old new ended
 goes None all old new lines ended interval is within last = (sym (last interval), interval)
 goes (Some n) all old new lines false interval is within last =
     (is ∙ ap (λ m. old + m) interval ∙ sym (min-eq_left (let far : old + n ≤ all = omega (arith, is, interval, within) in far)), sym (le-ltb all (old + n) (omega (arith, is, interval, within))))

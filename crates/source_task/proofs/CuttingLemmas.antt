@@ -16,7 +16,7 @@ use Rattle.source_task.specs.declared.output.LineFault.{LineFault}
 use Rattle.source_task.specs.declared.output.LineFault.TheVariants as faults
 use Rattle.source_task.specs.declared.output.SourceOutput.{SourceOutput}
 use Rattle.source_task.specs.Emitting.{HasEmitted, HasBroken, BrokeAmong, LineEmitted, BreaksFor, has_ended}
-use Rattle.source_task.specs.Cutting.{IsUnderWay, GoesOn, BrokeOff, HasEndedLines, IsLineFault}
+use Rattle.source_task.specs.Cutting.{IsSourceUnderWay, OutputGoesOn, BrokeOff, HasEndedLines, IsLineFault}
 use Rattle.source_task.proofs.Taking.{broken_still}
 
 pub none_is : (line : List ℕ) → length line ≡ 0 → line ≡ []
@@ -65,10 +65,10 @@ module _ (job : Job) (size : ℕ) (out : SourceOutput) (ended : List (List ℕ))
   line_fault more_ended tail line faults.Stopped text_is long stopped = stopped refl
 
 -- what is left begins the next line
-pub fed_rest : SentIsBegun → (job : Job) (size : ℕ) (out : SourceOutput) → has_ended (sent_by out.pass) ≡ false → (ended more_ended : List (List ℕ)) (first bytes line rest new : List ℕ) (result : Result Unit LineFault) → IsUnderWay job size out line (ended ++ more_ended)
+pub fed_rest : SentIsBegun → (job : Job) (size : ℕ) (out : SourceOutput) → has_ended (sent_by out.pass) ≡ false → (ended more_ended : List (List ℕ)) (first bytes line rest new : List ℕ) (result : Result Unit LineFault) → IsSourceUnderWay job size out line (ended ++ more_ended)
     → ((more : List ℕ) → lines (first ++ (bytes ++ more)) ≡ more_ended ++ lines (line ++ (rest ++ more))) → IsBegun rest → OnOk result (new ≡ line ++ rest)
     → (result ≡ Err faults.TooLong → RECORD_MAX < length (line ++ rest)) → (result ≡ Err faults.Stopped → ⊥)
-    → MatchResult result (λ _. GoesOn job size ended first bytes out new) (λ fault. (more : List ℕ) → BrokeOff job size out ended (first ++ (bytes ++ more)) fault)
+    → MatchResult result (λ _. OutputGoesOn job size ended first bytes out new) (λ fault. (more : List ℕ) → BrokeOff job size out ended (first ++ (bytes ++ more)) fault)
 fed_rest law job size out not_ended ended more_ended first bytes line rest new (Ok done) way cut begun line_is long never = (
   more_ended,
   record {
@@ -87,7 +87,7 @@ fed_rest law job size out not_ended ended more_ended first bytes line rest new (
 fed_rest law job size out not_ended ended more_ended first bytes line rest new (Err faults.Stopped) way cut begun line_is long never = absurd (never refl)
 
 -- the last line
-pub ended_lines : (job : Job) (size : ℕ) (old out : SourceOutput) (ended : List (List ℕ)) (line : List ℕ) (result : Result Unit LineFault) → IsUnderWay job size old line ended → 0 < length line → IsShort line → IfErr result (λ fault. BreaksFor fault out)
+pub ended_lines : (job : Job) (size : ℕ) (old out : SourceOutput) (ended : List (List ℕ)) (line : List ℕ) (result : Result Unit LineFault) → IsSourceUnderWay job size old line ended → 0 < length line → IsShort line → IfErr result (λ fault. BreaksFor fault out)
     → LineEmitted job size out ended line result → MatchResult result (λ _. HasEndedLines job size out ended line) (λ fault. BrokeOff job size out ended (line ++ []) fault)
 ended_lines job size old out ended line (Ok done) way some short breaks emitted =
     let last = last_line line way.begun some in

@@ -21,13 +21,13 @@ use Rattle.source_task.specs.declared.output.LineFault.{LineFault}
 use Rattle.source_task.specs.declared.output.LineFault.TheVariants as faults
 use Rattle.source_task.specs.declared.output.SourceOutput.{SourceOutput}
 use Rattle.source_task.specs.Emitting.{HasEmitted, HasBroken, has_ended}
-use Rattle.source_task.specs.Cutting.{IsUnderWay, GoesOn, BrokeOff, IsLineFault, cause_of_line}
+use Rattle.source_task.specs.Cutting.{IsSourceUnderWay, OutputGoesOn, BrokeOff, IsLineFault, cause_of_line}
 use Rattle.source_task.specs.Sources.{SourceAccount, SourceEnd, IsSourceCause, EndedAs}
 use Rattle.source_task.proofs.Taking.{broken_still}
 
 -- some lines have ended in what was read, so many bytes, and the lines of what is left of all follow them
 abbrev pub IsOnWay : Job → ℕ → Option (List ℕ) → Option (List ℕ) → ℕ → SourceOutput → List ℕ → Type 0
-IsOnWay job size start left taken out line = (ended : List (List ℕ)) × IsUnderWay job size out line ended
+IsOnWay job size start left taken out line = (ended : List (List ℕ)) × IsSourceUnderWay job size out line ended
     × IfSome start (λ all. (rest : List ℕ) × (left ≡ Some rest) × (taken + length rest ≡ length all) × (lines all ≡ ended ++ lines (line ++ rest)))
 
 -- at the start nothing was read
@@ -120,7 +120,7 @@ module _ (law : SentIsBegun) (over : FinishedIsBegun) (job : Job) (size : ℕ) (
     On s = IfSome s (λ all. (rest : List ℕ) × (before ≡ Some rest) × (taken + length rest ≡ length all) × (lines all ≡ way.0 ++ lines (line ++ rest)))
 
     -- a read's lines were taken
-    pub read_on : (new : SourceOutput) (line' : List ℕ) → GoesOn job size way.0 line (take count room) new line' → IsOnWay job size start after (taken + count) new line'
+    pub read_on : (new : SourceOutput) (line' : List ℕ) → OutputGoesOn job size way.0 line (take count room) new line' → IsOnWay job size start after (taken + count) new line'
     read_on new line' more = (way.0 ++ more.0, more.1, told_on start way.2)
       where
         told_on : (s : Option (List ℕ)) → On s → IfSome s (λ all. (rest : List ℕ) × (after ≡ Some rest) × (taken + count + length rest ≡ length all) × (lines all ≡ (way.0 ++ more.0) ++ lines (line' ++ rest)))

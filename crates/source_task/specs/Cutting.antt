@@ -17,15 +17,15 @@ use Rattle.snapshot_channel.specs.Passes.{sent_by}
 use Rattle.source_task.specs.Emitting.{HasEmitted, HasBroken, has_ended}
 
 -- The source has emitted the lines that have ended, and another line has begun.
-pub record IsUnderWay (job : Job) (size : ℕ) (out : SourceOutput) (line : List ℕ) (ended : List (List ℕ)) : Type 0 where
+pub record IsSourceUnderWay (job : Job) (size : ℕ) (out : SourceOutput) (line : List ℕ) (ended : List (List ℕ)) : Type 0 where
   pub begun : IsBegun line
   pub short : AllByRecursion IsShort ended
   pub emitted : HasEmitted job size out ended
 
 -- Some more lines end in the bytes. Whatever comes after these, they are the first lines, and those of what has begun then follow them.
-abbrev pub GoesOn : Job → ℕ → List (List ℕ) → List ℕ → List ℕ → SourceOutput → List ℕ → Type 0
-GoesOn job size ended old bytes out new =
-    (more_ended : List (List ℕ)) × IsUnderWay job size out new (ended ++ more_ended)
+abbrev pub OutputGoesOn : Job → ℕ → List (List ℕ) → List ℕ → List ℕ → SourceOutput → List ℕ → Type 0
+OutputGoesOn job size ended old bytes out new =
+    (more_ended : List (List ℕ)) × IsSourceUnderWay job size out new (ended ++ more_ended)
     × ((more : List ℕ) → lines (old ++ (bytes ++ more)) ≡ more_ended ++ lines (new ++ more))
 
 -- A line of this text is too long, there was no memory, or the source was stopped.

@@ -3,7 +3,7 @@ ghost use Rattle.std.specs.Prelude.{◌≡◌, ◌<◌, ◌≤◌, [], ◌++◌,
 ghost use Rattle.flow_defs.specs.declared.job.Job.{Job};
 ghost use Rattle.flow_defs.specs.Records.{IsShort};
 ghost use Rattle.source_task.specs.Emitting.{IsReading, HasOwnPasses, IsSameSource, HasEmitted, LineEmitted, BreaksFor};
-ghost use Rattle.source_task.specs.Cutting.{IsUnderWay, GoesOn, BrokeOff, HasEndedLines, IsLineFault};
+ghost use Rattle.source_task.specs.Cutting.{IsSourceUnderWay, OutputGoesOn, BrokeOff, HasEndedLines, IsLineFault};
 ghost use Rattle.flow_defs.specs.Limits.{record_max};
 
 use crate::{LineFault, SourceOutput};
@@ -41,8 +41,8 @@ impl Lines {
         ensures same { IsSameSource output.old output.new }
         ensures own { HasOwnPasses output.new }
         ensures reading { OnOk result (IsReading output.new) }
-        ensures fed { (job : Job) (size : ℕ) (ended : List (List ℕ)) → IsUnderWay job size output.old self.old.line.items ended →
-            MatchResult result (λ _. GoesOn job size ended self.old.line.items bytes.now output.new self.new.line.items) (λ fault. (more : List ℕ) → BrokeOff job size output.new ended (self.old.line.items ++ (bytes.now ++ more)) fault) }
+        ensures fed { (job : Job) (size : ℕ) (ended : List (List ℕ)) → IsSourceUnderWay job size output.old self.old.line.items ended →
+            MatchResult result (λ _. OutputGoesOn job size ended self.old.line.items bytes.now output.new self.new.line.items) (λ fault. (more : List ℕ) → BrokeOff job size output.new ended (self.old.line.items ++ (bytes.now ++ more)) fault) }
     {
         what_was_sent_was_begun();
         let mut rest = bytes;
@@ -67,7 +67,7 @@ impl Lines {
         ensures same { IsSameSource output.old output.new }
         ensures own { HasOwnPasses output.new }
         ensures reading { OnOk result (IsReading output.new) }
-        ensures ended { (job : Job) (size : ℕ) (ended : List (List ℕ)) → IsUnderWay job size output.old self.old.line.items ended →
+        ensures ended { (job : Job) (size : ℕ) (ended : List (List ℕ)) → IsSourceUnderWay job size output.old self.old.line.items ended →
             MatchResult result (λ _. HasEndedLines job size output.new ended self.old.line.items) (λ fault. BrokeOff job size output.new ended (self.old.line.items ++ []) fault) }
     {
         if self.line.is_empty() {

@@ -2,7 +2,7 @@
 ghost use Rattle.std.specs.Prelude.{◌≡◌, [], ℕ, List};
 ghost use Rattle.flow_defs.specs.declared.job.Job.{Job};
 ghost use Rattle.source_task.specs.Emitting.{IsReading, HasOwnPasses, IsSameSource, HasEmitted};
-ghost use Rattle.source_task.specs.Cutting.{IsUnderWay, cause_of_line};
+ghost use Rattle.source_task.specs.Cutting.{IsSourceUnderWay, cause_of_line};
 ghost use Rattle.source_task.specs.Sources.{EndedAs, SourceEnd};
 
 use crate::lines::Lines;
@@ -74,7 +74,7 @@ fn end_lines<R: Wait>(
     requires { IsReading output.old }
     ensures same { IsSameSource output.old output.new }
     ensures own { HasOwnPasses output.new }
-    ensures ended { (job : Job) (size : ℕ) (ended : List (List ℕ)) → IsUnderWay job size output.old lines.old.line.items ended →
+    ensures ended { (job : Job) (size : ℕ) (ended : List (List ℕ)) → IsSourceUnderWay job size output.old lines.old.line.items ended →
         EndedAs job size output.new ended lines.old.line.items output.old.index result }
 {
     let index = output.index;

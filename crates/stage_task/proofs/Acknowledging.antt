@@ -18,7 +18,7 @@ use Rattle.flow_defs.specs.Tables.{Values}
 use Rattle.plain_machine.specs.Images.{AreRuns, HasShortKeys}
 use Rattle.plain_machine.specs.Theorems.{CountedInParts}
 use Rattle.plain_machine.proofs.KeySums.{entries-empty}
-use Rattle.checkpoint_laws.specs.Chapters.{Takes, applied, task_at}
+use Rattle.checkpoint_laws.specs.Chapters.{RunsTake, applied, task_at}
 use Rattle.barriers.specs.Alignments.{is_open}
 use Rattle.outside.specs.declared.last_image.Stored.{Stored}
 use Rattle.input_gate.specs.Gates.{Account}
@@ -66,7 +66,7 @@ pub record IsResumed (job : Job) (e b size k : ℕ) (every : Option ℕ) (gate :
   pub took : List (ℕ × List ℕ)
   pub taken : HasTaken job e b gate taking (groups ++ took ∷ []) []
   pub closed : is_open taking.alignment ≡ false
-  pub takes_are : Takes job e b takes took
+  pub takes_are : RunsTake job e b takes took
   pub was : HasSent job (suc e) b size out (all_applied job e groups ++ applied job e took ∷ []) []
   pub snapshots : AreSnapshots job e b 0 0 groups sent
   pub number : k ≡ suc (length groups)
@@ -78,7 +78,7 @@ moved P job job' e e' b b' every every' one two three four was =
 pub resumed_at : (before after : Account) (t t' : Taking) (out out' : StageOutput) (k : ℕ) (takes : List TakeRun) (marked : IsMarked before t out k) → IsSameStage out out' → sent_by out'.pass ≡ sent_by out.pass
     → ((job : Job) (e a size : ℕ) (groups : List (List (List ℕ))) (records : List (List ℕ)) → HasSent job e a size out.output groups records → HasSent job e a size out'.output groups records)
     → is_open t'.alignment ≡ false
-    → ((job : Job) (e b : ℕ) (groups : List (List (ℕ × List ℕ))) (took : List (ℕ × List ℕ)) → IsAtBarrier job e b before t groups took → Takes job e b takes took × HasTaken job e b after t' (groups ++ took ∷ []) [])
+    → ((job : Job) (e b : ℕ) (groups : List (List (ℕ × List ℕ))) (took : List (ℕ × List ℕ)) → IsAtBarrier job e b before t groups took → RunsTake job e b takes took × HasTaken job e b after t' (groups ++ took ∷ []) [])
     → IsResumed out'.job.now out'.edge out'.index out'.output.writer.size k out'.every after t' out'.output (sent_by out'.pass) (seen out'.last_pass) takes
 resumed_at before after t t' out out' k takes marked same kept still closed resume =
     let job = out.job.now in
@@ -143,7 +143,7 @@ still_resumed job e b size size' k every gate taking out out' sent sent' history
       took = at.took;
       taken = at.taken;
       closed = at.closed;
-      takes_are = subst (λ l. Takes job e b l at.took) (sym takes_is) at.takes_are;
+      takes_are = subst (λ l. RunsTake job e b l at.took) (sym takes_is) at.takes_are;
       was = subst (λ s. HasSent job (suc e) b s out' (all_applied job e at.groups ++ applied job e at.took ∷ []) []) (sym was.writes_for.size_is ∙ sym size_is) was;
       snapshots = subst (AreSnapshots job e b 0 0 at.groups) (sym sent_is) at.snapshots;
       number = at.number;
@@ -190,7 +190,7 @@ acknowledged count gate taking out before k size sent history takes x last at st
         none_in = of.none_in;
         none_out = of.none_out;
       };
-      takes = subst (λ l. Takes job e b l took) (sym takes_is) at.takes_are;
+      takes = subst (λ l. RunsTake job e b l took) (sym takes_is) at.takes_are;
     } in
     let all = snapshots_more count job e b took x 0 0 groups sent at.snapshots is in
     goes_on gate taking out (groups ++ took ∷ []) last

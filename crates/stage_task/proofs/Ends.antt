@@ -10,7 +10,7 @@ use Rattle.flow_defs.specs.declared.image.Snapshot.{Snapshot}
 use Rattle.flow_defs.specs.declared.image.TakeRun.{TakeRun}
 use Rattle.flow_defs.specs.declared.job.Job.{Job}
 use Rattle.plain_machine.specs.Emitting.{apply_behind}
-use Rattle.checkpoint_laws.specs.Chapters.{Takes, applied}
+use Rattle.checkpoint_laws.specs.Chapters.{RunsTake, applied}
 use Rattle.outside.specs.declared.last_image.Stored.{Stored}
 use Rattle.record_writer.specs.Writers.{SendPass, IsNextBarrier, HasSeenFault}
 use Rattle.input_gate.specs.Gates.{Account, AllOver, stops_in}
@@ -24,13 +24,13 @@ use Rattle.task_output.specs.Laws.{SentIsBegun, FinishedIsBegun}
 use Rattle.stage_task.specs.declared.checkpoints.StageOutput.{StageOutput}
 use Rattle.stage_task.specs.Snapshots.{AreSnapshots, all_applied}
 use Rattle.stage_task.specs.Stages.{StageAccount}
-use Rattle.stage_task.specs.Applying.{HasApplied, IsUnderWay, IsBehindLast, IsMarked, EndedAmong}
+use Rattle.stage_task.specs.Applying.{HasApplied, IsStageUnderWay, IsBehindLast, IsMarked, EndedAmong}
 use Rattle.stage_task.proofs.Records.{applied_line}
 
 -- what was begun is put
 pub ended_account : (job : Job) (e b size : ℕ) (every : Option ℕ) (gate : Account) (out : Output) (sent : List Snapshot) (history : List (ℕ × Stored)) (takes : List TakeRun) (cause : Cause)
     (groups : List (List (ℕ × List ℕ))) (rest : List (ℕ × List ℕ)) (records begun : List (List ℕ))
-    → Gave job e b gate groups rest → AreSnapshots job e b 0 0 groups sent → Takes job e b takes rest → HasBegun job (suc e) b size out (all_applied job e groups) records begun
+    → Gave job e b gate groups rest → AreSnapshots job e b 0 0 groups sent → RunsTake job e b takes rest → HasBegun job (suc e) b size out (all_applied job e groups) records begun
     → StartsWith (applied job e rest) (records ++ begun) → cause ≢ causes.Done → IsTakerEnd every history gate groups rest cause
     → StageAccount job e b size every gate out.writer.passes sent history takes cause
 ended_account job e b size every gate out sent history takes cause groups rest records begun given snapshots takes_are begun_them front other cause_is = record {
@@ -142,7 +142,7 @@ module _ (out : StageOutput) where
       more_is : applied job out.edge more ≡ made ++ given
       more_is = applied_line job out.edge took sender line ∙ ap (λ l. made ++ l) (sym gives)
 
-      pub line_applied : (o : Output) → LastIs out.every (seen out.last_pass) (length groups) false → HasSent job (suc out.edge) out.index size o (all_applied job out.edge groups) (made ++ given) → IsUnderWay gate t' (record out { output = o })
+      pub line_applied : (o : Output) → LastIs out.every (seen out.last_pass) (length groups) false → HasSent job (suc out.edge) out.index size o (all_applied job out.edge groups) (made ++ given) → IsStageUnderWay gate t' (record out { output = o })
       line_applied o not_last sent = record {
         groups = groups;
         took = more;

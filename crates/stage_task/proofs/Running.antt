@@ -8,7 +8,7 @@ use Rattle.flow_defs.specs.declared.image.Snapshot.{Snapshot}
 use Rattle.flow_defs.specs.declared.image.TakeRun.{TakeRun}
 use Rattle.flow_defs.specs.declared.job.Job.{Job}
 use Rattle.plain_machine.specs.Emitting.{receiver_on}
-use Rattle.checkpoint_laws.specs.Chapters.{Takes}
+use Rattle.checkpoint_laws.specs.Chapters.{RunsTake}
 use Rattle.outside.specs.declared.last_image.Stored.{Stored}
 use Rattle.outside.specs.Stops.{told_of}
 use Rattle.conn_parts.specs.Shares.{mine_at, AreNew}
@@ -29,7 +29,7 @@ use Rattle.stage_task.specs.declared.checkpoints.TakerEnd.{TakerEnd}
 use Rattle.stage_task.specs.Snapshots.{AreSnapshots}
 use Rattle.stage_task.specs.Stages.{StageAccount, ArePassesBy}
 use Rattle.task_taking.specs.Endings.{ToldStop}
-use Rattle.stage_task.specs.Applying.{IsSameStage, IsUnderWay, IsEndOf}
+use Rattle.stage_task.specs.Applying.{IsSameStage, IsStageUnderWay, IsEndOf}
 use Rattle.stage_task.proofs.Ends.{memory_not_done, stopped_not_done}
 
 -- ---- where it begins
@@ -37,7 +37,7 @@ use Rattle.stage_task.proofs.Ends.{memory_not_done, stopped_not_done}
 pub under_way : (gate : Account) (taking : Taking) (partition : Partition) (w : Writer) (out : StageOutput) → gates.IsNew gate → gate.channels ≡ ways_into out.job.now out.edge
     → ((gate : Account) → gates.IsNew gate → gate.channels ≡ ways_into out.job.now out.edge → HasTaken out.job.now out.edge out.index gate taking [] [])
     → IsWriterOf out.job.now (out.edge + 1) out.index partition w → IsNew w × IsOpen w
-    → ((job : Job) (e a size : ℕ) → WritesFor job e a size w → IsNew w → IsOpen w → HasSent job e a size out.output [] []) → sent_by out.pass ≡ [] → IsUnderWay gate taking out
+    → ((job : Job) (e a size : ℕ) → WritesFor job e a size w → IsNew w → IsOpen w → HasSent job e a size out.output [] []) → sent_by out.pass ≡ [] → IsStageUnderWay gate taking out
 under_way gate taking partition w out new channels none writes fresh none_sent unsent =
     let sent = none_sent out.job.now (suc out.edge) out.index w.size (record { job_is = writes.job_is; edge = writes.edge ∙ (let z : out.edge + 1 ≡ suc out.edge = omega arith in z); index = writes.index; size_is = refl }) fresh.0 fresh.1 in
     record {
@@ -69,7 +69,7 @@ unbegun job e b size every gate passes sent history takes new none_put none_sent
   more = [];
   given = λ c inside. (false, new.told c);
   snapshots = subst (AreSnapshots job e b 0 0 []) (sym none_sent) tt;
-  takes_are = subst (λ (l : List TakeRun). Takes job e b l []) (sym none_taken) (record { senders_are = refl; are_runs = tt; short = tt });
+  takes_are = subst (λ (l : List TakeRun). RunsTake job e b l []) (sym none_taken) (record { senders_are = refl; are_runs = tt; short = tt });
   front = ([], refl);
   put = λ c inside. subst (BegunOn (receiver_on job (suc e) b) [] (end_of job (suc e) b c) size []) (sym (none_at passes c none_put)) (record {
     more = [] ∷ [];

@@ -53,7 +53,7 @@ pub record HasApplied (gate : Account) (taking : Taking) (out : StageOutput) (gr
   pub snapshots : AreSnapshots out.job.now out.edge out.index 0 0 groups (sent_by out.pass)
 
 -- It takes on: the last checkpoint is still to come.
-pub record IsUnderWay (gate : Account) (taking : Taking) (out : StageOutput) : Type 0 where
+pub record IsStageUnderWay (gate : Account) (taking : Taking) (out : StageOutput) : Type 0 where
   pub groups : List (List (ℕ × List ℕ))
   pub took : List (ℕ × List ℕ)
   pub applied_them : HasApplied gate taking out groups took
@@ -78,7 +78,7 @@ pub record IsMarked (gate : Account) (taking : Taking) (out : StageOutput) (k : 
 -- It has acknowledged a checkpoint, the last one or another.
 abbrev pub HasAcknowledged : Account → Taking → StageOutput → Bool → Type 0
 HasAcknowledged gate taking out true = IsBehindLast gate taking out
-HasAcknowledged gate taking out false = IsUnderWay gate taking out
+HasAcknowledged gate taking out false = IsStageUnderWay gate taking out
 
 -- ---- one record
 

@@ -5,7 +5,7 @@ use Rattle.std.specs.FinMap.{empty}
 use Rattle.flow_defs.specs.declared.image.Snapshot.{Snapshot}
 use Rattle.flow_defs.specs.declared.job.Job.{Job}
 use Rattle.plain_machine.specs.Emitting.{count_after}
-use Rattle.checkpoint_laws.specs.Chapters.{Takes, applied, task_at}
+use Rattle.checkpoint_laws.specs.Chapters.{RunsTake, applied, task_at}
 
 -- A snapshot of task b behind edge e for checkpoint k, where it has emitted so many records modulo 2^64. It has no table, offset or saved
 -- piece.
@@ -22,7 +22,7 @@ pub record IsSnapshotOf (e b k emitted : ℕ) (x : Snapshot) : Type 0 where
 -- And it tells that the task took these records since the one before.
 pub record IsSnapshotAt (job : Job) (e b k emitted : ℕ) (group : List (ℕ × List ℕ)) (x : Snapshot) : Type 0 where
   pub is : IsSnapshotOf e b k emitted x
-  pub takes : Takes job e b x.takes.items group
+  pub takes : RunsTake job e b x.takes.items group
 
 -- These are the snapshots of task b behind edge e of the job that belong to the groups of records before its barriers, where so many
 -- checkpoints and records came before.

@@ -10,7 +10,7 @@ use Rattle.flow_defs.specs.declared.image.TakeRun.{TakeRun}
 use Rattle.flow_defs.specs.declared.job.Job.{Job}
 use Rattle.flow_defs.specs.Jobs.{IsJob, last_edge, tasks}
 use Rattle.plain_machine.specs.Emitting.{receiver_on}
-use Rattle.checkpoint_laws.specs.Chapters.{Takes, applied, task_at}
+use Rattle.checkpoint_laws.specs.Chapters.{RunsTake, applied, task_at}
 use Rattle.outside.specs.declared.last_image.Stored.{Stored}
 use Rattle.conn_parts.specs.Shares.{mine_at}
 use Rattle.record_writer.specs.Partitions.{IsPartitionOf}
@@ -36,7 +36,7 @@ pub record StageAccount (job : Job) (e b size : ℕ) (every : Option ℕ) (gate 
   pub more : List (List ℕ)
   pub given : Gave job e b gate groups rest
   pub snapshots : AreSnapshots job e b 0 0 groups sent
-  pub takes_are : Takes job e b takes rest
+  pub takes_are : RunsTake job e b takes rest
   pub front : StartsWith (applied job e rest) more
   pub put : (c : ℕ) → c < ways_on job (suc e) → BegunOn (receiver_on job (suc e) b) (all_applied job e groups) (end_of job (suc e) b c) size more (mine_at c passes)
   pub done : cause ≡ causes.Done → (rest ≡ []) × ((c : ℕ) → c < ways_on job (suc e) → FinishedOn (receiver_on job (suc e) b) (all_applied job e groups) (end_of job (suc e) b c) size [] (mine_at c passes))

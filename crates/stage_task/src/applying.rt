@@ -11,7 +11,7 @@ ghost use Rattle.record_writer.specs.Writers.{IsOpen, IsSame, HasSeenFault};
 ghost use Rattle.input_gate.specs.Gates.{Account};
 ghost use Rattle.task_taking.specs.Takings.{IsInStep};
 ghost use Rattle.task_output.specs.Outputs.{HasSent};
-ghost use Rattle.stage_task.specs.Applying.{IsSameStage, HasOwnPasses, IsUnderWay, IsBehindLast, EmittedAll, IsEndOf};
+ghost use Rattle.stage_task.specs.Applying.{IsSameStage, HasOwnPasses, IsStageUnderWay, IsBehindLast, EmittedAll, IsEndOf};
 
 use crate::checkpoints::acknowledge;
 use crate::{StageOutput, TakerEnd};
@@ -44,7 +44,7 @@ pub fn apply_all<G: Gate, R: Wait>(
 ) -> TakerEnd
     requires can_run { CanRun (kinds functions.now) out.old.job.now × (out.old.edge < last_edge out.old.job.now) }
     requires in_step { IsInStep (G.account gate.old) taking }
-    requires under_way { IsUnderWay (G.account gate.old) taking out.old }
+    requires under_way { IsStageUnderWay (G.account gate.old) taking out.old }
     requires own { HasOwnPasses out.old }
     ensures gate { (G.ends gate.new ≡ G.ends gate.old) × ((G.account gate.new).channels ≡ (G.account gate.old).channels) }
     ensures same { IsSameStage out.old out.new }

@@ -14,12 +14,11 @@ use Rattle.subpartition.specs.declared.item.Item.TheVariants.{Buffer, Barrier, E
 use Rattle.turn_cell.specs.History.{IsHistory, entries_of}
 use Rattle.subpartition.specs.Sending.{Outbox, take_first, sent_one, outbox, barriers_put, is_finished, filled_to, MaySend, may_send, MaySendAs}
 use Rattle.subpartition.specs.Queues.{Queue, HasLength, bytes_of, parcel_of, with_buffer, with_barrier, with_end, without_first, filling_to}
-use Rattle.subpartition.specs.Standing.{StandsFor}
+use Rattle.subpartition.specs.Standing.{QueueStandsFor}
 use Rattle.subpartition.specs.Theorems.{NewStandsForNone, PutAdds, PutInlineAdds, FinishAdds, TakeAdds, SizeAdds, LastIsPut, TakeTells, TaskTellsQueue}
 use Rattle.subpartition.proofs.Items.{last_bytes-buffer}
 use Rattle.subpartition.proofs.Growing.{history_nil, history_more, entries_of-append}
-use Rattle.subpartition.proofs.Travelling.{sent_from-append}
-use Rattle.subpartition.proofs.Allowed.{barriers_put-append}
+use Rattle.subpartition.proofs.Travelling.{barriers_put-append, is_finished-append, sent_from-append}
 use Rattle.subpartition.proofs.Telling.{task_tells_puts}
 
 pub new_stands_for_none : NewStandsForNone
@@ -39,14 +38,6 @@ outbox-more history n e = ap outbox (entries_of-append history ((n, e) ∷ [])) 
 barriers-more : (history : List (ℕ × SendEntry)) (n : ℕ) (e : SendEntry) → barriers_put (entries_of (history ++ (n, e) ∷ [])) ≡ barriers_put (entries_of history) ++ barriers_put (e ∷ [])
 barriers-more history n e = ap barriers_put (entries_of-append history ((n, e) ∷ [])) ∙ barriers_put-append (entries_of history) (e ∷ [])
 
-is_finished-append : (xs ys : List SendEntry) → is_finished (xs ++ ys) ≡ cond (is_finished xs) true (is_finished ys)
-is_finished-append [] ys = refl
-is_finished-append (Put bytes ∷ xs) ys = is_finished-append xs ys
-is_finished-append (PutInline k ∷ xs) ys = is_finished-append xs ys
-is_finished-append (Finish ∷ xs) ys = refl
-is_finished-append (Take ∷ xs) ys = is_finished-append xs ys
-is_finished-append (Size n ∷ xs) ys = is_finished-append xs ys
-
 filled_to-append : (first : ℕ) (xs ys : List SendEntry) → filled_to first (xs ++ ys) ≡ filled_to (filled_to first xs) ys
 filled_to-append first [] ys = refl
 filled_to-append first (Put bytes ∷ xs) ys = filled_to-append first xs ys
@@ -64,14 +55,14 @@ or_true true = refl
 or_true false = refl
 
 -- Of an entry these are to be shown: that it was allowed, what it makes of the items, the barriers and the end, and that the segments keep their size.
-stands_more : (old new : Queue) (history : List (ℕ × SendEntry)) (n : ℕ) (e : SendEntry) → StandsFor old history →
+stands_more : (old new : Queue) (history : List (ℕ × SendEntry)) (n : ℕ) (e : SendEntry) → QueueStandsFor old history →
     new.size ≡ old.size → may_send n e ≡ true → MaySend old.size (entries_of history) e →
     map parcel_of new.items ≡ (sent_one (outbox (entries_of history)) e).items →
     new.barriers ≡ length (barriers_put (entries_of history) ++ barriers_put (e ∷ [])) →
     new.finished ≡ cond (is_finished (entries_of history)) true (is_finished (e ∷ [])) →
     new.fill_size ≡ filled_to old.fill_size (e ∷ []) →
     All (HasLength new.size) new.items →
-    StandsFor new (history ++ (n, e) ∷ [])
+    QueueStandsFor new (history ++ (n, e) ∷ [])
 stands_more old new history n e stands size by may items barriers finished fill segments = record {
   legal = subst (λ s. IsHistory (MaySendAs s) (history ++ (n, e) ∷ [])) (sym size) (history_more (MaySendAs old.size) history (n, e) stands.legal (by, may));
   items = items ∙ ap (λ (o : Outbox). o.items) (sym (outbox-more history n e));
@@ -83,14 +74,14 @@ stands_more old new history n e stands size by may items barriers finished fill 
   segments = segments;
 }
 
-items_more : (queue : Queue) (history : List (ℕ × SendEntry)) (item : Item) → StandsFor queue history →
+items_more : (queue : Queue) (history : List (ℕ × SendEntry)) (item : Item) → QueueStandsFor queue history →
     map parcel_of (queue.items ++ item ∷ []) ≡ (outbox (entries_of history)).items ++ parcel_of item ∷ []
 items_more queue history item stands = map-append parcel_of queue.items (item ∷ []) ∙ ap (λ z. z ++ parcel_of item ∷ []) stands.items
 
-same_barriers : (queue : Queue) (history : List (ℕ × SendEntry)) → StandsFor queue history → queue.barriers ≡ length (barriers_put (entries_of history) ++ [])
+same_barriers : (queue : Queue) (history : List (ℕ × SendEntry)) → QueueStandsFor queue history → queue.barriers ≡ length (barriers_put (entries_of history) ++ [])
 same_barriers queue history stands = stands.barriers ∙ ap length (sym (append-nil (barriers_put (entries_of history))))
 
-same_finished : (queue : Queue) (history : List (ℕ × SendEntry)) → StandsFor queue history → queue.finished ≡ cond (is_finished (entries_of history)) true false
+same_finished : (queue : Queue) (history : List (ℕ × SendEntry)) → QueueStandsFor queue history → queue.finished ≡ cond (is_finished (entries_of history)) true false
 same_finished queue history stands = stands.finished ∙ sym (or_false (is_finished (entries_of history)))
 
 pub put_adds : PutAdds

@@ -10,10 +10,10 @@ use Rattle.subpartition.specs.declared.entry.SendEntry.{SendEntry}
 use Rattle.subpartition.specs.declared.entry.SendEntry.TheVariants.{Put, PutInline, Finish, Take, Size}
 use Rattle.turn_cell.specs.History.{IsHistory, entries_of}
 use Rattle.std.specs.List.{range_with_len}
-use Rattle.subpartition.specs.Sending.{barriers_put, MaySend, MaySendAs, numbers_of}
+use Rattle.subpartition.specs.Sending.{parcels_put, barriers_put, MaySend, MaySendAs, numbers_of}
 use Rattle.subpartition.specs.Theorems.{BarriersAreNumbered, EndIsLast, EntriesAreHistory}
 use Rattle.subpartition.proofs.Growing.{split_last, history_nil, history_more, history_keeps, count-next, entries_of-append}
-use Rattle.subpartition.proofs.Travelling.{parcels_put, parcels_put-append, end_put, travelled_is}
+use Rattle.subpartition.proofs.Travelling.{parcels_put-append, barriers_put-append, travelled_is}
 
 abbrev IsNumbered : List (ℕ × BarrierKind) → Type 0
 IsNumbered bs = numbers_of bs ≡ range_with_len 1 (length bs)
@@ -33,14 +33,6 @@ numbered_more bs k kind numbered next =
 
 none_more : (bs : List (ℕ × BarrierKind)) → IsNumbered bs → IsNumbered (bs ++ [])
 none_more bs numbered = subst IsNumbered (sym (append-nil bs)) numbered
-
-pub barriers_put-append : (xs ys : List SendEntry) → barriers_put (xs ++ ys) ≡ barriers_put xs ++ barriers_put ys
-barriers_put-append [] ys = refl
-barriers_put-append (Put bytes ∷ xs) ys = barriers_put-append xs ys
-barriers_put-append (PutInline k ∷ xs) ys = ap (λ z. (k, Inline) ∷ z) (barriers_put-append xs ys)
-barriers_put-append (Finish ∷ xs) ys = barriers_put-append xs ys
-barriers_put-append (Take ∷ xs) ys = barriers_put-append xs ys
-barriers_put-append (Size n ∷ xs) ys = barriers_put-append xs ys
 
 put_step : (size : ℕ) (es : List SendEntry) (e : SendEntry) → IsNumbered (barriers_put es) → MaySend size es e → IsNumbered (barriers_put es ++ barriers_put (e ∷ []))
 put_step size es (Put bytes) numbered may = none_more (barriers_put es) numbered
@@ -76,9 +68,9 @@ none_ends : (ps : List Parcel) → EndsLast ps → EndsLast (ps ++ [])
 none_ends ps ends = subst EndsLast (sym (append-nil ps)) ends
 
 end_step : (size : ℕ) (es : List SendEntry) (e : SendEntry) → EndsLast (parcels_put es) → MaySend size es e → EndsLast (parcels_put es ++ parcels_put (e ∷ []))
-end_step size es (Put bytes) ends may = ends_more (parcels_put es) (Data bytes) (end_put es ∙ may)
-end_step size es (PutInline k) ends may = ends_more (parcels_put es) (Barrier k Inline) (end_put es ∙ may.unfinished)
-end_step size es Finish ends may = ends_more (parcels_put es) End (end_put es ∙ may)
+end_step size es (Put bytes) ends may = ends_more (parcels_put es) (Data bytes) may
+end_step size es (PutInline k) ends may = ends_more (parcels_put es) (Barrier k Inline) may.unfinished
+end_step size es Finish ends may = ends_more (parcels_put es) End may
 end_step size es Take ends may = none_ends (parcels_put es) ends
 end_step size es (Size n) ends may = none_ends (parcels_put es) ends
 

@@ -6,11 +6,13 @@ use Rattle.std.proofs.lemmas.Bool.{eqb-false, ne_eqb}
 use Rattle.std.proofs.lemmas.List.{map-append}
 use Rattle.std.proofs.lemmas.List.Elements.{filter-append}
 use Rattle.flow_defs.specs.declared.task.BarrierKind.TheVariants.{Inline}
+use Rattle.flow_defs.specs.declared.parcel.Parcel.TheVariants.{Data, Barrier, End}
+use Rattle.flow_defs.specs.Parcels.{data_of, barriers_of, has_end}
 use Rattle.turn_cell.specs.History.{by}
 use Rattle.subpartition.specs.declared.entry.SendEntry.{SendEntry}
 use Rattle.subpartition.specs.declared.entry.SendEntry.TheVariants.{Put, PutInline, Finish, Take, Size}
 use Rattle.turn_cell.specs.History.{IsHistory, entries_of}
-use Rattle.subpartition.specs.Sending.{Outbox, sent_one, sent_from, outbox, taken, put, barriers_put, is_finished, may_send, MaySendAs}
+use Rattle.subpartition.specs.Sending.{Outbox, sent_one, sent_from, outbox, taken, parcels_put, may_send, MaySendAs}
 use Rattle.subpartition.specs.Theorems.{TaskTellsPuts, TakenStays}
 use Rattle.subpartition.proofs.Growing.{history_keeps, entries_of-append, cancel_nil}
 use Rattle.subpartition.proofs.Travelling.{sent_from-append}
@@ -29,7 +31,7 @@ module _ {E : Type 0} where
         | false ↦ refl
       ]
 
-  by-append : (m : ℕ) (xs ys : List (ℕ × E)) → by m (xs ++ ys) ≡ by m xs ++ by m ys
+  pub by-append : (m : ℕ) (xs ys : List (ℕ × E)) → by m (xs ++ ys) ≡ by m xs ++ by m ys
   by-append m xs ys =
       ap (map (λ (e : ℕ × E). e.1)) (filter-append (λ (e : ℕ × E). eqb m e.0) xs ys)
       ∙ map-append (λ (e : ℕ × E). e.1) (filter (λ e. eqb m e.0) xs) (filter (λ e. eqb m e.0) ys)
@@ -58,67 +60,41 @@ other_sender n Finish h apart = absurd (true≢false (sym h ∙ eqb_comm n 0 ∙
 other_sender n Take h apart = refl
 other_sender n (Size size) h apart = refl
 
--- what an entry of the task alone changes, the task's own entries tell
-told : {X : Type 0} (f : List SendEntry → X) → ((e : SendEntry) (xs ys : List SendEntry) → f xs ≡ f ys → f (e ∷ xs) ≡ f (e ∷ ys)) → ((e : SendEntry) (xs : List SendEntry) → may_send 0 e ≡ false → f (e ∷ xs) ≡ f xs) →
-    (pairs : List (ℕ × SendEntry)) → AreByPasses pairs → f (entries_of pairs) ≡ f (by 0 pairs)
-told f more skips [] are = refl
-told f more skips (pair ∷ pairs) are =
-    let rest = told f more skips pairs are.1 in
-    elim (eqb 0 pair.0) as (λ b. eqb 0 pair.0 ≡ b → f (pair.1 ∷ entries_of pairs) ≡ f (cond b (pair.1 ∷ by 0 pairs) (by 0 pairs))) [
-      | true ↦ λ same. more pair.1 (entries_of pairs) (by 0 pairs) rest
-      | false ↦ λ else. skips pair.1 (entries_of pairs) (other_sender pair.0 pair.1 are.0 else) ∙ rest
+parcels-more : (e : SendEntry) (xs ys : List SendEntry) → parcels_put xs ≡ parcels_put ys → parcels_put (e ∷ xs) ≡ parcels_put (e ∷ ys)
+parcels-more (Put bytes) xs ys h = ap (λ z. Data bytes ∷ z) h
+parcels-more (PutInline k) xs ys h = ap (λ z. Barrier k Inline ∷ z) h
+parcels-more Finish xs ys h = ap (λ z. End ∷ z) h
+parcels-more Take xs ys h = h
+parcels-more (Size n) xs ys h = h
+
+parcels-skips : (e : SendEntry) (xs : List SendEntry) → may_send 0 e ≡ false → parcels_put (e ∷ xs) ≡ parcels_put xs
+parcels-skips (Put bytes) xs h = absurd (true≢false h)
+parcels-skips (PutInline k) xs h = absurd (true≢false h)
+parcels-skips Finish xs h = absurd (true≢false h)
+parcels-skips Take xs h = refl
+parcels-skips (Size n) xs h = refl
+
+-- what was put, the task's own entries tell
+told : (pairs : List (ℕ × SendEntry)) → AreByPasses pairs → parcels_put (entries_of pairs) ≡ parcels_put (by 0 pairs)
+told [] are = refl
+told (pair ∷ pairs) are =
+    let rest = told pairs are.1 in
+    elim (eqb 0 pair.0) as (λ b. eqb 0 pair.0 ≡ b → parcels_put (pair.1 ∷ entries_of pairs) ≡ parcels_put (cond b (pair.1 ∷ by 0 pairs) (by 0 pairs))) [
+      | true ↦ λ same. parcels-more pair.1 (entries_of pairs) (by 0 pairs) rest
+      | false ↦ λ else. parcels-skips pair.1 (entries_of pairs) (other_sender pair.0 pair.1 are.0 else) ∙ rest
     ] refl
-    ∙ ap f (sym (by-cons 0 pair pairs))
+    ∙ ap parcels_put (sym (by-cons 0 pair pairs))
 
-put-more : (e : SendEntry) (xs ys : List SendEntry) → put xs ≡ put ys → put (e ∷ xs) ≡ put (e ∷ ys)
-put-more (Put bytes) xs ys h = ap (λ z. bytes ++ z) h
-put-more (PutInline k) xs ys h = h
-put-more Finish xs ys h = h
-put-more Take xs ys h = h
-put-more (Size n) xs ys h = h
-
-put-skips : (e : SendEntry) (xs : List SendEntry) → may_send 0 e ≡ false → put (e ∷ xs) ≡ put xs
-put-skips (Put bytes) xs h = absurd (true≢false h)
-put-skips (PutInline k) xs h = refl
-put-skips Finish xs h = refl
-put-skips Take xs h = refl
-put-skips (Size n) xs h = refl
-
-barriers-more : (e : SendEntry) (xs ys : List SendEntry) → barriers_put xs ≡ barriers_put ys → barriers_put (e ∷ xs) ≡ barriers_put (e ∷ ys)
-barriers-more (Put bytes) xs ys h = h
-barriers-more (PutInline k) xs ys h = ap (λ z. (k, Inline) ∷ z) h
-barriers-more Finish xs ys h = h
-barriers-more Take xs ys h = h
-barriers-more (Size n) xs ys h = h
-
-barriers-skips : (e : SendEntry) (xs : List SendEntry) → may_send 0 e ≡ false → barriers_put (e ∷ xs) ≡ barriers_put xs
-barriers-skips (Put bytes) xs h = refl
-barriers-skips (PutInline k) xs h = absurd (true≢false h)
-barriers-skips Finish xs h = refl
-barriers-skips Take xs h = refl
-barriers-skips (Size n) xs h = refl
-
-finished-more : (e : SendEntry) (xs ys : List SendEntry) → is_finished xs ≡ is_finished ys → is_finished (e ∷ xs) ≡ is_finished (e ∷ ys)
-finished-more (Put bytes) xs ys h = h
-finished-more (PutInline k) xs ys h = h
-finished-more Finish xs ys h = refl
-finished-more Take xs ys h = h
-finished-more (Size n) xs ys h = h
-
-finished-skips : (e : SendEntry) (xs : List SendEntry) → may_send 0 e ≡ false → is_finished (e ∷ xs) ≡ is_finished xs
-finished-skips (Put bytes) xs h = refl
-finished-skips (PutInline k) xs h = refl
-finished-skips Finish xs h = absurd (true≢false h)
-finished-skips Take xs h = refl
-finished-skips (Size n) xs h = refl
+pub parcels_told : (size : ℕ) (history : List (ℕ × SendEntry)) → IsHistory (MaySendAs size) history → parcels_put (entries_of history) ≡ parcels_put (by 0 history)
+parcels_told size history legal = told history (are_by_passes size history legal)
 
 pub task_tells_puts : TaskTellsPuts
 task_tells_puts size history legal =
-    let are = are_by_passes size history legal in
+    let same = parcels_told size history legal in
     record {
-      bytes = told put put-more put-skips history are;
-      barriers = told barriers_put barriers-more barriers-skips history are;
-      finished = told is_finished finished-more finished-skips history are;
+      bytes = ap data_of same;
+      barriers = ap barriers_of same;
+      finished = ap has_end same;
     }
 
 not_empty : {E : Type 0} (x : E) (xs : List E) → x ∷ xs ≡ [] → ⊥

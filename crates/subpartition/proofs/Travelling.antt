@@ -1,5 +1,6 @@
 -- What travels is what was put: with barriers in line alone nothing overtakes.
-use Rattle.std.proofs.Common.{◌≡◌, List, [], ◌∷◌, ◌++◌, refl, sym, ap, ◌∙◌, append_assoc, append-nil}
+use Rattle.std.proofs.Common.{◌≡◌, true, cond, List, [], ◌∷◌, ◌++◌, refl, sym, ap, ◌∙◌, append_assoc, append-nil}
+use Rattle.flow_defs.proofs.ParcelLemmas.{data_of-append, barriers_of-append, has_end-append}
 use Rattle.flow_defs.specs.declared.task.BarrierKind.TheVariants.{Inline}
 use Rattle.flow_defs.specs.declared.parcel.Parcel.{Parcel}
 use Rattle.flow_defs.specs.declared.parcel.Parcel.TheVariants.{Data, Barrier, End}
@@ -7,20 +8,11 @@ use Rattle.flow_defs.specs.Parcels.{data_of, barriers_of, has_end}
 use Rattle.turn_cell.specs.History.{StartsWith}
 use Rattle.subpartition.specs.declared.entry.SendEntry.{SendEntry}
 use Rattle.subpartition.specs.declared.entry.SendEntry.TheVariants.{Put, PutInline, Finish, Take, Size}
-use Rattle.subpartition.specs.Sending.{Outbox, take_first, sent_one, sent_from, outbox, taken, travelled, put, barriers_put, is_finished}
+use Rattle.subpartition.specs.Sending.{Outbox, take_first, sent_one, sent_from, outbox, taken, travelled, parcels_put, put, barriers_put, is_finished}
 use Rattle.subpartition.specs.Theorems.{DataTravelInOrder, DataAreTakenOrLeft, BarriersTravelInOrder, EndTravels, TakenGrows}
 
 abbrev all_of : Outbox → List Parcel
 all_of o = o.taken ++ o.items
-
--- the parcels that entries put
-abbrev pub parcels_put : List SendEntry → List Parcel
-parcels_put [] = []
-parcels_put (Put bytes ∷ es) = Data bytes ∷ parcels_put es
-parcels_put (PutInline k ∷ es) = Barrier k Inline ∷ parcels_put es
-parcels_put (Finish ∷ es) = End ∷ parcels_put es
-parcels_put (Take ∷ es) = parcels_put es
-parcels_put (Size n ∷ es) = parcels_put es
 
 at_end : (xs ys : List Parcel) (p : Parcel) (more : List Parcel) → (xs ++ (ys ++ p ∷ [])) ++ more ≡ (xs ++ ys) ++ p ∷ more
 at_end xs ys p more =
@@ -41,47 +33,17 @@ sent_from-all o (Size n ∷ es) = sent_from-all o es
 pub travelled_is : (es : List SendEntry) → travelled es ≡ parcels_put es
 travelled_is es = sent_from-all (record { taken = []; items = [] }) es
 
-data_put : (es : List SendEntry) → data_of (parcels_put es) ≡ put es
-data_put [] = refl
-data_put (Put bytes ∷ es) = ap (λ z. bytes ++ z) (data_put es)
-data_put (PutInline k ∷ es) = data_put es
-data_put (Finish ∷ es) = data_put es
-data_put (Take ∷ es) = data_put es
-data_put (Size n ∷ es) = data_put es
-
 pub data_travel_in_order : DataTravelInOrder
-data_travel_in_order es = ap data_of (travelled_is es) ∙ data_put es
-
-data_of-append : (xs ys : List Parcel) → data_of (xs ++ ys) ≡ data_of xs ++ data_of ys
-data_of-append [] ys = refl
-data_of-append (Data bytes ∷ xs) ys = ap (λ z. bytes ++ z) (data_of-append xs ys) ∙ sym (append_assoc bytes (data_of xs) (data_of ys))
-data_of-append (Barrier k kind ∷ xs) ys = data_of-append xs ys
-data_of-append (End ∷ xs) ys = data_of-append xs ys
+data_travel_in_order es = ap data_of (travelled_is es)
 
 pub data_are_taken_or_left : DataAreTakenOrLeft
 data_are_taken_or_left es = let o = outbox es in sym (data_travel_in_order es) ∙ data_of-append o.taken o.items
 
-barriers_are : (es : List SendEntry) → barriers_of (parcels_put es) ≡ barriers_put es
-barriers_are [] = refl
-barriers_are (Put bytes ∷ es) = barriers_are es
-barriers_are (PutInline k ∷ es) = ap (λ z. (k, Inline) ∷ z) (barriers_are es)
-barriers_are (Finish ∷ es) = barriers_are es
-barriers_are (Take ∷ es) = barriers_are es
-barriers_are (Size n ∷ es) = barriers_are es
-
 pub barriers_travel_in_order : BarriersTravelInOrder
-barriers_travel_in_order es = ap barriers_of (travelled_is es) ∙ barriers_are es
-
-pub end_put : (es : List SendEntry) → has_end (parcels_put es) ≡ is_finished es
-end_put [] = refl
-end_put (Put bytes ∷ es) = end_put es
-end_put (PutInline k ∷ es) = end_put es
-end_put (Finish ∷ es) = refl
-end_put (Take ∷ es) = end_put es
-end_put (Size n ∷ es) = end_put es
+barriers_travel_in_order es = ap barriers_of (travelled_is es)
 
 pub end_travels : EndTravels
-end_travels es = ap has_end (travelled_is es) ∙ end_put es
+end_travels es = ap has_end (travelled_is es)
 
 pub parcels_put-append : (xs ys : List SendEntry) → parcels_put (xs ++ ys) ≡ parcels_put xs ++ parcels_put ys
 parcels_put-append [] ys = refl
@@ -90,6 +52,15 @@ parcels_put-append (PutInline k ∷ xs) ys = ap (λ z. Barrier k Inline ∷ z) (
 parcels_put-append (Finish ∷ xs) ys = ap (λ z. End ∷ z) (parcels_put-append xs ys)
 parcels_put-append (Take ∷ xs) ys = parcels_put-append xs ys
 parcels_put-append (Size n ∷ xs) ys = parcels_put-append xs ys
+
+pub put-append : (xs ys : List SendEntry) → put (xs ++ ys) ≡ put xs ++ put ys
+put-append xs ys = ap data_of (parcels_put-append xs ys) ∙ data_of-append (parcels_put xs) (parcels_put ys)
+
+pub barriers_put-append : (xs ys : List SendEntry) → barriers_put (xs ++ ys) ≡ barriers_put xs ++ barriers_put ys
+barriers_put-append xs ys = ap barriers_of (parcels_put-append xs ys) ∙ barriers_of-append (parcels_put xs) (parcels_put ys)
+
+pub is_finished-append : (xs ys : List SendEntry) → is_finished (xs ++ ys) ≡ cond (is_finished xs) true (is_finished ys)
+is_finished-append xs ys = ap has_end (parcels_put-append xs ys) ∙ has_end-append (parcels_put xs) (parcels_put ys)
 
 pub sent_from-append : (o : Outbox) (xs ys : List SendEntry) → sent_from o (xs ++ ys) ≡ sent_from (sent_from o xs) ys
 sent_from-append o [] ys = refl

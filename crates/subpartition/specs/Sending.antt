@@ -7,6 +7,7 @@ use Rattle.flow_defs.specs.declared.task.BarrierKind.TheVariants.{Inline}
 use Rattle.flow_defs.specs.declared.parcel.Parcel.{Parcel}
 use Rattle.flow_defs.specs.declared.parcel.Parcel.TheVariants.{Data, Barrier, End}
 use Rattle.flow_defs.specs.Limits.{segment_min}
+use Rattle.flow_defs.specs.Parcels.{data_of, barriers_of, has_end}
 use Rattle.subpartition.specs.declared.entry.SendEntry.{SendEntry}
 use Rattle.subpartition.specs.declared.entry.SendEntry.TheVariants.{Put, PutInline, Finish, Take, Size}
 use Rattle.turn_cell.specs.History.{entries_of}
@@ -46,32 +47,26 @@ taken es = (outbox es).taken
 abbrev pub travelled : List SendEntry → List Parcel
 travelled es = (outbox es).taken ++ (outbox es).items
 
+-- What was put, in the order in which it was put.
+abbrev pub parcels_put : List SendEntry → List Parcel
+parcels_put [] = []
+parcels_put (Put bytes ∷ es) = Data bytes ∷ parcels_put es
+parcels_put (PutInline k ∷ es) = Barrier k Inline ∷ parcels_put es
+parcels_put (Finish ∷ es) = End ∷ parcels_put es
+parcels_put (Take ∷ es) = parcels_put es
+parcels_put (Size n ∷ es) = parcels_put es
+
 -- The bytes that were put.
 abbrev pub put : List SendEntry → List ℕ
-put [] = []
-put (Put bytes ∷ es) = bytes ++ put es
-put (PutInline k ∷ es) = put es
-put (Finish ∷ es) = put es
-put (Take ∷ es) = put es
-put (Size n ∷ es) = put es
+put es = data_of (parcels_put es)
 
 -- The barriers that were put.
 abbrev pub barriers_put : List SendEntry → List (ℕ × BarrierKind)
-barriers_put [] = []
-barriers_put (Put bytes ∷ es) = barriers_put es
-barriers_put (PutInline k ∷ es) = (k, Inline) ∷ barriers_put es
-barriers_put (Finish ∷ es) = barriers_put es
-barriers_put (Take ∷ es) = barriers_put es
-barriers_put (Size n ∷ es) = barriers_put es
+barriers_put es = barriers_of (parcels_put es)
 
 -- Whether the end was put.
 abbrev pub is_finished : List SendEntry → Bool
-is_finished [] = false
-is_finished (Put bytes ∷ es) = is_finished es
-is_finished (PutInline k ∷ es) = is_finished es
-is_finished (Finish ∷ es) = true
-is_finished (Take ∷ es) = is_finished es
-is_finished (Size n ∷ es) = is_finished es
+is_finished es = has_end (parcels_put es)
 
 -- Up to how many bytes buffers are filled: what was told last, and before that the first number.
 abbrev pub filled_to : ℕ → List SendEntry → ℕ

@@ -7,7 +7,7 @@ use Rattle.subpartition.specs.Queues.{Queue, parcel_of, HasLength}
 
 -- Every entry was allowed, and the queue is what the entries have made of an empty one. Its segments have the size that is told of them.
 -- So it is known of each entry of a closed cell that it was allowed.
-pub record StandsFor (queue : Queue) (history : List (ℕ × SendEntry)) : Type 0 where
+pub record QueueStandsFor (queue : Queue) (history : List (ℕ × SendEntry)) : Type 0 where
   pub legal : IsHistory (MaySendAs queue.size) history
   pub items : map parcel_of queue.items ≡ (outbox (entries_of history)).items
   pub barriers : queue.barriers ≡ length (barriers_put (entries_of history))

@@ -13,7 +13,7 @@ use Rattle.turn_cell.specs.History.{IsHistory, entries_of}
 use Rattle.std.specs.List.{range_with_len}
 use Rattle.subpartition.specs.Sending.{outbox, taken, travelled, put, barriers_put, is_finished, MaySend, MaySendAs, numbers_of}
 use Rattle.subpartition.specs.Queues.{Queue, bytes_of, last_bytes, parcel_of, empty_queue, with_buffer, with_barrier, with_end, without_first, filling_to}
-use Rattle.subpartition.specs.Standing.{StandsFor}
+use Rattle.subpartition.specs.Standing.{QueueStandsFor}
 
 -- Of every history whatever.
 
@@ -70,27 +70,27 @@ TakenStays = (size : ℕ) (before now : List (ℕ × SendEntry)) → IsHistory (
 
 -- A new queue stands for the empty history.
 abbrev pub NewStandsForNone : Type 0
-NewStandsForNone = (size room : ℕ) → StandsFor (empty_queue size room) []
+NewStandsForNone = (size room : ℕ) → QueueStandsFor (empty_queue size room) []
 
 -- Each call adds its entry, where its pass may make it.
 abbrev pub PutAdds : Type 0
-PutAdds = (queue : Queue) (history : List (ℕ × SendEntry)) (number : ℕ) (filled : Filled) → StandsFor queue history → number ≡ 0 → queue.finished ≡ false → length filled.segment ≡ queue.size → StandsFor (with_buffer queue filled) (history ++ (number, Put (bytes_of filled)) ∷ [])
+PutAdds = (queue : Queue) (history : List (ℕ × SendEntry)) (number : ℕ) (filled : Filled) → QueueStandsFor queue history → number ≡ 0 → queue.finished ≡ false → length filled.segment ≡ queue.size → QueueStandsFor (with_buffer queue filled) (history ++ (number, Put (bytes_of filled)) ∷ [])
 
 abbrev pub PutInlineAdds : Type 0
-PutInlineAdds = (queue : Queue) (history : List (ℕ × SendEntry)) (number k : ℕ) → StandsFor queue history → number ≡ 0 → queue.finished ≡ false → k ≡ suc queue.barriers → StandsFor (with_barrier queue k) (history ++ (number, PutInline k) ∷ [])
+PutInlineAdds = (queue : Queue) (history : List (ℕ × SendEntry)) (number k : ℕ) → QueueStandsFor queue history → number ≡ 0 → queue.finished ≡ false → k ≡ suc queue.barriers → QueueStandsFor (with_barrier queue k) (history ++ (number, PutInline k) ∷ [])
 
 abbrev pub FinishAdds : Type 0
-FinishAdds = (queue : Queue) (history : List (ℕ × SendEntry)) (number : ℕ) → StandsFor queue history → number ≡ 0 → queue.finished ≡ false → StandsFor (with_end queue) (history ++ (number, Finish) ∷ [])
+FinishAdds = (queue : Queue) (history : List (ℕ × SendEntry)) (number : ℕ) → QueueStandsFor queue history → number ≡ 0 → queue.finished ≡ false → QueueStandsFor (with_end queue) (history ++ (number, Finish) ∷ [])
 
 abbrev pub TakeAdds : Type 0
-TakeAdds = (queue : Queue) (history : List (ℕ × SendEntry)) (number : ℕ) → StandsFor queue history → number ≡ 1 → StandsFor (without_first queue) (history ++ (number, Take) ∷ [])
+TakeAdds = (queue : Queue) (history : List (ℕ × SendEntry)) (number : ℕ) → QueueStandsFor queue history → number ≡ 1 → QueueStandsFor (without_first queue) (history ++ (number, Take) ∷ [])
 
 abbrev pub SizeAdds : Type 0
-SizeAdds = (queue : Queue) (history : List (ℕ × SendEntry)) (number n : ℕ) → StandsFor queue history → number ≡ 2 → segment_min ≤ n → n ≤ queue.size → StandsFor (filling_to queue n) (history ++ (number, Size n) ∷ [])
+SizeAdds = (queue : Queue) (history : List (ℕ × SendEntry)) (number n : ℕ) → QueueStandsFor queue history → number ≡ 2 → segment_min ≤ n → n ≤ queue.size → QueueStandsFor (filling_to queue n) (history ++ (number, Size n) ∷ [])
 
 -- What a take gives is what was taken next.
 abbrev pub TakeTells : Type 0
-TakeTells = (queue : Queue) (history : List (ℕ × SendEntry)) (number : ℕ) (item : Option Item) → StandsFor queue history → item ≡ slice_get queue.items 0 →
+TakeTells = (queue : Queue) (history : List (ℕ × SendEntry)) (number : ℕ) (item : Option Item) → QueueStandsFor queue history → item ≡ slice_get queue.items 0 →
     taken (entries_of (history ++ (number, Take) ∷ [])) ≡ taken (entries_of history) ++ map parcel_of (option_to_list item)
 
 -- A buffer that was put is the last item, so its bytes can be read off the queue at the end of the turn.
@@ -103,4 +103,4 @@ pub record QueueIsTold (queue : Queue) (own : List SendEntry) : Type 0 where
   pub finished : queue.finished ≡ is_finished own
 
 abbrev pub TaskTellsQueue : Type 0
-TaskTellsQueue = (queue : Queue) (history : List (ℕ × SendEntry)) → StandsFor queue history → QueueIsTold queue (by 0 history)
+TaskTellsQueue = (queue : Queue) (history : List (ℕ × SendEntry)) → QueueStandsFor queue history → QueueIsTold queue (by 0 history)

@@ -6,13 +6,13 @@ use std::marker::Brand;
 use turn_cell::{Named, Turned};
 
 impl Turned for Subpartition {
-    ghost use Rattle.subpartition.specs.Standing.{StandsFor};
+    ghost use Rattle.subpartition.specs.Standing.{QueueStandsFor};
 
     type Entry = SendEntry;
 
     type Fixed = u32;
 
-    ghost stands = { λ subpartition history. StandsFor subpartition history };
+    ghost stands = { λ subpartition history. QueueStandsFor subpartition history };
 
     ghost fixed = { λ subpartition. subpartition.size };
 }

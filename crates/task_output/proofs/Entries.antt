@@ -9,38 +9,12 @@ use Rattle.checkpoint_laws.specs.Puts.{onto_first, stretches}
 use Rattle.checkpoint_laws.specs.Growing.{DataGrowStretch}
 use Rattle.subpartition.specs.declared.entry.SendEntry.{SendEntry}
 use Rattle.subpartition.specs.declared.entry.SendEntry.TheVariants.{Put, PutInline, Finish, Take, Size}
-use Rattle.subpartition.specs.Sending.{put, barriers_put}
-use Rattle.task_output.specs.Outputs.{parcels_put}
+use Rattle.subpartition.specs.Sending.{parcels_put, put, barriers_put}
+use Rattle.subpartition.proofs.Travelling.{parcels_put-append, put-append, barriers_put-append}
 
 -- all bytes of some buffers
 abbrev pub joined : List (List ℕ) → List ℕ
 joined buffers = flat_map (λ (bytes : List ℕ). bytes) buffers
-
--- ---- one list of entries behind another
-
-put_together : (xs ys : List SendEntry) → parcels_put (xs ++ ys) ≡ parcels_put xs ++ parcels_put ys
-put_together [] ys = refl
-put_together (Put bytes ∷ es) ys = ap (λ ps. Data bytes ∷ ps) (put_together es ys)
-put_together (PutInline k ∷ es) ys = ap (λ ps. Barrier k Inline ∷ ps) (put_together es ys)
-put_together (Finish ∷ es) ys = ap (λ ps. End ∷ ps) (put_together es ys)
-put_together (Take ∷ es) ys = put_together es ys
-put_together (Size n ∷ es) ys = put_together es ys
-
-bytes_together : (xs ys : List SendEntry) → put (xs ++ ys) ≡ put xs ++ put ys
-bytes_together [] ys = refl
-bytes_together (Put bytes ∷ es) ys = ap (λ l. bytes ++ l) (bytes_together es ys) ∙ sym (append_assoc bytes (put es) (put ys))
-bytes_together (PutInline k ∷ es) ys = bytes_together es ys
-bytes_together (Finish ∷ es) ys = bytes_together es ys
-bytes_together (Take ∷ es) ys = bytes_together es ys
-bytes_together (Size n ∷ es) ys = bytes_together es ys
-
-barriers_together : (xs ys : List SendEntry) → barriers_put (xs ++ ys) ≡ barriers_put xs ++ barriers_put ys
-barriers_together [] ys = refl
-barriers_together (Put bytes ∷ es) ys = barriers_together es ys
-barriers_together (PutInline k ∷ es) ys = ap (λ (l : List (ℕ × BarrierKind)). (k, Inline) ∷ l) (barriers_together es ys)
-barriers_together (Finish ∷ es) ys = barriers_together es ys
-barriers_together (Take ∷ es) ys = barriers_together es ys
-barriers_together (Size n ∷ es) ys = barriers_together es ys
 
 -- ---- buffers
 
@@ -59,26 +33,26 @@ no_barriers (b ∷ buffers) = no_barriers buffers
 -- Behind these entries come these buffers, and then an entry that puts no data.
 module _ (own : List SendEntry) (buffers : List (List ℕ)) where
   pub bytes_more : put (own ++ map Put buffers) ≡ put own ++ joined buffers
-  bytes_more = bytes_together own (map Put buffers) ∙ ap (λ l. put own ++ l) (put_bytes buffers)
+  bytes_more = put-append own (map Put buffers) ∙ ap (λ l. put own ++ l) (put_bytes buffers)
 
   pub barriers_same : barriers_put (own ++ map Put buffers) ≡ barriers_put own
-  barriers_same = barriers_together own (map Put buffers) ∙ ap (λ l. barriers_put own ++ l) (no_barriers buffers) ∙ append-nil (barriers_put own)
+  barriers_same = barriers_put-append own (map Put buffers) ∙ ap (λ l. barriers_put own ++ l) (no_barriers buffers) ∙ append-nil (barriers_put own)
 
   pub bytes_up_to : (last : SendEntry) → put (last ∷ []) ≡ [] → put (own ++ map Put buffers ++ last ∷ []) ≡ put own ++ joined buffers
   bytes_up_to last none =
-      bytes_together (own ++ map Put buffers) (last ∷ []) ∙ ap (λ l. put (own ++ map Put buffers) ++ l) none
+      put-append (own ++ map Put buffers) (last ∷ []) ∙ ap (λ l. put (own ++ map Put buffers) ++ l) none
       ∙ append-nil (put (own ++ map Put buffers)) ∙ bytes_more
 
   pub barriers_one : (k : ℕ) → barriers_put (own ++ map Put buffers ++ PutInline k ∷ []) ≡ barriers_put own ++ (k, Inline) ∷ []
   barriers_one k =
-      barriers_together (own ++ map Put buffers) (PutInline k ∷ [])
+      barriers_put-append (own ++ map Put buffers) (PutInline k ∷ [])
       ∙ ap (λ (l : List (ℕ × BarrierKind)). l ++ (k, Inline) ∷ []) barriers_same
 
   parcels_more : parcels_put (own ++ map Put buffers) ≡ parcels_put own ++ map Data buffers
-  parcels_more = put_together own (map Put buffers) ∙ ap (λ ps. parcels_put own ++ ps) (put_data buffers)
+  parcels_more = parcels_put-append own (map Put buffers) ∙ ap (λ ps. parcels_put own ++ ps) (put_data buffers)
 
   pub parcels_up_to : (last : SendEntry) → parcels_put (own ++ map Put buffers ++ last ∷ []) ≡ parcels_put (own ++ map Put buffers) ++ parcels_put (last ∷ [])
-  parcels_up_to last = put_together (own ++ map Put buffers) (last ∷ [])
+  parcels_up_to last = parcels_put-append (own ++ map Put buffers) (last ∷ [])
 
 -- ---- stretches
 

@@ -10,9 +10,9 @@ use Rattle.checkpoint_laws.specs.Puts.{stretches}
 use Rattle.checkpoint_laws.specs.Growing.{DataGrowStretch, BarrierBeginsStretch, EndAddsNothing}
 use Rattle.subpartition.specs.declared.entry.SendEntry.{SendEntry}
 use Rattle.subpartition.specs.declared.entry.SendEntry.TheVariants.{Put, PutInline, Finish}
-use Rattle.subpartition.specs.Sending.{put}
+use Rattle.subpartition.specs.Sending.{parcels_put, put}
 use Rattle.record_writer.specs.Writers.{PutSome, PutAll, GrewByData, GrewUpTo, GrewTowards}
-use Rattle.task_output.specs.Outputs.{parcels_put, brought, all_of, count_behind, SentOn, BegunOn, FinishedOn}
+use Rattle.task_output.specs.Outputs.{brought, all_of, count_behind, SentOn, BegunOn, FinishedOn}
 use Rattle.task_output.proofs.Entries.{joined, bytes_more, bytes_up_to, parcels_up_to, cut_more, put_joined}
 
 -- What the laws below say.

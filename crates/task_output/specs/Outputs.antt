@@ -9,27 +9,16 @@ use Rattle.flow_defs.specs.declared.job.Exchange.{Exchange}
 use Rattle.flow_defs.specs.declared.job.Exchange.TheVariants.{Hash, Rebalance, Forward}
 use Rattle.flow_defs.specs.declared.job.Job.{Job}
 use Rattle.flow_defs.specs.declared.parcel.Parcel.{Parcel}
-use Rattle.flow_defs.specs.declared.parcel.Parcel.TheVariants.{Data, Barrier, End}
-use Rattle.flow_defs.specs.declared.task.BarrierKind.TheVariants.{Inline}
 use Rattle.flow_defs.specs.Jobs.{exchange}
 use Rattle.flow_defs.specs.Records.{all_encoded}
 use Rattle.plain_machine.specs.Emitting.{receiver_on, emit, count_after}
 use Rattle.checkpoint_laws.specs.Puts.{stretches}
 use Rattle.subpartition.specs.declared.entry.SendEntry.{SendEntry}
-use Rattle.subpartition.specs.declared.entry.SendEntry.TheVariants.{Put, PutInline, Finish, Take, Size}
+use Rattle.subpartition.specs.Sending.{parcels_put}
 use Rattle.conn_parts.specs.Shares.{mine_at}
 use Rattle.record_writer.specs.Writers.{Writer, SendPass, IsOpen, IsNextBarrier, PutSome, PutAll, ways_on, receiver_at, own_at}
 
 -- ---- what is put on a channel
-
--- What these entries put, in the order in which it was put.
-abbrev pub parcels_put : List SendEntry → List Parcel
-parcels_put [] = []
-parcels_put (Put bytes ∷ es) = Data bytes ∷ parcels_put es
-parcels_put (PutInline k ∷ es) = Barrier k Inline ∷ parcels_put es
-parcels_put (Finish ∷ es) = End ∷ parcels_put es
-parcels_put (Take ∷ es) = parcels_put es
-parcels_put (Size n ∷ es) = parcels_put es
 
 -- What these groups of records bring to a task, group by group, where the first record is emitted from the count n on.
 abbrev pub brought : (ℕ → List ℕ → ℕ) → ℕ → List (List (List ℕ)) → ℕ → List (List ℕ)

@@ -13,7 +13,7 @@ use Rattle.flow_defs.specs.Jobs.{IsJob, last_edge, tasks, exchange, is_channel}
 use Rattle.flow_defs.specs.Records.{IsShort}
 use Rattle.plain_machine.specs.Histories.{run_senders}
 use Rattle.plain_machine.specs.Images.{AreRuns}
-use Rattle.checkpoint_laws.specs.Chapters.{Takes}
+use Rattle.checkpoint_laws.specs.Chapters.{RunsTake}
 use Rattle.checkpoint_laws.specs.Growing.{OneIsTaken}
 use Rattle.barriers.specs.Alignments.{Alignment, barrier, gave_with, is_open}
 use Rattle.record_writer.specs.Writers.{ways_into}
@@ -80,7 +80,7 @@ module _ (job : Job) (e b : ℕ) (before after : Account) (t t' : Taking) (group
     closed = ap (λ (a : Alignment). a.closed) aligned ∙ was.closed;
     each = λ c inside. told c ∙ was.each c inside ∙ ap (λ (a : Alignment). told_of (start c) 1 groups took ++ stop_if (get_or a.gave c false) next) (sym aligned);
     resumed = λ c inside. resumed c ∙ was.resumed c inside;
-    takes = subst (λ (runs : List TakeRun). Takes job e b runs took) (sym runs) was.takes;
+    takes = subst (λ (runs : List TakeRun). RunsTake job e b runs took) (sym runs) was.takes;
   }
 
   module _ (c : ℕ) (inside : c < ways_into job e) (free : get_or t.alignment.gave c false ≡ false) where
@@ -141,7 +141,7 @@ module _ (job : Job) (e b : ℕ) (before after : Account) (t t' : Taking) (group
             (stop_here ∙ ap (λ g. told_of (start c) 1 groups took ++ stop_if g next) (sym (ap (λ gs. get_or gs c false) now ∙ get_or-set_same t.alignment.gave c true false (subst (λ n. c < n) (sym was.takes_for.width) gave.within)))))
             (λ other. gave.told_elsewhere d other ∙ was.each d low ∙ ap (λ g. told_of (start d) 1 groups took ++ stop_if g next) (sym (ap (λ gs. get_or gs d false) now ∙ get_or-set_other t.alignment.gave c d true false other)));
         resumed = λ d low. gave.resumed d ∙ was.resumed d low;
-        takes = subst (λ (runs : List TakeRun). Takes job e b runs took) (sym runs) was.takes;
+        takes = subst (λ (runs : List TakeRun). RunsTake job e b runs took) (sym runs) was.takes;
       }
 
       -- it is the last one of its checkpoint
@@ -153,7 +153,7 @@ module _ (job : Job) (e b : ℕ) (before after : Account) (t t' : Taking) (group
             (λ here. subst (λ x. after.told x ≡ told_of (start x) 1 (groups ++ took ∷ []) []) (sym here) (stop_here ∙ sym (told-closed (start c) groups took)))
             (λ other. gave.told_elsewhere d other ∙ was.each d low ∙ ap (λ g. told_of (start d) 1 groups took ++ stop_if g next) (had d low other) ∙ sym (told-closed (start d) groups took));
         resumed = λ d low. gave.resumed d ∙ was.resumed d low;
-        takes = subst (λ (runs : List TakeRun). Takes job e b runs took) (sym runs) was.takes;
+        takes = subst (λ (runs : List TakeRun). RunsTake job e b runs took) (sym runs) was.takes;
       }
 
 -- ---- at a resumption
@@ -169,7 +169,7 @@ taken_resumed job e b before after t t' groups took channels same aligned runs r
           resumed.told c ∙ was.each c inside ∙ sym (append-nil (told_of (start_of job e b c) 1 (groups ++ took ∷ []) []))
           ∙ ap (λ g. told_of (start_of job e b c) 1 (groups ++ took ∷ []) [] ++ stop_if g (suc (length (groups ++ took ∷ [])))) (sym (ap (λ (a : Alignment). get_or a.gave c false) aligned ∙ none_at t.alignment.gave c closed));
       resumed = λ c inside. resumed.resumed c (subst (λ n. c < n) (sym was.takes_for.channels) inside) ∙ ap suc (was.resumed c inside) ∙ many;
-      takes = subst (λ (runs : List TakeRun). Takes job e b runs []) (sym runs) (record { senders_are = refl; are_runs = tt; short = tt });
+      takes = subst (λ (runs : List TakeRun). RunsTake job e b runs []) (sym runs) (record { senders_are = refl; are_runs = tt; short = tt });
     }
 
 -- ---- causes

@@ -45,11 +45,11 @@ IsTakerCause gate other = ⊥
 
 -- Behind a record and an end it takes on. Behind the barriers of a checkpoint, which is the one after those closed, its channels are
 -- blocked.
-abbrev pub GoesOn : Account → Taking → Taking → Result Taken Cause → Type 0
-GoesOn gate t t' (Ok (taken.Line line)) = IsInStep gate t' × (t'.alignment.closed ≡ t.alignment.closed)
-GoesOn gate t t' (Ok (taken.Checkpoint k)) = AllBlocked gate t' × (t'.alignment.closed ≡ k) × (k ≡ suc t.alignment.closed)
-GoesOn gate t t' (Ok taken.AllEnded) = IsInStep gate t' × (t'.alignment.closed ≡ t.alignment.closed)
-GoesOn gate t t' (Err cause) = ⊤
+abbrev pub TakingGoesOn : Account → Taking → Taking → Result Taken Cause → Type 0
+TakingGoesOn gate t t' (Ok (taken.Line line)) = IsInStep gate t' × (t'.alignment.closed ≡ t.alignment.closed)
+TakingGoesOn gate t t' (Ok (taken.Checkpoint k)) = AllBlocked gate t' × (t'.alignment.closed ≡ k) × (k ≡ suc t.alignment.closed)
+TakingGoesOn gate t t' (Ok taken.AllEnded) = IsInStep gate t' × (t'.alignment.closed ≡ t.alignment.closed)
+TakingGoesOn gate t t' (Err cause) = ⊤
 
 -- To what it had taken it took this record, or came to these barriers, or took nothing: all channels had ended, or it has a cause to end.
 abbrev pub TookNext : Job → ℕ → ℕ → Account → Taking → List (List (ℕ × List ℕ)) → List (ℕ × List ℕ) → Result Taken Cause → Type 0
@@ -60,9 +60,9 @@ TookNext job e b gate t groups took (Err cause) = HasTaken job e b gate t groups
 
 -- The same of one item of the gate, of which there may be nothing to tell.
 abbrev pub GoesOnFrom : Account → Taking → Taking → Result (Option Taken) Cause → Type 0
-GoesOnFrom gate t t' (Ok (Some item)) = GoesOn gate t t' (Ok item)
+GoesOnFrom gate t t' (Ok (Some item)) = TakingGoesOn gate t t' (Ok item)
 GoesOnFrom gate t t' (Ok None) = IsInStep gate t' × (t'.alignment.closed ≡ t.alignment.closed)
-GoesOnFrom gate t t' (Err cause) = GoesOn gate t t' (Err cause)
+GoesOnFrom gate t t' (Err cause) = TakingGoesOn gate t t' (Err cause)
 
 abbrev pub TookItem : Job → ℕ → ℕ → Account → Taking → List (List (ℕ × List ℕ)) → List (ℕ × List ℕ) → Result (Option Taken) Cause → Type 0
 TookItem job e b gate t groups took (Ok (Some item)) = TookNext job e b gate t groups took (Ok item)

@@ -8,7 +8,7 @@ use Rattle.flow_defs.specs.declared.job.Job.{Job}
 use Rattle.flow_defs.specs.Jobs.{IsJob, last_edge, tasks, exchange}
 use Rattle.plain_machine.specs.Histories.{of_sender}
 use Rattle.barriers.specs.Alignments.{Alignment, unaligned, is_open, given_by}
-use Rattle.checkpoint_laws.specs.Chapters.{Takes}
+use Rattle.checkpoint_laws.specs.Chapters.{RunsTake}
 use Rattle.record_writer.specs.Writers.{ways_into, sender_at}
 use Rattle.input_gate.specs.Gates.{Account, Told, stops_in}
 use Rattle.input_gate.specs.Gates.Told.{Line, Stop}
@@ -106,7 +106,7 @@ pub record HasTaken (job : Job) (e b : ℕ) (gate : Account) (t : Taking) (group
   pub closed : t.alignment.closed ≡ length groups
   pub each : (c : ℕ) → c < ways_into job e → gate.told c ≡ told_of (start_of job e b c) 1 groups took ++ stop_if (gave_at t c) (suc (length groups))
   pub resumed : (c : ℕ) → c < ways_into job e → gate.resumed c ≡ length groups
-  pub takes : Takes job e b t.runs took
+  pub takes : RunsTake job e b t.runs took
 
 -- Behind these records all channels have given the barrier of the next checkpoint, and wait behind it.
 pub record IsAtBarrier (job : Job) (e b : ℕ) (gate : Account) (t : Taking) (groups : List (List (ℕ × List ℕ))) (took : List (ℕ × List ℕ)) : Type 0 where
@@ -114,4 +114,4 @@ pub record IsAtBarrier (job : Job) (e b : ℕ) (gate : Account) (t : Taking) (gr
   pub closed : t.alignment.closed ≡ suc (length groups)
   pub each : (c : ℕ) → c < ways_into job e → gate.told c ≡ told_of (start_of job e b c) 1 (groups ++ took ∷ []) []
   pub resumed : (c : ℕ) → c < ways_into job e → gate.resumed c ≡ length groups
-  pub takes : Takes job e b t.runs took
+  pub takes : RunsTake job e b t.runs took

@@ -4,11 +4,11 @@
 ghost use Rattle.std.specs.Prelude.{◌≡◌, ◌++◌, [], ◌∷◌, ◌<◌, ◌≤◌, ℕ, List, suc, Err, IfOk};
 ghost use Rattle.flow_defs.specs.declared.job.Job.{Job};
 ghost use Rattle.flow_defs.specs.Jobs.{IsJob, last_edge, tasks};
-ghost use Rattle.checkpoint_laws.specs.Chapters.{Takes};
+ghost use Rattle.checkpoint_laws.specs.Chapters.{RunsTake};
 ghost use Rattle.record_writer.specs.Writers.{ways_into};
 ghost use Rattle.input_gate.specs.Gates.{Account, IsNew};
 ghost use Rattle.task_taking.specs.Takings.{AllBlocked, HasTaken, IsAtBarrier, IsInStep, IsSame, untaken};
-ghost use Rattle.task_taking.specs.Steps.{GoesOn, GoesOnFrom, TookItem, TookNext, cause_of};
+ghost use Rattle.task_taking.specs.Steps.{TakingGoesOn, GoesOnFrom, TookItem, TookNext, cause_of};
 
 use crate::places::{exchange_of, sender_of, ways_of};
 use crate::resuming::resume_each;
@@ -83,7 +83,7 @@ impl TaskTaking {
         requires { IsInStep (G.account gate.old) self.old }
         ensures gate { (G.ends gate.new ≡ G.ends gate.old) × ((G.account gate.new).channels ≡ (G.account gate.old).channels) }
         ensures same { IsSame self.old self.new }
-        ensures goes_on { GoesOn (G.account gate.new) self.old self.new result }
+        ensures goes_on { TakingGoesOn (G.account gate.new) self.old self.new result }
         ensures took { (job : Job) (e b : ℕ) (groups : List (List (ℕ × List ℕ))) (took : List (ℕ × List ℕ)) → HasTaken job e b (G.account gate.old) self.old groups took →
             TookNext job e b (G.account gate.new) self.new groups took result }
         ensures stopped { result ≡ Err Cause.Stopped → G.saw_stop gate.new }
@@ -143,7 +143,7 @@ impl TaskTaking {
         ensures runs { (result.items ≡ self.old.runs) × (self.new.runs ≡ []) }
         ensures goes_on { IsInStep (G.account gate.new) self.new }
         ensures taken { (job : Job) (e b : ℕ) (groups : List (List (ℕ × List ℕ))) (took : List (ℕ × List ℕ)) → IsAtBarrier job e b (G.account gate.old) self.old groups took →
-            Takes job e b result.items took × HasTaken job e b (G.account gate.new) self.new (groups ++ took ∷ []) [] }
+            RunsTake job e b result.items took × HasTaken job e b (G.account gate.new) self.new (groups ++ took ∷ []) [] }
     {
         chapters_grow();
         resume_each(rt, gate, self.channels);

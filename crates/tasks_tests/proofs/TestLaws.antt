@@ -4,7 +4,7 @@ use Rattle.std.specs.Prelude.{slice_get, All}
 use Rattle.turn_cell.specs.History.{entries_of}
 use Rattle.input_channel.specs.declared.entry.ReceiveEntry.{ReceiveEntry}
 use Rattle.input_channel.specs.Legal.{may_receive}
-use Rattle.input_channel.specs.States.{ChannelState, StandsFor, Allows, after}
+use Rattle.input_channel.specs.States.{ChannelState, ChannelStandsFor, Allows, channel_next}
 use Rattle.input_channel.specs.Theorems.{CallsAreLegal, CallsAddEntries}
 use Rattle.std.proofs.lemmas.List.Elements.{All-from_recursion}
 use mathlib.Core.Logic.{dite}
@@ -75,11 +75,11 @@ stopped_still g h hold c (Err end) stopped gave = ap stops_in (gave.0.told c) �
 
 -- The channel after a call of the reader of frames.
 pub stands_after : (legal : CallsAreLegal) (adds : CallsAddEntries) (found old new : ChannelState) (history : List (ℕ × ReceiveEntry)) (n k : ℕ) (e : ReceiveEntry) →
-    StandsFor found history → old ≡ found → n ≡ k → may_receive k e ≡ true → Allows old (entries_of history) e → new ≡ after old e → StandsFor new (history ++ (n, e) ∷ [])
+    ChannelStandsFor found history → old ≡ found → n ≡ k → may_receive k e ≡ true → Allows old (entries_of history) e → new ≡ channel_next old e → ChannelStandsFor new (history ++ (n, e) ∷ [])
 stands_after legal adds found old new history n k e stands is number_is may allows made =
-    let s = subst (λ c. StandsFor c history) (sym is) stands in
-    subst (λ m. StandsFor new (history ++ (m, e) ∷ [])) (sym number_is)
-    (subst (λ c. StandsFor c (history ++ (k, e) ∷ [])) (sym made) (adds old history k e s (may, legal old history e s allows)))
+    let s = subst (λ c. ChannelStandsFor c history) (sym is) stands in
+    subst (λ m. ChannelStandsFor new (history ++ (m, e) ∷ [])) (sym number_is)
+    (subst (λ c. ChannelStandsFor c (history ++ (k, e) ∷ [])) (sym made) (adds old history k e s (may, legal old history e s allows)))
 
 pub stopped_by : (g h : Account) (hold : Bool) (item : GateItem) (c k : ℕ) (kind : BarrierKind) → item ≡ items.Barrier c k kind → kind ≡ Inline → Gave g h hold (Ok item) → stops_in (h.told c) ≡ suc (h.resumed c)
 stopped_by g h hold item c k kind is inline gave =

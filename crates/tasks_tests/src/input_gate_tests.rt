@@ -8,7 +8,7 @@ ghost use Rattle.segment_pool.specs.Pools.{limits_of, size_of};
 ghost use Rattle.local_pool.specs.Helds.{pool_of};
 ghost use Rattle.input_channel.specs.declared.entry.ReceiveEntry.TheVariants as entries;
 ghost use Rattle.input_channel.specs.Answers.{parcel_in};
-ghost use Rattle.input_channel.specs.States.{StandsFor};
+ghost use Rattle.input_channel.specs.States.{ChannelStandsFor};
 ghost use Rattle.outside.specs.Stops.{is_fault};
 ghost use Rattle.input_gate.specs.Gates.{stops_in};
 ghost use Rattle.input_gate.specs.States.{account_in};
@@ -194,7 +194,7 @@ fn open_stop<R: Abort>(
 fn leave_push<E: Named<ReceiveEntry>>(turn: Turn<InputChannel>, a: Arrival, bytes: &[u8])
     requires entry { E.entry ≡ entries.Push (parcel_in a.what bytes.now) a.backlog }
     requires turn { IsTurnOf turn.cell.now turn.pass.now }
-    requires state { StandsFor turn.state (seen turn.pass.now ++ (number turn.pass.now, entries.Push (parcel_in a.what bytes.now) a.backlog) ∷ []) }
+    requires state { ChannelStandsFor turn.state (seen turn.pass.now ++ (number turn.pass.now, entries.Push (parcel_in a.what bytes.now) a.backlog) ∷ []) }
     requires size { turn.state.size ≡ (opened_with turn.cell.now).size }
     ensures pass { IsPassOf turn.entry.cell.now turn.exit.1.0.now }
     ensures entered { HasEntered (entries.Push (parcel_in a.what bytes.now) a.backlog) turn.entry.pass.now turn.exit.1.0.now }

@@ -1,5 +1,5 @@
 use Rattle.std.proofs.Common.{◌≡◌}
-use Rattle.aggregate_task.specs.Acknowledging.{IsAcking, IsSame, IsUnderWay}
+use Rattle.aggregate_task.specs.Acknowledging.{IsAcking, IsSame, IsCountUnderWay}
 use Rattle.aggregate_task.proofs.counting.count_all.Given as goal
 
 -- it has counted what it took so far
@@ -8,5 +8,5 @@ invariant-loop-item g l = record {
   gate : (g.G.Gate.ends l.gate ≡ g.G.Gate.ends l.initial.gate) × ((g.G.Gate.account l.gate).channels ≡ (g.G.Gate.account l.initial.gate).channels);
   own : IsAcking l.acks;
   same : IsSame l.initial.acks l.acks;
-  way : IsUnderWay (g.G.Gate.account l.gate) l.taking l.counts l.acks l.last;
+  way : IsCountUnderWay (g.G.Gate.account l.gate) l.taking l.counts l.acks l.last;
 }

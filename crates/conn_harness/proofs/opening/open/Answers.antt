@@ -6,7 +6,7 @@ use Rattle.turn_cell.specs.Passes.{opened_with}
 use Rattle.input_channel.specs.States.{ChannelState}
 use Rattle.input_channel.specs.declared.entry.ReceiveEntry.{ReceiveEntry}
 use Rattle.conn_parts.specs.Shares.{HavePoolSize}
-use Rattle.conn_harness.specs.Groups.{IsReady}
+use Rattle.conn_harness.specs.Groups.{IsPassReady}
 use Rattle.conn_harness.proofs.IdLaws.{ids_apart, ids_many, senders_within, receiver_within}
 use Rattle.conn_harness.proofs.TaskLaws.{new_tasks, of_front, of_last}
 use Rattle.conn_harness.proofs.opening.open.Goals as goal
@@ -15,10 +15,10 @@ pub readers_of-requires : goal.readers_of-requires
 readers_of-requires g c = ids_apart c.args.channels c.as_slice.result.now (c.as_slice.ensures ∙ c.in_ok-ids.ensures)
 
 pub partitions_of-requires-clause-passes : goal.partitions_of-requires-clause-passes
-partitions_of-requires-clause-passes g c = of_front (IsReady c.args.pool.now) c.args.passes.items c.pop.new.self.items c.in-Some.gate_pass c.in-Some.ensures.items c.requires.passes
+partitions_of-requires-clause-passes g c = of_front (IsPassReady c.args.pool.now) c.args.passes.items c.pop.new.self.items c.in-Some.gate_pass c.in-Some.ensures.items c.requires.passes
 
 pub gate_of-requires-clause-pass : goal.gate_of-requires-clause-pass
-gate_of-requires-clause-pass g c = of_last (IsReady c.args.pool.now) c.args.passes.items c.pop.new.self.items c.in-Some.gate_pass c.in-Some.ensures.items c.requires.passes
+gate_of-requires-clause-pass g c = of_last (IsPassReady c.args.pool.now) c.args.passes.items c.pop.new.self.items c.in-Some.gate_pass c.in-Some.ensures.items c.requires.passes
 
 pub returns-clause-cells : goal.returns-clause-cells
 returns-clause-cells g c =

@@ -1,13 +1,13 @@
 use Rattle.std.proofs.Common.{◌≡◌, ◌+◌, [], refl, sym, ap, subst}
 use Rattle.segment_pool.specs.Pools.{size_of}
-use Rattle.input_channel.specs.States.{ChannelState, StandsFor}
+use Rattle.input_channel.specs.States.{ChannelState, ChannelStandsFor}
 use Rattle.conn_harness.specs.declared.pools.TheConstants.{BUFFERS_MAX}
 use Rattle.conn_harness.proofs.GroupLaws.{one_more_made}
 use Rattle.conn_harness.proofs.pools.gate_of.Goals as goal
 
 pub add-requires-clause-new : goal.add-requires-clause-new
 add-requires-clause-new g c =
-    subst (λ (input : ChannelState). StandsFor input []) (sym c.in_ok-input.ensures.opened) (c.channels_stand_for_histories.ensures.opening (size_of c.args.pool.now) BUFFERS_MAX)
+    subst (λ (input : ChannelState). ChannelStandsFor input []) (sym c.in_ok-input.ensures.opened) (c.channels_stand_for_histories.ensures.opening (size_of c.args.pool.now) BUFFERS_MAX)
 
 pub loop-channel-preserved : goal.loop-channel-preserved
 loop-channel-preserved g c =

@@ -4,7 +4,7 @@ use Rattle.std.proofs.lemmas.List.Elements.{All-pop}
 use Rattle.segment_pool.specs.Pools.{size_of}
 use Rattle.local_pool.specs.declared.held.HeldPool.{HeldPool}
 use Rattle.local_pool.specs.Helds.{pool_of}
-use Rattle.conn_harness.specs.Groups.{IsReady}
+use Rattle.conn_harness.specs.Groups.{IsPassReady}
 use Rattle.conn_harness.proofs.GroupLaws.{one_more_made}
 use Rattle.conn_harness.proofs.pools.partitions_of.Goals as goal
 
@@ -18,5 +18,5 @@ loop-pass-preserved g c =
       made = one_more_made (λ (held : HeldPool). size_of (pool_of held) ≡ size_of pool) (length all - length old) (length all - length left) c.new.result c.loop-pass.group c.add.new.self
           invariant.made added.dealt added.cells (ap size_of c.new.ensures.0) (omega arith);
       few = omega arith;
-      ready = (All-pop (IsReady pool) old left _ c.pop.ensures.items invariant.ready).0;
+      ready = (All-pop (IsPassReady pool) old left _ c.pop.ensures.items invariant.ready).0;
     }

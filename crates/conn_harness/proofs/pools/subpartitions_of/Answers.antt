@@ -1,13 +1,13 @@
 use Rattle.std.proofs.Common.{◌≡◌, ◌+◌, [], refl, sym, ap, subst}
 use Rattle.subpartition.specs.Queues.{Queue}
-use Rattle.subpartition.specs.Standing.{StandsFor}
+use Rattle.subpartition.specs.Standing.{QueueStandsFor}
 use Rattle.conn_harness.specs.declared.pools.TheConstants.{ITEMS_MAX}
 use Rattle.conn_harness.proofs.GroupLaws.{one_more_made}
 use Rattle.conn_harness.proofs.pools.subpartitions_of.Goals as goal
 
 pub add-requires-clause-new : goal.add-requires-clause-new
 add-requires-clause-new c =
-    subst (λ (queue : Queue). StandsFor queue []) (sym c.in_ok-new.ensures) (c.calls_add_entries.ensures.new c.args.size ITEMS_MAX)
+    subst (λ (queue : Queue). QueueStandsFor queue []) (sym c.in_ok-new.ensures) (c.calls_add_entries.ensures.new c.args.size ITEMS_MAX)
 
 pub loop-channel-preserved : goal.loop-channel-preserved
 loop-channel-preserved c =

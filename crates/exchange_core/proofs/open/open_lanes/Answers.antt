@@ -2,7 +2,7 @@ use Rattle.std.proofs.Common.{◌≡◌, ◌+◌, length, Some, ap, subst, ◌�
 use Rattle.std.proofs.lemmas.List.{length_push}
 use Rattle.std.proofs.lemmas.List.Elements.{All-pop}
 use Rattle.exchange_core.specs.Exchanges.{IsLaneOf}
-use Rattle.exchange_core.specs.Opening.{IsReady}
+use Rattle.exchange_core.specs.Opening.{IsPoolReady}
 use Rattle.exchange_core.proofs.Opening.{lanes_more}
 use Rattle.exchange_core.proofs.open.open_lanes.Goals as goal
 
@@ -16,7 +16,7 @@ passes-preserved g c =
     let lent = gate.lent_is in let lent_before = before.gate.lent_is in let count = before.count in
     record {
       gate = record { of_pool = gate.of_pool; need_is = gate.need_is ∙ before.gate.need_is; limit_is = gate.limit_is ∙ before.gate.limit_is; lent_is = omega arith };
-      passes = (All-pop (IsReady pool limit) c.passes.passes.items c.pop.new.self.items (Some c.in-Some.pass) c.in-Some.ensures.items before.passes).0;
+      passes = (All-pop (IsPoolReady pool limit) c.passes.passes.items c.pop.new.self.items (Some c.in-Some.pass) c.in-Some.ensures.items before.passes).0;
       lanes = lanes_more pool limit c.passes.lanes.items c.push.new.self.items lane pushed before.lanes (subst (λ l. IsLaneOf pool l lane) c.in_ok-partition.ensures.limit_is c.in_ok-lane.ensures.lane) c.in_ok-lane.ensures.new;
       count = omega arith;
     }

@@ -1,7 +1,7 @@
 use Rattle.std.proofs.Common.{rules, ◌+◌, ◌<◌, ◌≤◌, ap, ◌∙◌, arith, IsNone}
 use Rattle.input_channel.specs.declared.entry.ReceiveEntry.TheVariants as entries
 use Rattle.input_channel.specs.Counts.{wants}
-use Rattle.input_channel.specs.States.{ChannelState, after}
+use Rattle.input_channel.specs.States.{ChannelState, channel_next}
 use Rattle.local_pool.specs.Locals.{IsSameLocal, lent_of, limit_of}
 use Rattle.local_pool.specs.declared.local.LocalPool.{LocalPool}
 use Rattle.exchange_core.proofs.Floats.{added_more, got_all, wants_of_got}
@@ -34,7 +34,7 @@ asks-preserved g c =
       local = c.in-Some.ensures.local.0;
       same = same_again _ _ _ v.same c.in-Some.ensures.local.1;
       lent = (let one = c.in-Some.ensures.requested.lent in omega (arith, one, lent_is));
-      inbox_is = c.add_floating.ensures ∙ ap (λ (i : ChannelState). after i entries.Added) v.inbox_is ∙ added_more v.n _;
+      inbox_is = c.add_floating.ensures ∙ ap (λ (i : ChannelState). channel_next i entries.Added) v.inbox_is ∙ added_more v.n _;
       few = omega (arith, below, limit, few, lent_is, more, some);
     }
 

@@ -6,7 +6,7 @@ use Rattle.input_channel.specs.Answers.{IsBufferOf}
 use Rattle.input_channel.specs.Contents.{content}
 use Rattle.input_channel.specs.Counts.{gave_by}
 use Rattle.input_channel.specs.Inboxes.{poll_gives}
-use Rattle.input_channel.specs.States.{ChannelState, after}
+use Rattle.input_channel.specs.States.{ChannelState, channel_next}
 use Rattle.local_pool.specs.Locals.{lent_of, limit_of}
 use Rattle.exchange_world.specs.Lanes.{floating_here, behind_records}
 use Rattle.exchange_core.specs.declared.lane.Lane.{Lane}
@@ -25,11 +25,11 @@ returns-in_ok-records-in-Buffer-clause-lane g c =
     let of : IsBufferOf lane.inbox buf = search rules in
     let given : poll_gives hold lane.inbox.queue ≡ Some (parcels.Data bytes) = data_given hold lane.inbox.queue bytes of.due in
     let gave : gave_by (Some (parcels.Data bytes)) lane.inbox.counts.held ≡ cond buf.exclusive gaves.Exclusive gaves.Floating = gave_is bytes buf.exclusive of.rest lane.inbox.counts.held of.kind in
-    let polled : c.poll.new.self ≡ after lane.inbox (entries.Poll hold (cond buf.exclusive gaves.Exclusive gaves.Floating)) = search rules in
+    let polled : c.poll.new.self ≡ channel_next lane.inbox (entries.Poll hold (cond buf.exclusive gaves.Exclusive gaves.Floating)) = search rules in
     let read : c.read_buffer.new.lane ≡ record lane { inbox = c.poll.new.self; reader = behind_records (lane.reader ++ bytes) } = search rules in
-    let taken : c.take_back.new.inbox ≡ after c.read_buffer.new.lane.inbox (entries.Returned buf.exclusive) = search rules in
+    let taken : c.take_back.new.inbox ≡ channel_next c.read_buffer.new.lane.inbox (entries.Returned buf.exclusive) = search rules in
     let back : c.take_back.new.inbox ≡ polled_back hold bytes lane.inbox =
-    taken ∙ ap (λ (l : Lane). after l.inbox (entries.Returned buf.exclusive)) read ∙ ap (λ (s : ChannelState). after s (entries.Returned buf.exclusive)) polled
+    taken ∙ ap (λ (l : Lane). channel_next l.inbox (entries.Returned buf.exclusive)) read ∙ ap (λ (s : ChannelState). channel_next s (entries.Returned buf.exclusive)) polled
     ∙ exclusive_is hold bytes buf.exclusive lane.inbox gave in
     let follows = c.take_back.ensures.gate.lent in
     let same = c.take_back.ensures.gate.same.limit in
@@ -48,7 +48,7 @@ returns-in_ok-records-in-Buffer-clause-gate g c =
     let buf = c.in-Buffer.buf in
     let bytes = content buf in
     let of : IsBufferOf lane.inbox buf = search rules in
-    let polled : c.poll.new.self ≡ after lane.inbox (entries.Poll c.args.hold (cond buf.exclusive gaves.Exclusive gaves.Floating)) = search rules in
+    let polled : c.poll.new.self ≡ channel_next lane.inbox (entries.Poll c.args.hold (cond buf.exclusive gaves.Exclusive gaves.Floating)) = search rules in
     let read : c.read_buffer.new.lane ≡ record lane { inbox = c.poll.new.self; reader = behind_records (lane.reader ++ bytes) } = search rules in
     let out : floating_here c.read_buffer.new.lane.inbox + floating_out buf.exclusive ≡ floating_here lane.inbox =
     ap (λ (l : Lane). floating_here l.inbox + floating_out buf.exclusive) read

@@ -6,7 +6,7 @@ use Rattle.subpartition.specs.declared.entry.SendEntry.{SendEntry}
 use Rattle.subpartition.specs.declared.entry.SendEntry.TheVariants.{Put}
 use Rattle.subpartition.specs.Sending.{is_finished}
 use Rattle.subpartition.specs.Queues.{Queue, bytes_of, last_bytes}
-use Rattle.subpartition.specs.Standing.{StandsFor}
+use Rattle.subpartition.specs.Standing.{QueueStandsFor}
 use Rattle.exchange_tests.proofs.subpartition_turns.put_in_turn.Goals as goal
 
 pub put-requires-clause-open_end : goal.put-requires-clause-open_end
@@ -21,15 +21,15 @@ pub leave_put-requires-clause-state : goal.leave_put-requires-clause-state
 leave_put-requires-clause-state g c =
     let pass = c.enter-turn.result.pass.now in let old = c.state-2.result.now in
     let entered : old ≡ c.enter-turn.result.state = search rules in
-    let before = subst (λ queue. StandsFor queue (seen pass)) (sym entered) c.enter-turn.ensures.state.0 in
+    let before = subst (λ queue. QueueStandsFor queue (seen pass)) (sym entered) c.enter-turn.ensures.state.0 in
     let own : by 0 (seen pass) ≡ mine c.args.pass.now = ap (λ n. by n (seen pass)) (sym (c.enter-turn.ensures.pass.0.0 ∙ c.requires.task)) ∙ c.enter-turn.ensures.turn.0.0.5 ∙ c.enter-turn.ensures.pass.0.1 in
     let told = c.calls_tell.ensures.task old (seen pass) before in
     let open_end = told.finished ∙ ap is_finished own ∙ c.requires.open_end in
     let size : length c.args.filled.segment ≡ old.size = c.requires.size ∙ sym (ap (λ (queue : Queue). queue.size) entered ∙ c.enter-turn.ensures.state.1 ∙ ap (λ (cell : TurnCell Queue SendEntry ℕ). (opened_with cell).size) c.enter-turn.ensures.turn.1) in
     let stands = c.calls_add_entries.ensures.put old (seen pass) (number pass) c.args.filled before (c.enter-turn.ensures.pass.0.0 ∙ c.requires.task) open_end size in
     let last : last_bytes c.put.new.self.items ≡ bytes_of c.args.filled = ap (λ (queue : Queue). last_bytes queue.items) c.put.ensures ∙ c.calls_tell.ensures.put old c.args.filled in
-    subst (λ bytes. StandsFor c.put.new.self (seen pass ++ (number pass, Put bytes) ∷ [])) (sym last)
-    (subst (λ queue. StandsFor queue (seen pass ++ (number pass, Put (bytes_of c.args.filled)) ∷ [])) (sym c.put.ensures) stands)
+    subst (λ bytes. QueueStandsFor c.put.new.self (seen pass ++ (number pass, Put bytes) ∷ [])) (sym last)
+    (subst (λ queue. QueueStandsFor queue (seen pass ++ (number pass, Put (bytes_of c.args.filled)) ∷ [])) (sym c.put.ensures) stands)
 
 pub returns-clause-entered : goal.returns-clause-entered
 returns-clause-entered g c =

@@ -4,7 +4,7 @@ use Rattle.turn_cell.specs.History.{entries_of}
 use Rattle.turn_cell.specs.Passes.{opened_with, seen, sights}
 use Rattle.input_channel.specs.declared.entry.ReceiveEntry.TheVariants.{Poll}
 use Rattle.input_channel.specs.Answers.{gave_of, given_by}
-use Rattle.input_channel.specs.States.{ChannelState, StandsFor}
+use Rattle.input_channel.specs.States.{ChannelState, ChannelStandsFor}
 use Rattle.input_gate.specs.Segments.{freed_by}
 use Rattle.input_gate.specs.Turning.{given_to, InputCell}
 use Rattle.input_gate.proofs.TurnLaws.{Begun, still_freed, state_after, more, polled_given, next_number, fits}
@@ -43,7 +43,7 @@ returns-clause-fits g c =
     let q = c.leave_polled.new.turn.1.0 in
     let now : given_to q ≡ given_to p ++ option_to_list (given_by c.in-Ok.polled) =
     polled_given p t c.enter-turn.result.state b c.passes_tell.ensures.given laws.passes laws.poll c.answers_tell.ensures.given q old c.args.hold c.in-Ok.polled (gave_of c.in-Ok.polled) c.state.ensures.value c.in-Ok.ensures.answer entered in
-    let stands : StandsFor c.poll.new.self (seen q) = subst (StandsFor c.poll.new.self) (sym entered.1)
+    let stands : ChannelStandsFor c.poll.new.self (seen q) = subst (ChannelStandsFor c.poll.new.self) (sym entered.1)
     (state_after p t c.enter-turn.result.state b laws.calls laws.entries old c.poll.new.self (Poll c.args.hold (gave_of c.in-Ok.polled)) c.state.ensures.value refl
     (c.answers_tell.ensures.polled old (entries_of (seen t)) c.args.hold c.in-Ok.polled c.in-Ok.ensures.answer) c.in-Ok.ensures.channel) in
     fits (opened_with c.args.cell.now).size c.args.hold (given_to p) (given_to q) old c.in-Ok.polled c.in-Ok.ensures.answer (ap (λ (s : ChannelState). s.size) c.state.ensures.value ∙ e.state.1 ∙ ap (λ (cell : InputCell). (opened_with cell).size) e.turn.1) now

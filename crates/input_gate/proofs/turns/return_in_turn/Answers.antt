@@ -4,7 +4,7 @@ use Rattle.turn_cell.specs.History.{entries_of}
 use Rattle.turn_cell.specs.Passes.{seen, sights}
 use Rattle.input_channel.specs.declared.entry.ReceiveEntry.TheVariants.{Returned}
 use Rattle.input_channel.specs.Legal.{polled_with, returned}
-use Rattle.input_channel.specs.States.{ChannelState, StandsFor}
+use Rattle.input_channel.specs.States.{ChannelState, ChannelStandsFor}
 use Rattle.input_channel.specs.Counts.{frees}
 use Rattle.input_gate.specs.Segments.{freed_by}
 use Rattle.input_gate.specs.Turning.{given_to}
@@ -16,7 +16,7 @@ recycle-free-requires-clause-given g c is =
     let p = c.args.pass.now in let t = c.enter-turn.result.pass.now in let e = c.enter-turn.ensures in let laws = c.channels_stand_for_histories.ensures in let old = c.state.result.now in
     let b : Begun p t c.enter-turn.result.state = record { first = c.requires.pass.1; same = e.pass.0; later = e.seen; looked = e.looked; own_before = c.requires.pass.0.0.5; own = e.turn.0.0.5; stands = e.state.0 } in
     let out = out_here p t c.enter-turn.result.state b laws.passes c.passes_tell.ensures.buffers c.args.buf.exclusive c.requires.out in
-    laws.fits old (seen t) (subst (λ s. StandsFor s (seen t)) (sym c.state.ensures.value) e.state.0) (subst (λ kind. returned kind (entries_of (seen t)) < polled_with kind (entries_of (seen t))) is out)
+    laws.fits old (seen t) (subst (λ s. ChannelStandsFor s (seen t)) (sym c.state.ensures.value) e.state.0) (subst (λ kind. returned kind (entries_of (seen t)) < polled_with kind (entries_of (seen t))) is out)
 
 pub leave_returned-requires-clause-state : goal.leave_returned-requires-clause-state
 leave_returned-requires-clause-state g c =

@@ -8,7 +8,7 @@ use Rattle.input_channel.specs.declared.entry.Gave.TheVariants.{NoBuffer}
 use Rattle.input_channel.specs.declared.entry.ReceiveEntry.TheVariants.{Poll}
 use Rattle.input_channel.specs.Answers.{gave_of, given_by}
 use Rattle.input_channel.specs.Inboxes.{front_waits}
-use Rattle.input_channel.specs.States.{ChannelState, StandsFor, after}
+use Rattle.input_channel.specs.States.{ChannelState, ChannelStandsFor, channel_next}
 use Rattle.input_gate.specs.Segments.{freed_by}
 use Rattle.input_gate.specs.Turning.{given_to}
 use Rattle.input_gate.proofs.TurnLaws.{Begun, rested_freed, still_freed, state_after, more, rested_given, polled_given, next_number, front_answer, not_buffer, not_end}
@@ -29,10 +29,10 @@ leave-requires-clause-state g c =
     let old = c.state-2.result.now in
     let is = c.state-2.ensures.value ∙ c.state.ensures.value in
     let waits : front_waits old.queue ≡ true = ap (λ (s : ChannelState). front_waits s.queue) c.state-2.ensures.value ∙ sym c.front_waits.ensures ∙ c.if-not-front_waits.false in
-    let stands : StandsFor c.poll.new.self (seen t ++ (number t, Poll false NoBuffer) ∷ []) =
+    let stands : ChannelStandsFor c.poll.new.self (seen t ++ (number t, Poll false NoBuffer) ∷ []) =
     state_after p t c.enter-turn.result.state b laws.calls laws.entries old c.poll.new.self (Poll false NoBuffer) is refl
     (subst (λ gave. Rattle.input_channel.specs.States.Allows old (entries_of (seen t)) (Poll false gave)) (ap gave_of c.in-Barrier.is) (c.answers_tell.ensures.polled old (entries_of (seen t)) false c.in-Ok.polled c.in-Ok.ensures.answer))
-    (c.in-Ok.ensures.channel ∙ ap (λ polled. after old (Poll false (gave_of polled))) c.in-Barrier.is) in
+    (c.in-Ok.ensures.channel ∙ ap (λ polled. channel_next old (Poll false (gave_of polled))) c.in-Barrier.is) in
     (stands, ap (λ (s : ChannelState). s.size) c.in-Ok.ensures.channel ∙ ap (λ (s : ChannelState). s.size) is ∙ e.state.1)
 
 pub unreachable-requires-in-Buffer : goal.unreachable-requires-in-Buffer
@@ -80,17 +80,17 @@ returns-clause-numbered g c =
     let old = c.state-2.result.now in
     let is = c.state-2.ensures.value ∙ c.state.ensures.value in
     let waits : front_waits old.queue ≡ true = ap (λ (s : ChannelState). front_waits s.queue) c.state-2.ensures.value ∙ sym c.front_waits.ensures ∙ c.if-not-front_waits.false in
-    let stands : StandsFor c.poll.new.self (seen t ++ (number t, Poll false NoBuffer) ∷ []) =
+    let stands : ChannelStandsFor c.poll.new.self (seen t ++ (number t, Poll false NoBuffer) ∷ []) =
     state_after p t c.enter-turn.result.state b laws.calls laws.entries old c.poll.new.self (Poll false NoBuffer) is refl
     (subst (λ gave. Rattle.input_channel.specs.States.Allows old (entries_of (seen t)) (Poll false gave)) (ap gave_of c.in-Barrier.is) (c.answers_tell.ensures.polled old (entries_of (seen t)) false c.in-Ok.polled c.in-Ok.ensures.answer))
-    (c.in-Ok.ensures.channel ∙ ap (λ polled. after old (Poll false (gave_of polled))) c.in-Barrier.is) in
+    (c.in-Ok.ensures.channel ∙ ap (λ polled. channel_next old (Poll false (gave_of polled))) c.in-Barrier.is) in
     let q = c.leave.new.self.1.0 in
     let f : given_to q ≡ given_to p ++ parcels.Barrier c.in-Barrier.k Front ∷ [] =
     polled_given p t c.enter-turn.result.state b c.passes_tell.ensures.given laws.passes laws.poll c.answers_tell.ensures.given q old false c.in-Ok.polled NoBuffer is c.in-Ok.ensures.answer c.leave.ensures.entered
     ∙ ap (λ polled. given_to p ++ option_to_list (given_by polled)) c.in-Barrier.is
     ∙ ap (λ kind. given_to p ++ parcels.Barrier c.in-Barrier.k kind ∷ []) (front_answer old c.in-Ok.polled c.in-Ok.ensures.answer waits c.in-Barrier.k c.in-Barrier._kind c.in-Barrier.is) in
     next_number c.histories_keep_order.ensures.barriers c.legal_histories_agree.ensures.numbered laws.legal c.poll.new.self (seen q) (given_to p) c.in-Barrier.k Front
-    (subst (StandsFor c.poll.new.self) (sym c.leave.ensures.entered.1) stands) f
+    (subst (ChannelStandsFor c.poll.new.self) (sym c.leave.ensures.entered.1) stands) f
 
 pub returns-then-not-front_waits-clause-freed : goal.returns-then-not-front_waits-clause-freed
 returns-then-not-front_waits-clause-freed g c =

@@ -2,7 +2,7 @@ use Rattle.std.proofs.Common.{◌≡◌, [], ◌∷◌, ◌++◌, refl, sym, ap,
 use Rattle.std.proofs.lemmas.List.Elements.{All-push, All-same}
 use Rattle.segment_pool.specs.Pools.{size_of}
 use Rattle.turn_cell.specs.Passes.{opened_with}
-use Rattle.input_channel.specs.States.{ChannelState, StandsFor}
+use Rattle.input_channel.specs.States.{ChannelState, ChannelStandsFor}
 use Rattle.input_channel.specs.States.{opening}
 use Rattle.job_cells.specs.Edges.{buffers_room}
 use Rattle.job_cells.specs.Ends.{InputCell}
@@ -21,7 +21,7 @@ loop-way-init g c = record {
 
 pub add-requires-clause-new : goal.add-requires-clause-new
 add-requires-clause-new g c =
-    subst (λ (input : ChannelState). StandsFor input []) (sym c.in_ok-input.ensures.opened) (c.channels_stand_for_histories.ensures.opening (size_of c.args.pool.now) buffers_room)
+    subst (λ (input : ChannelState). ChannelStandsFor input []) (sym c.in_ok-input.ensures.opened) (c.channels_stand_for_histories.ensures.opening (size_of c.args.pool.now) buffers_room)
 
 pub loop-way-preserved : goal.loop-way-preserved
 loop-way-preserved g c =

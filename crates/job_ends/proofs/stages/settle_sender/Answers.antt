@@ -16,5 +16,5 @@ returns-clause-place g c = c.take_partition-passes.ensures.without
 
 pub returns-clause-settled : goal.returns-clause-settled
 returns-clause-settled g c =
-    subst (λ (own : List _). AllSettled sending.StandsFor c.args.first c.args.stride own c.args.takers.now.items)
+    subst (λ (own : List _). AllSettled sending.QueueStandsFor c.args.first c.args.stride own c.args.takers.now.items)
     (sym (sent_is c.args.place.now c.take_partition-passes.new.place c.take_partition-passes.result c.take_partition-passes.ensures)) c.settle_channels.ensures.settled

@@ -37,9 +37,9 @@ loop-task-preserved g c =
       takers = c.settle_sender.ensures.takers;
       go_on = go_on_again c.args.takers.now.items c.loop-task.takers.items c.settle_sender.new.takers.items i.go_on c.settle_sender.ensures.go_on;
       row = lent_more WithoutPartition c.loop-task.task c.args.row.now.items c.loop-task.row.items c.as_mut_slice.result.now x c.settle_sender.new.place i.row c.as_mut_slice.ensures.value at c.settle_sender.ensures.place;
-      settled = each_more (λ (a : ℕ) (place : _). AllSettled sending.StandsFor a (length c.args.row.now.items) (sent_in place) c.args.takers.now.items) c.loop-task.task c.args.row.now.items x before
-          (settled_back sending.StandsFor c.loop-task.task (length c.args.row.now.items) (sent_in x) c.args.takers.now.items c.loop-task.takers.items i.go_on
-          (subst (λ (n : ℕ). AllSettled sending.StandsFor c.loop-task.task n (sent_in x) c.loop-task.takers.items) all c.settle_sender.ensures.settled))
+      settled = each_more (λ (a : ℕ) (place : _). AllSettled sending.QueueStandsFor a (length c.args.row.now.items) (sent_in place) c.args.takers.now.items) c.loop-task.task c.args.row.now.items x before
+          (settled_back sending.QueueStandsFor c.loop-task.task (length c.args.row.now.items) (sent_in x) c.args.takers.now.items c.loop-task.takers.items i.go_on
+          (subst (λ (n : ℕ). AllSettled sending.QueueStandsFor c.loop-task.task n (sent_in x) c.loop-task.takers.items) all c.settle_sender.ensures.settled))
           i.settled;
     }
 

@@ -12,5 +12,5 @@ invariant-loop-task g l = record {
   takers : AreOwn 1 l.cells l.takers.items;
   go_on : GoOn l.fn.takers.items l.takers.items;
   row : UpTo WithoutPartition l.task l.fn.row.items l.row.items;
-  settled : (a : ℕ) (place : _) → a < l.task → slice_get l.fn.row.items a ≡ Some place → AllSettled sending.StandsFor a (length l.fn.row.items) (sent_in place) l.fn.takers.items;
+  settled : (a : ℕ) (place : _) → a < l.task → slice_get l.fn.row.items a ≡ Some place → AllSettled sending.QueueStandsFor a (length l.fn.row.items) (sent_in place) l.fn.takers.items;
 }

@@ -24,6 +24,6 @@ returns-clause-place g c = c.take_gate-passes.ensures.without
 
 pub returns-clause-settled : goal.returns-clause-settled
 returns-clause-settled g c =
-    subst (λ (own : List _). AllSettled receiving.StandsFor (c.args.number * length own) 1 own c.args.pushers.now.items)
+    subst (λ (own : List _). AllSettled receiving.ChannelStandsFor (c.args.number * length own) 1 own c.args.pushers.now.items)
     (sym (taken_is c.args.place.now c.take_gate-passes.new.place c.take_gate-passes.result c.take_gate-passes.ensures))
-    (subst (λ (l : List _). AllSettled receiving.StandsFor (c.args.number * length l) 1 c.take_gate-passes.result.cells.items c.args.pushers.now.items) c.as_slice.ensures c.settle_channels.ensures.settled)
+    (subst (λ (l : List _). AllSettled receiving.ChannelStandsFor (c.args.number * length l) 1 c.take_gate-passes.result.cells.items c.args.pushers.now.items) c.as_slice.ensures c.settle_channels.ensures.settled)

@@ -36,8 +36,8 @@ loop-task-preserved g c =
       pushers = c.settle_taker.ensures.pushers;
       go_on = go_on_again c.args.pushers.now.items c.loop-task.pushers.items c.settle_taker.new.pushers.items i.go_on c.settle_taker.ensures.go_on;
       row = lent_more WithoutGate c.loop-task.task c.args.row.now.items c.loop-task.row.items c.as_mut_slice.result.now x c.settle_taker.new.place i.row c.as_mut_slice.ensures.value at c.settle_taker.ensures.place;
-      settled = each_more (λ (b : ℕ) (place : _). AllSettled receiving.StandsFor (b * length (taken_in place)) 1 (taken_in place) c.args.pushers.now.items) c.loop-task.task c.args.row.now.items x before
-          (settled_back receiving.StandsFor (c.loop-task.task * length (taken_in x)) 1 (taken_in x) c.args.pushers.now.items c.loop-task.pushers.items i.go_on c.settle_taker.ensures.settled)
+      settled = each_more (λ (b : ℕ) (place : _). AllSettled receiving.ChannelStandsFor (b * length (taken_in place)) 1 (taken_in place) c.args.pushers.now.items) c.loop-task.task c.args.row.now.items x before
+          (settled_back receiving.ChannelStandsFor (c.loop-task.task * length (taken_in x)) 1 (taken_in x) c.args.pushers.now.items c.loop-task.pushers.items i.go_on c.settle_taker.ensures.settled)
           i.settled;
     }
 

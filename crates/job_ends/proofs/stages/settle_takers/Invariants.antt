@@ -12,5 +12,5 @@ invariant-loop-task g l = record {
   pushers : AreOwn 1 l.cells l.pushers.items;
   go_on : GoOn l.fn.pushers.items l.pushers.items;
   row : UpTo WithoutGate l.task l.fn.row.items l.row.items;
-  settled : (b : ℕ) (place : _) → b < l.task → slice_get l.fn.row.items b ≡ Some place → AllSettled receiving.StandsFor (b * length (taken_in place)) 1 (taken_in place) l.fn.pushers.items;
+  settled : (b : ℕ) (place : _) → b < l.task → slice_get l.fn.row.items b ≡ Some place → AllSettled receiving.ChannelStandsFor (b * length (taken_in place)) 1 (taken_in place) l.fn.pushers.items;
 }

@@ -1,11 +1,11 @@
 use Rattle.std.proofs.Common.{◌≡◌, ◌≤◌, length, take}
 use Rattle.flow_defs.specs.declared.job.TheConstants.{STAGES_MAX}
-use Rattle.job_text.proofs.ShapeLemmas.{IsUnderWay}
+use Rattle.job_text.proofs.ShapeLemmas.{IsTextUnderWay}
 use Rattle.job_text.proofs.shape.build.Given as goal
 
 abbrev pub invariant-lines : goal.invariant-lines
 invariant-lines l = record {
-  way : IsUnderWay l.bytes l.sources (take l.stage_count l.stages) l.lines;
+  way : IsTextUnderWay l.bytes l.sources (take l.stage_count l.stages) l.lines;
   few : l.stage_count ≤ STAGES_MAX;
   many : length l.stages ≡ STAGES_MAX;
 }

@@ -1,7 +1,7 @@
 use Rattle.std.proofs.Common.{refl, ◌∙◌}
 use Rattle.turn_cell.specs.Passes.{number, seen}
 use Rattle.input_channel.specs.declared.entry.ReceiveEntry.TheVariants.{Credit}
-use Rattle.conn_receive.proofs.TurnLaws.{stands_after}
+use Rattle.conn_read_items.proofs.TurnLaws.{stands_after}
 use Rattle.loops_tests.proofs.conn_receive_tests.take_credit.Goals as goal
 
 pub leave_credit-requires-clause-state : goal.leave_credit-requires-clause-state

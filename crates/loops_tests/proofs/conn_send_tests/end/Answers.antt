@@ -3,7 +3,7 @@ use Rattle.turn_cell.specs.Passes.{number, seen}
 use Rattle.subpartition.specs.declared.entry.SendEntry.TheVariants.{Finish}
 use Rattle.subpartition.specs.Sending.{is_finished}
 use Rattle.subpartition.specs.Queues.{Queue}
-use Rattle.subpartition.specs.Standing.{StandsFor}
+use Rattle.subpartition.specs.Standing.{QueueStandsFor}
 use Rattle.loops_tests.proofs.Dealt.{own_entries}
 use Rattle.loops_tests.proofs.conn_send_tests.end.Goals as goal
 
@@ -19,10 +19,10 @@ pub leave-requires-clause-state : goal.leave-requires-clause-state
 leave-requires-clause-state g c =
     let pass = c.enter-turn.result.pass.now in let old = c.state-2.result.now in
     let entered : old ≡ c.enter-turn.result.state = search rules in
-    let before = subst (λ queue. StandsFor queue (seen pass)) (sym entered) c.enter-turn.ensures.state.0 in
+    let before = subst (λ queue. QueueStandsFor queue (seen pass)) (sym entered) c.enter-turn.ensures.state.0 in
     let own = own_entries c.args.cell.now c.enter-turn.result.cell.now c.args.pass.now pass c.requires.task c.enter-turn.ensures.turn.0 c.enter-turn.ensures.pass.0 in
     let open_end = (c.calls_tell.ensures.task old (seen pass) before).finished ∙ ap is_finished own ∙ c.requires.open_end in
     let stands = c.calls_add_entries.ensures.finish old (seen pass) (number pass) before (c.enter-turn.ensures.pass.0.0 ∙ c.requires.task) open_end in (
-      subst (λ queue. StandsFor queue (seen pass ++ (number pass, Finish) ∷ [])) (sym c.finish.ensures) stands,
+      subst (λ queue. QueueStandsFor queue (seen pass ++ (number pass, Finish) ∷ [])) (sym c.finish.ensures) stands,
       ap (λ (queue : Queue). queue.size) (c.finish.ensures) ∙ ap (λ (queue : Queue). queue.size) entered ∙ c.enter-turn.ensures.state.1,
     )

@@ -3,8 +3,8 @@ use Rattle.turn_cell.specs.Passes.{number, seen, mine, opened_with}
 use Rattle.subpartition.specs.declared.entry.SendEntry.TheVariants.{Put}
 use Rattle.subpartition.specs.Sending.{is_finished}
 use Rattle.subpartition.specs.Queues.{Queue, last_bytes}
-use Rattle.subpartition.specs.Standing.{StandsFor}
-use Rattle.conn_send.specs.Fronts.{SendCell}
+use Rattle.subpartition.specs.Standing.{QueueStandsFor}
+use Rattle.conn_send_items.specs.Fronts.{SendCell}
 use Rattle.loops_tests.proofs.Dealt.{own_entries, open_put, buffer_put}
 use Rattle.loops_tests.proofs.conn_send_tests.put.Goals as goal
 
@@ -20,7 +20,7 @@ pub leave_put-requires-clause-state : goal.leave_put-requires-clause-state
 leave_put-requires-clause-state g c =
     let pass = c.enter-turn.result.pass.now in let old = c.state-2.result.now in
     let entered : old ≡ c.enter-turn.result.state = search rules in
-    let before = subst (λ queue. StandsFor queue (seen pass)) (sym entered) c.enter-turn.ensures.state.0 in
+    let before = subst (λ queue. QueueStandsFor queue (seen pass)) (sym entered) c.enter-turn.ensures.state.0 in
     let own = own_entries c.args.cell.now c.enter-turn.result.cell.now c.args.pass.now pass c.requires.task c.enter-turn.ensures.turn.0 c.enter-turn.ensures.pass.0 in
     let open_end = (c.calls_tell.ensures.task old (seen pass) before).finished ∙ ap is_finished own ∙ c.requires.open_end in
     let long : length c.args.segment ≡ old.size =

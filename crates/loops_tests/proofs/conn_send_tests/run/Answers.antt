@@ -3,7 +3,7 @@ use Rattle.turn_cell.specs.Passes.{opened_with}
 use Rattle.segment_pool.specs.Pools.{size_of}
 use Rattle.local_pool.specs.Helds.{pool_of}
 use Rattle.conn_parts.specs.Shares.{AreOf, AreOwn}
-use Rattle.conn_send.specs.Fronts.{SendCell}
+use Rattle.conn_send_items.specs.Fronts.{SendCell}
 use Rattle.loops_tests.proofs.Dealt.{all_one, of_one, own_one}
 use Rattle.loops_tests.proofs.conn_send_tests.run.Goals as goal
 

@@ -1,5 +1,5 @@
 use Rattle.std.proofs.Common.{[], sym, subst, arith}
-use Rattle.subpartition.specs.Standing.{StandsFor}
+use Rattle.subpartition.specs.Standing.{QueueStandsFor}
 use Rattle.conn_parts.proofs.Dealt.{two_dealt}
 use Rattle.loops_tests.proofs.Dealt.{two_fresh}
 use Rattle.loops_tests.proofs.conn_send_tests.shared_subpartition.Goals as goal
@@ -17,4 +17,4 @@ returns-clause-sender g c =
     (f.1.0, f.1.1.0)
 
 pub new-requires-2 : goal.new-requires-2
-new-requires-2 g c = (omega arith, subst (λ queue. StandsFor queue []) (sym c.in-Ok.ensures) (c.calls_add_entries.ensures.new 64 4))
+new-requires-2 g c = (omega arith, subst (λ queue. QueueStandsFor queue []) (sym c.in-Ok.ensures) (c.calls_add_entries.ensures.new 64 4))

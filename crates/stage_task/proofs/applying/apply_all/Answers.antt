@@ -6,7 +6,7 @@ use Rattle.plain_machine.specs.Emitting.{apply_behind}
 use Rattle.checkpoint_laws.specs.Chapters.{applied}
 use Rattle.snapshot_channel.specs.Passes.{sent_by}
 use Rattle.turn_cell.specs.Passes.{seen}
-use Rattle.task_taking.specs.Steps.{TookNext, GoesOn}
+use Rattle.task_taking.specs.Steps.{TookNext, TakingGoesOn}
 use Rattle.task_taking.specs.declared.taking.Taken.{Taken}
 use Rattle.stage_task.specs.Snapshots.{all_applied}
 use Rattle.stage_task.proofs.Records.{applied_behind, gives_there}
@@ -83,7 +83,7 @@ loop-item-preserved-in-Ok g c =
     let given = apply c.in-Some.stage.now r in
     let gives : given ≡ apply_behind out.job.now out.edge line = gives_there c.args.out.now.job out.job c.args.out.now.edge out.edge given line v.same.job v.same.edge
     (applied_behind c.args.out.now.job.now c.args.out.now.edge c.as_slice.result.now c.in-Some.stage.now r line c.as_slice.ensures c.in-Some.ensures.lookup.3.0 (c.in-Some.ensures.lookup.3.1 c.in-Some.stage.now) c.as_slice-line.ensures) in
-    let goes = subst (λ (x : Taken). GoesOn gate c.loop-item.taking t (Ok x)) c.in-Ok-Line.field-0-is c.in-Ok-Line.ensures.goes_on in
+    let goes = subst (λ (x : Taken). TakingGoesOn gate c.loop-item.taking t (Ok x)) c.in-Ok-Line.field-0-is c.in-Ok-Line.ensures.goes_on in
     record {
       gate = (c.next-in-loop-item.ensures.gate.0 ∙ v.gate.0, c.next-in-loop-item.ensures.gate.1 ∙ v.gate.1);
       same = same_output c.args.out.now out c.apply_one.new.output c.apply_one.ensures.same v.same;
@@ -106,7 +106,7 @@ loop-item-preserved-in-Ok-2 g c =
     let given = apply c.in-Some.stage.now r in
     let gives : given ≡ apply_behind out.job.now out.edge line = gives_there c.args.out.now.job out.job c.args.out.now.edge out.edge given line v.same.job v.same.edge
     (applied_behind c.args.out.now.job.now c.args.out.now.edge c.as_slice.result.now c.in-Some.stage.now r line c.as_slice.ensures c.in-Some.ensures.lookup.3.0 (c.in-Some.ensures.lookup.3.1 c.in-Some.stage.now) c.as_slice-line.ensures) in
-    let goes = subst (λ (x : Taken). GoesOn gate c.loop-item.taking t (Ok x)) c.in-Ok-Line.field-0-is c.in-Ok-Line.ensures.goes_on in
+    let goes = subst (λ (x : Taken). TakingGoesOn gate c.loop-item.taking t (Ok x)) c.in-Ok-Line.field-0-is c.in-Ok-Line.ensures.goes_on in
     record {
       gate = (c.next-in-loop-item.ensures.gate.0 ∙ v.gate.0, c.next-in-loop-item.ensures.gate.1 ∙ v.gate.1);
       same = same_output c.args.out.now out c.apply_one.new.output c.apply_one.ensures.same v.same;

@@ -2,7 +2,7 @@ use Rattle.std.proofs.Common.{[], ◌∷◌, ◌++◌, sym, ◌∙◌, subst}
 use Rattle.std.specs.Prelude.{slice_set}
 use Rattle.std.proofs.lemmas.List.{length-set}
 use Rattle.barriers.specs.declared.aligner.Action.TheVariants.{Block, SnapshotInline}
-use Rattle.barriers.specs.Alignments.{Alignment, AddsBarrier, Answers, StandsFor, after, barrier}
+use Rattle.barriers.specs.Alignments.{Alignment, AddsBarrier, Answers, AlignmentStandsFor, alignment_next, barrier}
 use Rattle.barriers.specs.Counts.{Counts}
 use Rattle.barriers.proofs.Aligning.{adds, answers, goes_on}
 use Rattle.barriers.proofs.Counting.{blocks, snapshots}
@@ -24,11 +24,11 @@ returns-then-self-gt0-clause-given c =
 pub returns-then-self-gt0-clause-answers : goal.returns-then-self-gt0-clause-answers
 returns-then-self-gt0-clause-answers c =
     subst (λ (x : Alignment). Answers (barrier c.args.channel c.args.k) c.args.self.now Block x) (sym (returns-then-self-gt0-clause-after c))
-    (subst (λ y. Answers (barrier c.args.channel c.args.k) c.args.self.now y (after c.args.self.now (barrier c.args.channel c.args.k))) (sym (returns-then-self-gt0-clause-action c)) (answers c.args.self.now (barrier c.args.channel c.args.k) c.requires))
+    (subst (λ y. Answers (barrier c.args.channel c.args.k) c.args.self.now y (alignment_next c.args.self.now (barrier c.args.channel c.args.k))) (sym (returns-then-self-gt0-clause-action c)) (answers c.args.self.now (barrier c.args.channel c.args.k) c.requires))
 
 pub returns-then-self-gt0-clause-stands : goal.returns-then-self-gt0-clause-stands
 returns-then-self-gt0-clause-stands c channels barriers h =
-    subst (StandsFor channels (barriers ++ barrier c.args.channel c.args.k ∷ [])) (sym (returns-then-self-gt0-clause-after c)) (goes_on c.args.self.now (barrier c.args.channel c.args.k) c.requires channels barriers h)
+    subst (AlignmentStandsFor channels (barriers ++ barrier c.args.channel c.args.k ∷ [])) (sym (returns-then-self-gt0-clause-after c)) (goes_on c.args.self.now (barrier c.args.channel c.args.k) c.requires channels barriers h)
 
 pub invariant_of-self-2 : goal.invariant_of-self-2
 invariant_of-self-2 c = subst (λ n. Counts c.args.k n (slice_set c.self.inside.given.items c.args.channel c.args.k)) (length-set c.self.inside.given.items c.args.channel c.args.k ∙ sym c.self.inside.given.ok.0 ∙ sym c.len.ensures)
@@ -47,8 +47,8 @@ returns-clause-given c =
 pub returns-clause-answers : goal.returns-clause-answers
 returns-clause-answers c =
     subst (λ (x : Alignment). Answers (barrier c.args.channel c.args.k) c.args.self.now (SnapshotInline c.args.k) x) (sym (returns-clause-after c))
-    (subst (λ y. Answers (barrier c.args.channel c.args.k) c.args.self.now y (after c.args.self.now (barrier c.args.channel c.args.k))) (sym (returns-clause-action c)) (answers c.args.self.now (barrier c.args.channel c.args.k) c.requires))
+    (subst (λ y. Answers (barrier c.args.channel c.args.k) c.args.self.now y (alignment_next c.args.self.now (barrier c.args.channel c.args.k))) (sym (returns-clause-action c)) (answers c.args.self.now (barrier c.args.channel c.args.k) c.requires))
 
 pub returns-clause-stands : goal.returns-clause-stands
 returns-clause-stands c channels barriers h =
-    subst (StandsFor channels (barriers ++ barrier c.args.channel c.args.k ∷ [])) (sym (returns-clause-after c)) (goes_on c.args.self.now (barrier c.args.channel c.args.k) c.requires channels barriers h)
+    subst (AlignmentStandsFor channels (barriers ++ barrier c.args.channel c.args.k ∷ [])) (sym (returns-clause-after c)) (goes_on c.args.self.now (barrier c.args.channel c.args.k) c.requires channels barriers h)

@@ -2,7 +2,7 @@ use Rattle.std.proofs.Common.{rules, ◌≡◌, ◌-◌, ◌<◌, [], ◌∷◌,
 use Rattle.std.proofs.lemmas.List.{map-append}
 use Rattle.input_channel.specs.declared.entry.ReceiveEntry.TheVariants as entries
 use Rattle.input_channel.specs.Counts.{told}
-use Rattle.input_channel.specs.States.{ChannelState, after}
+use Rattle.input_channel.specs.States.{ChannelState, channel_next}
 use Rattle.script_text.specs.declared.event.Event.TheVariants as events
 use Rattle.script_text.specs.declared.reply.Reply.TheVariants as replies
 use Rattle.exchange_world.specs.Lanes.{floating_here}
@@ -28,7 +28,7 @@ returns c =
     let is = old_is b.lanes.items c.as_mut_slice.result.now i c.index-as_mut_slice-c.result c.as_mut_slice.ensures.value within in
     let of = old_lane b c.args.c old low high is c.requires.whole in
     let here = lane_now b c.args.c old low high is in
-    let inbox_is : inbox ≡ after old.inbox (entries.Credit n) = c.take_credit-n.ensures.channel in
+    let inbox_is : inbox ≡ channel_next old.inbox (entries.Credit n) = c.take_credit-n.ensures.channel in
     let told_is : n ≡ told old.inbox.counts = c.take_credit-n.ensures.told in
     let pushed : c.push_back.new.self.items ≡ b.controls.items ++ control_frames.AddCredit c.args.c n ∷ [] = search rules in
     acts b _ (events.Credit c.args.c) i old lane (replies.Credit c.args.c n) c.connections_stay_sound.ensures.steps c.requires.whole c.requires.channel within is

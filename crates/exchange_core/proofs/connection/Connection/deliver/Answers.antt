@@ -4,7 +4,7 @@ use Rattle.flow_defs.specs.declared.parcel.Parcel.{Parcel}
 use Rattle.local_pool.specs.Locals.{lent_of, limit_of}
 use Rattle.input_channel.specs.declared.entry.ReceiveEntry.TheVariants as entries
 use Rattle.input_channel.specs.Answers.{parcel_in, refused}
-use Rattle.input_channel.specs.States.{ChannelState, after}
+use Rattle.input_channel.specs.States.{ChannelState, channel_next}
 use Rattle.script_text.specs.declared.event.Event.TheVariants as events
 use Rattle.script_text.specs.declared.reply.Reply.TheVariants as replies
 use Rattle.script_text.specs.declared.reply.Reply.{Reply}
@@ -82,8 +82,8 @@ returns-in_ok-take_arrival-in-Some-Response g c =
     let of = old_lane b f.c old low high is c.requires in
     let here = lane_now b f.c old low high is in
     let p : Parcel = brought f.what f.content.items in
-    let came : ChannelState = after old.inbox (entries.Push p f.backlog) in
-    let brings : after old.inbox (entries.Push (parcel_in f.what c.as_slice.result.now) f.backlog) ≡ came = ap (λ (q : Parcel). after old.inbox (entries.Push q f.backlog)) (ap (parcel_in f.what) c.as_slice.ensures ∙ parcel_same f.what f.content.items) in
+    let came : ChannelState = channel_next old.inbox (entries.Push p f.backlog) in
+    let brings : channel_next old.inbox (entries.Push (parcel_in f.what c.as_slice.result.now) f.backlog) ≡ came = ap (λ (q : Parcel). channel_next old.inbox (entries.Push q f.backlog)) (ap (parcel_in f.what) c.as_slice.ensures ∙ parcel_same f.what f.content.items) in
     let told = c.in_ok-take_arrival-in-Some-Response.ensures in
     let inbox_is : inbox ≡ with_floats (limit_of b.gate) (lent_of b.gate) came = told.inbox ∙ ap (with_floats (limit_of b.gate) (lent_of b.gate)) brings in
     let stays : floating_here came ≡ floating_here old.inbox = floating_pushed old.inbox p f.backlog in
@@ -119,7 +119,7 @@ returns-in-Some-Announcement g c =
     let is = old_is b.lanes.items xs i item xs_are within in
     let of = old_lane b f.c old low high is c.requires in
     let here = lane_now b f.c old low high is in
-    let came : ChannelState = after old.inbox (entries.Backlog f.n) in
+    let came : ChannelState = channel_next old.inbox (entries.Backlog f.n) in
     let brings : c.on_backlog.new.self ≡ came = c.on_backlog.ensures in
     let inbox_is : inbox ≡ with_floats (limit_of b.gate) (lent_of b.gate) came = c.ask_floats.ensures.inbox ∙ ap (with_floats (limit_of b.gate) (lent_of b.gate)) brings in
     acts b _ events.Deliver i old lane (replies.Backlog f.c f.n) c.connections_stay_sound.ensures.steps c.requires tt within is

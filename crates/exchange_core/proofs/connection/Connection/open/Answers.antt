@@ -1,6 +1,6 @@
 use Rattle.std.proofs.Common.{◌≡◌, ◌*◌, ◌≤◌, All, ap, sym, subst, ◌∙◌, get_or, arith}
 use Rattle.exchange_core.specs.declared.connection.Connection.{Connection}
-use Rattle.exchange_core.specs.Opening.{lane_share, gate_share, IsReady}
+use Rattle.exchange_core.specs.Opening.{lane_share, gate_share, IsPoolReady}
 use Rattle.exchange_core.proofs.Shares.{lane_gets, gate_gets, first_share, last_share}
 use Rattle.exchange_core.proofs.Opening.{opened_world, opened_whole}
 use Rattle.exchange_core.proofs.connection.Connection.open.Goals as goal
@@ -9,7 +9,7 @@ pub local_of-requires-clause-pass : goal.local_of-requires-clause-pass
 local_of-requires-clause-pass g c =
     let m = c.args.channels in let total = c.args.total in
     let gate : c.index-gate_limit.result.now ≡ gate_share m total = c.index-gate_limit.ensures ∙ (ap (λ ls. get_or ls m c.index-gate_limit.result.now) c.in_ok-limits.ensures.limits ∙ last_share m total c.index-gate_limit.result.now) in
-    subst (λ l. IsReady c.in_ok-pool.pool l c.in_ok-pool.pass) (sym gate) c.in_ok-pool.ensures.gate
+    subst (λ l. IsPoolReady c.in_ok-pool.pool l c.in_ok-pool.pass) (sym gate) c.in_ok-pool.ensures.gate
 
 pub local_of-requires-clause-limit : goal.local_of-requires-clause-limit
 local_of-requires-clause-limit g c =
@@ -21,7 +21,7 @@ pub open_lanes-requires-clause-passes : goal.open_lanes-requires-clause-passes
 open_lanes-requires-clause-passes g c =
     let m = c.args.channels in let total = c.args.total in
     let lane : c.index-partition_limit.result.now ≡ lane_share m total = c.index-partition_limit.ensures ∙ (ap (λ ls. get_or ls 0 c.index-partition_limit.result.now) c.in_ok-limits.ensures.limits ∙ first_share m total c.index-partition_limit.result.now c.requires.opening.some_channels) in
-    subst (λ l. All (IsReady c.in_ok-pool.pool l) c.in_ok-pool.passes.items) (sym lane) c.in_ok-pool.ensures.lanes
+    subst (λ l. All (IsPoolReady c.in_ok-pool.pool l) c.in_ok-pool.passes.items) (sym lane) c.in_ok-pool.ensures.lanes
 
 pub open_lanes-requires-clause-limit : goal.open_lanes-requires-clause-limit
 open_lanes-requires-clause-limit g c =

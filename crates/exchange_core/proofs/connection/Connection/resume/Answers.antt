@@ -1,7 +1,7 @@
 use Rattle.std.proofs.Common.{rules, ◌≡◌, ◌-◌, ◌<◌, [], ◌∷◌, ◌++◌, map, length, get_or, refl, sym, ap, subst, ◌∙◌, arith}
 use Rattle.std.proofs.lemmas.List.{map-append, length-map}
 use Rattle.input_channel.specs.declared.entry.ReceiveEntry.TheVariants as entries
-use Rattle.input_channel.specs.States.{ChannelState, after}
+use Rattle.input_channel.specs.States.{ChannelState, channel_next}
 use Rattle.script_text.specs.declared.event.Event.TheVariants as events
 use Rattle.script_text.specs.declared.reply.Reply.TheVariants as replies
 use Rattle.exchange_world.specs.Lanes.{floating_here}
@@ -25,7 +25,7 @@ returns c =
     let is = old_is b.lanes.items c.as_mut_slice.result.now i c.index-as_mut_slice-c.result c.as_mut_slice.ensures.value within in
     let of = old_lane b c.args.c old low high is c.requires.whole in
     let here = lane_now b c.args.c old low high is in
-    let inbox : ChannelState = after (after old.inbox entries.Ask) entries.Resume in
+    let inbox : ChannelState = channel_next (channel_next old.inbox entries.Ask) entries.Resume in
     let lane_is : lane ≡ with_inbox old inbox old.reader = c.resume_lane.ensures in
     let pushed : c.push_back.new.self.items ≡ b.controls.items ++ control_frames.Resumption c.args.c ∷ [] = search rules in
     acts b _ (events.Resume c.args.c) i old lane replies.Done c.connections_stay_sound.ensures.steps c.requires.whole c.requires.channel within is

@@ -3,14 +3,14 @@ use Rattle.flow_defs.specs.declared.parcel.Parcel.TheVariants as parcels
 use Rattle.flow_defs.specs.Parcels.{barriers_of}
 use Rattle.input_channel.specs.declared.held.HeldBuf.{HeldBuf}
 use Rattle.input_channel.specs.Lines.{Line, kinds_of}
-use Rattle.input_channel.specs.Kept.{AreOfLength, IsKept}
-use Rattle.input_channel.proofs.KeptLemmas.{barriers_of-append}
+use Rattle.input_channel.specs.Kept.{AreOfLength, ArePartsKept}
+use Rattle.flow_defs.proofs.ParcelLemmas.{barriers_of-append}
 use Rattle.input_channel.proofs.channel.InputChannel.accept_barrier.Goals as goal
 
 pub invariant_of-self-2 : goal.invariant_of-self-2
 invariant_of-self-2 c =
     let f = c.deref_mut-parts.result.now in
-    let is : IsKept f = subst IsKept (sym c.deref_mut-parts.ensures.value) c.self.invariant in
+    let is : ArePartsKept f = subst ArePartsKept (sym c.deref_mut-parts.ensures.value) c.self.invariant in
     let next : c.args.k ≡ suc f.last = search rules in
     let new = c.in_ok-push_barrier.ensures.ok in
     let held : c.push_barrier.new.self.buffers ≡ f.queue.buffers = ap (λ (l : Line). l.buffers) new in

@@ -7,17 +7,18 @@ use Rattle.input_channel.specs.Counts.{Counts, with_data}
 use Rattle.input_channel.specs.States.{ChannelState}
 use Rattle.input_channel.specs.Steps.{with_data_in}
 use Rattle.input_channel.specs.Lines.{Line, kinds_of}
-use Rattle.input_channel.specs.Kept.{AreOfLength, counts_of, queue_of, IsKept, state_of}
+use Rattle.input_channel.specs.Kept.{AreOfLength, counts_of, queue_of, ArePartsKept, state_of}
 use Rattle.input_channel.specs.Contents.{content}
 use Rattle.input_channel.proofs.CountLemmas.{count-snoc}
 use Rattle.input_channel.proofs.PollLemmas.{accepts_data}
-use Rattle.input_channel.proofs.KeptLemmas.{free_taken, kinds-all, kinds-more, length-kinds, buffers-more, both, no_end, same_counts, barriers_of-append}
+use Rattle.input_channel.proofs.KeptLemmas.{free_taken, kinds-all, kinds-more, length-kinds, buffers-more, both, no_end, same_counts}
+use Rattle.flow_defs.proofs.ParcelLemmas.{barriers_of-append}
 use Rattle.input_channel.proofs.channel.InputChannel.accept_data.Goals as goal
 
 pub push_data-requires : goal.push_data-requires
 push_data-requires c =
     let f = c.deref_mut-parts.result.now in
-    let is : IsKept f = subst IsKept (sym c.deref_mut-parts.ensures.value) c.self.invariant in
+    let is : ArePartsKept f = subst ArePartsKept (sym c.deref_mut-parts.ensures.value) c.self.invariant in
     let all = kinds-all (kinds_of f.queue.buffers) in
     let long = length-kinds f.queue.buffers in
     let places : f.queue.room ≡ f.room = is.queue_places in
@@ -26,7 +27,7 @@ push_data-requires c =
 pub invariant_of-self-2 : goal.invariant_of-self-2
 invariant_of-self-2 c =
     let f = c.deref_mut-parts.result.now in
-    let is : IsKept f = subst IsKept (sym c.deref_mut-parts.ensures.value) c.self.invariant in
+    let is : ArePartsKept f = subst ArePartsKept (sym c.deref_mut-parts.ensures.value) c.self.invariant in
     let t = c.take_free-segment in
     let taken = free_taken f.size t.result.1 t.result.0 f.floating t.new.floating f.exclusive t.new.exclusive t.ensures.kind t.ensures.floating t.ensures.exclusive is.floating_sizes is.exclusive_sizes in
     let buf = c.filled.result in
@@ -63,7 +64,7 @@ invariant_of-self-2 c =
 pub returns-clause-accepted : goal.returns-clause-accepted
 returns-clause-accepted c =
     let f = c.deref_mut-parts.result.now in
-    let is : IsKept f = subst IsKept (sym c.deref_mut-parts.ensures.value) c.self.invariant in
+    let is : ArePartsKept f = subst ArePartsKept (sym c.deref_mut-parts.ensures.value) c.self.invariant in
     let view_is : state_of f ≡ c.args.self.now = ap state_of c.deref_mut-parts.ensures.value ∙ c.self.view_is in
     let t = c.take_free-segment in
     let taken = free_taken f.size t.result.1 t.result.0 f.floating t.new.floating f.exclusive t.new.exclusive t.ensures.kind t.ensures.floating t.ensures.exclusive is.floating_sizes is.exclusive_sizes in

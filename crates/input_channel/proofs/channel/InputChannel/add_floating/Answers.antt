@@ -2,7 +2,7 @@ use Rattle.std.proofs.Common.{◌≡◌, ℕ, ◌+◌, ◌<◌, length, List, []
 use Rattle.circular_buffer.specs.Buffer.{Buffer}
 use Rattle.input_channel.specs.Counts.{wants}
 use Rattle.input_channel.specs.States.{ChannelState}
-use Rattle.input_channel.specs.Kept.{HaveLength, counts_of, IsKept, state_of}
+use Rattle.input_channel.specs.Kept.{HaveLength, counts_of, ArePartsKept, state_of}
 use Rattle.input_channel.proofs.LineLemmas.{keep_last-fits}
 use Rattle.input_channel.proofs.KeptLemmas.{lengths-more}
 use Rattle.input_channel.proofs.channel.InputChannel.add_floating.Goals as goal
@@ -10,7 +10,7 @@ use Rattle.input_channel.proofs.channel.InputChannel.add_floating.Goals as goal
 pub invariant_of-self : goal.invariant_of-self
 invariant_of-self c =
     let f = c.deref_mut-parts.result.now in
-    let is : IsKept f = subst IsKept (sym c.deref_mut-parts.ensures.value) c.self.invariant in
+    let is : ArePartsKept f = subst ArePartsKept (sym c.deref_mut-parts.ensures.value) c.self.invariant in
     let view_is : state_of f ≡ c.args.self.now = ap state_of c.deref_mut-parts.ensures.value ∙ c.self.view_is in
     let wanted : 0 < wants f.room (counts_of f.exclusive.items f.floating.items f.queue f.pending f.required f.is_shut) =
     subst (λ (s : ChannelState). 0 < wants s.room s.counts) (sym view_is) c.requires.wanted in

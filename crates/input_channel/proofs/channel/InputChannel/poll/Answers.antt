@@ -9,11 +9,11 @@ use Rattle.input_channel.specs.declared.polled.Polled.TheVariants as answers
 use Rattle.input_channel.specs.Inboxes.{due, undue, is_barrier, poll_gives, poll_leaves}
 use Rattle.input_channel.specs.Counts.{counts_one}
 use Rattle.input_channel.specs.Legal.{owes, inline_in}
-use Rattle.input_channel.specs.States.{ChannelState, after}
+use Rattle.input_channel.specs.States.{ChannelState, channel_next}
 use Rattle.input_channel.specs.Answers.{gave_of, IsBufferOf}
 use Rattle.input_channel.specs.Contents.{content}
 use Rattle.input_channel.specs.Lines.{Line, kinds_of}
-use Rattle.input_channel.specs.Kept.{state_of, queue_of, counts_of, AreOfLength, IsKept}
+use Rattle.input_channel.specs.Kept.{state_of, queue_of, counts_of, AreOfLength, ArePartsKept}
 use Rattle.input_channel.proofs.PollLemmas.{queue_due, due-first, gives_due, holds_back, polled_none, polled_some, same_state, undue-length, owes-low, counts-poll, buffers-first}
 use Rattle.input_channel.proofs.channel.InputChannel.poll.Goals as goal
 
@@ -37,7 +37,7 @@ returns-then-hold-clause-channel c =
 pub overflow_add-parts : goal.overflow_add-parts
 overflow_add-parts c =
     let f = c.deref_mut-parts.result.now in
-    let is : IsKept f = subst IsKept (sym c.deref_mut-parts.ensures.value) c.self.invariant in
+    let is : ArePartsKept f = subst ArePartsKept (sym c.deref_mut-parts.ensures.value) c.self.invariant in
     let one = undue-length f.queue.parcels (ap is_barrier c.in-Some.ensures) in
     let small = owes-low c.in-Some.kind in
     omega (arith, one, small, c.owes.ensures, is.resumptions, is.last)
@@ -45,7 +45,7 @@ overflow_add-parts c =
 pub invariant_of-self-in-Some : goal.invariant_of-self-in-Some
 invariant_of-self-in-Some c =
     let f = c.deref_mut-parts.result.now in
-    let is : IsKept f = subst IsKept (sym c.deref_mut-parts.ensures.value) c.self.invariant in
+    let is : ArePartsKept f = subst ArePartsKept (sym c.deref_mut-parts.ensures.value) c.self.invariant in
     let new = c.pop_barrier.ensures in
     let one = undue-length f.queue.parcels (ap is_barrier c.in-Some.ensures) in
     let small = owes-low c.in-Some.kind in
@@ -94,12 +94,12 @@ returns-in-Some-clause-channel c =
     let owed_is : f.owed + c.owes.result ≡ v.owed + inline_in (p ∷ []) = ap (λ n. f.owed + n) (c.owes.ensures ∙ sym (add-zero (owes kind))) in
     same_state v _ _ _ _ _ _ left counts_are owed_is
     ∙ sym (polled_some v c.args.hold NoBuffer p (poll_leaves c.args.hold v.queue) given.0 refl)
-    ∙ ap (λ (s : ChannelState). after s (Poll c.args.hold NoBuffer)) view_is
+    ∙ ap (λ (s : ChannelState). channel_next s (Poll c.args.hold NoBuffer)) view_is
 
 pub returns-in-Some-pop_data-clause-answer : goal.returns-in-Some-pop_data-clause-answer
 returns-in-Some-pop_data-clause-answer c =
     let f = c.deref_mut-parts.result.now in
-    let is : IsKept f = subst IsKept (sym c.deref_mut-parts.ensures.value) c.self.invariant in
+    let is : ArePartsKept f = subst ArePartsKept (sym c.deref_mut-parts.ensures.value) c.self.invariant in
     let view_is : state_of f ≡ c.args.self.now = ap state_of c.deref_mut-parts.ensures.value ∙ c.self.view_is in
     let v : ChannelState = state_of f in
     let buf = c.in-Some-pop_data.buf in
@@ -130,4 +130,4 @@ returns-in-Some-pop_data-clause-channel c =
     ap (λ bs. record v.counts { held = drop 1 bs }) (ap kinds_of (sym c.in-Some-pop_data.ensures.1)) ∙ sym (counts-poll v.counts c.args.hold buf.exclusive) in
     same_state v _ _ _ _ _ _ queue_is counts_are (sym (add-zero f.owed))
     ∙ sym (polled_some v c.args.hold (gave_of (answers.Buffer buf)) p (poll_leaves c.args.hold v.queue) given.0 refl)
-    ∙ ap (λ (s : ChannelState). after s (Poll c.args.hold (gave_of (answers.Buffer buf)))) view_is
+    ∙ ap (λ (s : ChannelState). channel_next s (Poll c.args.hold (gave_of (answers.Buffer buf)))) view_is

@@ -2,7 +2,7 @@ use Rattle.std.proofs.Common.{◌≡◌, ℕ, ◌+◌, ◌-◌, ◌<◌, length,
 use Rattle.circular_buffer.specs.Buffer.{Buffer}
 use Rattle.input_channel.specs.Counts.{exclusive_held}
 use Rattle.input_channel.specs.States.{ChannelState, exclusive_here}
-use Rattle.input_channel.specs.Kept.{HaveLength, counts_of, IsKept, state_of}
+use Rattle.input_channel.specs.Kept.{HaveLength, counts_of, ArePartsKept, state_of}
 use Rattle.input_channel.proofs.LineLemmas.{keep_last-fits}
 use Rattle.input_channel.proofs.KeptLemmas.{lengths-more, lengths-less}
 use Rattle.input_channel.proofs.channel.InputChannel.recycle.Goals as goal
@@ -10,7 +10,7 @@ use Rattle.input_channel.proofs.channel.InputChannel.recycle.Goals as goal
 pub invariant_of-self-then-floating-gt0 : goal.invariant_of-self-then-floating-gt0
 invariant_of-self-then-floating-gt0 c =
     let f = c.deref_mut-parts.result.now in
-    let is : IsKept f = subst IsKept (sym c.deref_mut-parts.ensures.value) c.self.invariant in
+    let is : ArePartsKept f = subst ArePartsKept (sym c.deref_mut-parts.ensures.value) c.self.invariant in
     let view_is : state_of f ≡ c.args.self.now = ap state_of c.deref_mut-parts.ensures.value ∙ c.self.view_is in
     let segment = c.args.buf.segment in
     let ex : c.args.buf.exclusive ≡ true = search rules in
@@ -47,7 +47,7 @@ invariant_of-self-then-floating-gt0 c =
 pub invariant_of-self-2 : goal.invariant_of-self-2
 invariant_of-self-2 c =
     let f = c.deref_mut-parts.result.now in
-    let is : IsKept f = subst IsKept (sym c.deref_mut-parts.ensures.value) c.self.invariant in
+    let is : ArePartsKept f = subst ArePartsKept (sym c.deref_mut-parts.ensures.value) c.self.invariant in
     let view_is : state_of f ≡ c.args.self.now = ap state_of c.deref_mut-parts.ensures.value ∙ c.self.view_is in
     let segment = c.args.buf.segment in
     let ex : c.args.buf.exclusive ≡ true = search rules in

@@ -1,7 +1,7 @@
 use Rattle.std.proofs.Common.{List, [], ◌∷◌, ◌++◌, get_or, sym, ap, subst, ◌∙◌}
 use Rattle.std.proofs.lemmas.Option.{slice_get-get_or}
 use Rattle.subpartition.specs.Queues.{Queue}
-use Rattle.subpartition.specs.Standing.{StandsFor}
+use Rattle.subpartition.specs.Standing.{QueueStandsFor}
 use Rattle.flow_defs.specs.Items.{Items}
 use Rattle.record_writer.specs.Writers.{SendPass}
 use Rattle.conn_parts.proofs.Lists.{refilled_set}
@@ -11,7 +11,7 @@ use Rattle.job_cells.proofs.partitions.Partitions.add.Goals as goal
 
 pub add-requires-clause-new : goal.add-requires-clause-new
 add-requires-clause-new c =
-    subst (λ (queue : Queue). StandsFor queue []) (sym c.in_ok-state.ensures) (c.calls_add_entries.ensures.new c.args.size items_room)
+    subst (λ (queue : Queue). QueueStandsFor queue []) (sym c.in_ok-state.ensures) (c.calls_add_entries.ensures.new c.args.size items_room)
 
 pub returns-clause-way : goal.returns-clause-way
 returns-clause-way c =

@@ -7,7 +7,7 @@ use Rattle.job_text.specs.declared.lines.Line.{Line}
 use Rattle.job_text.specs.declared.lines.Line.TheVariants.{Source, Stage, Aggregate}
 use Rattle.job_text.specs.declared.fault.JobFault.{JobFault}
 use Rattle.job_text.specs.declared.fault.JobFault.TheVariants.{Extra}
-use Rattle.job_text.specs.Reading.{place_of, IsLine, GoesOn, Takes}
+use Rattle.job_text.specs.Reading.{place_of, IsLine, LinesGoOn, TakesLine}
 use Rattle.job_text.proofs.CutLemmas.{line_behind_last, nothing_behind_last, same_fault, takes, no_line, source_place, stage_place}
 use Rattle.job_text.proofs.lines.JobLines.next.Goals as goal
 use Rattle.job_text.proofs.lines.JobLines.next.Goals.{in-Source, in-Stage, in-Aggregate+else-not-is_empty}
@@ -32,8 +32,8 @@ returns-after-line-clause-ok g c =
     let rest = c.in-Some.rest.now in
     let lines_are = c.in-Some.ensures.some in
     let Is : Line → Type 0 = λ m. IsLine functions (place_of old) m text in
-    let taken : (l : Line) → c.in-Ok.line ≡ l → new.rest.now ≡ rest → GoesOn functions old new l → Takes functions old new c.in-Ok.line =
-    λ l is rest_is goes. subst (Takes functions old new) (sym is) (takes functions old text rest l lines_are (subst Is is c.in-Ok.ensures) new rest_is c.in-Some.ensures.shorter goes) in
+    let taken : (l : Line) → c.in-Ok.line ≡ l → new.rest.now ≡ rest → LinesGoOn functions old new l → TakesLine functions old new c.in-Ok.line =
+    λ l is rest_is goes. subst (TakesLine functions old new) (sym is) (takes functions old text rest l lines_are (subst Is is c.in-Ok.ensures) new rest_is c.in-Some.ensures.shorter goes) in
     elim c.match-line.branch [
       | in-Source w ↦
           let l = Source w.in-Source.file in

@@ -9,7 +9,7 @@ use Rattle.flow_defs.specs.contracts.job.Exchange.{the_type}
 use denote.Enum.Bare.{sameb}
 use Rattle.stage_fns.specs.Functions.{HasStage}
 use Rattle.job_text.specs.KnownKinds.{known}
-use Rattle.job_text.specs.JobFaults.{kind_of, number_of, exchange_of}
+use Rattle.job_text.specs.JobFaults.{stage_kind_of, number_of, exchange_of}
 use Rattle.job_text.specs.Reading.{place_of}
 use Rattle.job_text.proofs.ReadLemmas.{stage_is}
 use Rattle.job_text.proofs.lines.JobLines.read_stage.Goals as goal
@@ -27,7 +27,7 @@ returns-clause-ok g c =
     let some : 0 < c.args.self.now.sources = omega arith in
     let few : c.args.self.now.stages < STAGES_MAX = omega arith in
     let found : StageKind × List ℕ = (k, arg) in
-    let kind : kind_of c.args.kind.now ≡ Some found = search rules in
+    let kind : stage_kind_of c.args.kind.now ≡ Some found = search rules in
     let has : HasStage functions k = search rules in
     let tasks : number_of TASKS_MAX c.args.tasks.now ≡ Some n = search rules in
     let exchange : exchange_of c.args.exchange.now ≡ Some e = search rules in

@@ -5,7 +5,7 @@ use Rattle.credit_reader.specs.Senders.{AreDistinct, is_same, reader_of}
 use Rattle.credit_reader.specs.Readers.{fresh}
 use Rattle.reader_state.specs.declared.state.Early.{Early}
 use Rattle.reader_state.specs.Ledgers.{Ledger}
-use Rattle.reader_state.specs.Settling.{IsKept}
+use Rattle.reader_state.specs.Settling.{IsEarlyKept}
 use Rattle.reader_state.proofs.Placing.{is_kept, no_reader, no_early, reader_of_kept}
 use Rattle.reader_state.proofs.state.ReaderState.find.Goals as goal
 
@@ -22,7 +22,7 @@ returns-clause-found c =
     let p = λ (e : Early). is_same e.channel c.args.channel in
     let at : position p c.self.inside.early.items ≡ Some c.in_ok-place.place = ap (position p) (sym c.as_slice.ensures) ∙ sym c.in_ok-place.ensures in
     let x = get_or c.as_slice-2.result.now c.in_ok-place.place no_early in
-    subst (λ (l : Ledger). IsKept l.early c.args.channel (record { place = c.in_ok-place.place; early = x })) c.self.view_is
+    subst (λ (l : Ledger). IsEarlyKept l.early c.args.channel (record { place = c.in_ok-place.place; early = x })) c.self.view_is
     (is_kept c.self.inside.early.items c.self.inside.readers.readers c.self.invariant c.args.channel c.readers_are_in_order.ensures.channels c.in_ok-place.place x at (ap (λ es. get_or es c.in_ok-place.place no_early) c.as_slice-2.ensures))
 
 pub returns-clause-known : goal.returns-clause-known

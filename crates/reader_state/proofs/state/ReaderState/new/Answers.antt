@@ -1,7 +1,7 @@
 use Rattle.std.proofs.Common.{◌≡◌, [], map, ap, sym, subst, ◌∙◌}
 use Rattle.credit_reader.specs.Senders.{Sender, sender_of}
 use Rattle.reader_state.specs.declared.state.Early.{Early}
-use Rattle.reader_state.specs.Standing.{StandsFor}
+use Rattle.reader_state.specs.Standing.{LedgerStandsFor}
 use Rattle.reader_state.proofs.Opening.{fresh_names, early_names, opened_stands}
 use Rattle.reader_state.proofs.state.ReaderState.new.Goals as goal
 
@@ -12,5 +12,5 @@ invariant_of-result c =
 
 pub returns-clause-stands : goal.returns-clause-stands
 returns-clause-stands c =
-    subst (λ s. StandsFor (record { sender = s; early = c.in_ok-early.early.items }) []) (sym c.in_ok-readers.ensures)
-    (subst (λ es. StandsFor (record { sender = sender_of c.args.channels.now; early = es }) []) (sym c.in_ok-early.ensures) (opened_stands c.args.channels.now))
+    subst (λ s. LedgerStandsFor (record { sender = s; early = c.in_ok-early.early.items }) []) (sym c.in_ok-readers.ensures)
+    (subst (λ es. LedgerStandsFor (record { sender = sender_of c.args.channels.now; early = es }) []) (sym c.in_ok-early.ensures) (opened_stands c.args.channels.now))

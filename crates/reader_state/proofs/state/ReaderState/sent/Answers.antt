@@ -6,7 +6,7 @@ use Rattle.credit_reader.specs.Readers.{may_go}
 use Rattle.credit_reader.specs.Senders.{Sender, has_sent, reader_of}
 use Rattle.reader_state.specs.Ledgers.{Ledger, ended_by, with_early, settled, is_requested, MayEnter}
 use Rattle.reader_state.specs.declared.entry.ReaderEntry.TheVariants.{Sent}
-use Rattle.reader_state.specs.Settling.{IsKept}
+use Rattle.reader_state.specs.Settling.{IsEarlyKept}
 use Rattle.reader_state.proofs.Ledgers.{names_sent, asked_sent}
 use Rattle.reader_state.proofs.Calling.{goes_on}
 use Rattle.reader_state.proofs.state.ReaderState.sent.Goals as goal
@@ -30,7 +30,7 @@ unreachable-requires-in-Err c =
 pub returns-clause-sent : goal.returns-clause-sent
 returns-clause-sent c =
     let channel = c.args.channel in let es = c.self.inside.early.items in
-    let kept : IsKept es channel c.in-Some.kept = subst (λ (l : Ledger). IsKept l.early channel c.in-Some.kept) (sym c.self.view_is) c.in-Some.ensures.found in
+    let kept : IsEarlyKept es channel c.in-Some.kept = subst (λ (l : Ledger). IsEarlyKept l.early channel c.in-Some.kept) (sym c.self.view_is) c.in-Some.ensures.found in
     let now : Ledger = record { sender = c.sent-number.new.self; early = es } in
     c.in-Ok.ensures.ok
     ∙ goes_on channel c.in-Some.kept (ended_by c.args.what) (λ e. refl) now kept c.after_sent.result c.after_sent.ensures

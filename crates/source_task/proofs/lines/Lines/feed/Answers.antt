@@ -5,7 +5,7 @@ use Rattle.flow_defs.specs.Records.{IsShort}
 use Rattle.job_plan.specs.Begun.{IsBegun}
 use Rattle.job_plan.proofs.LinesLemmas.{none_begun, ends}
 use Rattle.source_task.specs.Emitting.{HasEmitted}
-use Rattle.source_task.specs.Cutting.{IsUnderWay}
+use Rattle.source_task.specs.Cutting.{IsSourceUnderWay}
 use Rattle.source_task.proofs.Emitting.{same_itself, same_twice}
 use Rattle.source_task.proofs.CuttingLemmas.{all-append, broke_at, line_fault, fed_rest}
 use Rattle.source_task.proofs.lines.Lines.feed.Goals as goal
@@ -14,7 +14,7 @@ pub lines-init : goal.lines-init
 lines-init g c = record {
   same = same_itself c.args.output.now;
   reading = c.requires;
-  cut = λ job size ended way. ([], subst (IsUnderWay job size c.args.output.now c.args.self.now.line.items) (sym (append-nil ended)) way, λ more. refl);
+  cut = λ job size ended way. ([], subst (IsSourceUnderWay job size c.args.output.now c.args.self.now.line.items) (sym (append-nil ended)) way, λ more. refl);
 }
 
 pub lines-preserved : goal.lines-preserved

@@ -1,0 +1,99 @@
+-- What readers were told to stand first, while turns are taken.
+use Rattle.std.proofs.Common.{◌≡◌, ◌≢◌, inl, inr, ℕ, zero, suc, ◌<◌, true, false, List, [], ◌∷◌, length, get_or, refl, sym, ap, subst, ◌∙◌, arith}
+use Rattle.std.specs.Prelude.{slice_get, Some}
+use Rattle.std.proofs.lemmas.Bool.{eqb-true, eq-eqb, and_parts, and_from, cases_eq, cases_order, false_from_ne_true}
+use Rattle.flow_defs.specs.declared.task.ChannelId.{ChannelId}
+use Rattle.flow_defs.specs.declared.task.Head.{Head}
+use Rattle.credit_reader.specs.Senders.{AreDistinct, is_same}
+use Rattle.reader_state.specs.declared.entry.ReaderEntry.{ReaderEntry}
+use Rattle.reader_state.specs.Turning.{head_told, HeadsStay, HeadsChange}
+use Rattle.conn_parts.specs.Shares.{seen_at}
+use Rattle.conn_send_items.specs.Fronts.{SendPass, front_after, FrontStays, OthersStay, StandsAt}
+
+-- ---- ids of channels
+
+abbrev id_of : ℕ → ℕ → ℕ → ChannelId
+id_of edge from to = record { edge = edge; from = from; to = to }
+
+pub is_same_self : (c : ChannelId) → is_same c c ≡ true
+is_same_self c = and_from _ _ (and_from _ _ (eq-eqb c.edge c.edge refl) (eq-eqb c.from c.from refl)) (eq-eqb c.to c.to refl)
+
+pub same_channel : (c d : ChannelId) → is_same c d ≡ true → c ≡ d
+same_channel c d test =
+    let parts = and_parts _ _ test in
+    let front = and_parts _ _ parts.0 in
+    ap (λ n. id_of n c.from c.to) (eqb-true _ _ front.0) ∙ ap (λ n. id_of d.edge n c.to) (eqb-true _ _ front.1) ∙ ap (λ n. id_of d.edge d.from n) (eqb-true _ _ parts.1)
+
+is_other : (c d : ChannelId) → (c ≡ d → ⊥) → is_same c d ≡ false
+is_other c d other = false_from_ne_true _ (λ test. other (same_channel c d test))
+
+-- ---- places of channels
+
+some_is : {X : Type 0} (x y : X) → Some x ≡ Some y → x ≡ y
+some_is x y e = cc
+
+pub there : {X : Type 0} (xs : List X) (k : ℕ) (x : X) → slice_get xs k ≡ Some x → (k < length xs) × ((d : X) → get_or xs k d ≡ x)
+there [] k x is = absurd (cc)
+there (y ∷ xs) zero x is = (omega arith, λ d. some_is y x is)
+there (y ∷ xs) (suc k) x is = let t = there xs k x is in (omega (arith, t.0), t.1)
+
+pub stands_in : {X : Type 0} (xs : List X) (k : ℕ) (d : X) → k < length xs → slice_get xs k ≡ Some (get_or xs k d)
+stands_in [] k d within = absurd (omega arith)
+stands_in (y ∷ xs) zero d within = refl
+stands_in (y ∷ xs) (suc k) d within = stands_in xs k d (omega arith)
+
+-- Channels at two places are two.
+pub apart_at : (channels : List ChannelId) → AreDistinct channels → (j k : ℕ) (c d : ChannelId) → slice_get channels j ≡ Some c → slice_get channels k ≡ Some d → j ≢ k → is_same c d ≡ false
+apart_at channels distinct j k c d at_j at_k ne =
+    let a = there channels j c at_j in let b = there channels k d at_k in
+    is_other c d (λ same. elim (cases_order j k) [
+      | inl is ↦ ne is
+      | inr other ↦ elim other [
+        | inl less ↦ distinct j k c less b.0 (a.1 c ∙ same ∙ sym (b.1 c))
+        | inr more ↦ distinct k j c more a.0 (b.1 c ∙ sym same ∙ sym (a.1 c))
+      ]
+    ])
+
+-- The channel at a place.
+abbrev pub channel_at : List ChannelId → ℕ → ChannelId
+channel_at channels k = get_or channels k (id_of 0 0 0)
+
+pub channel_there : (channels : List ChannelId) (k : ℕ) → k < length channels → slice_get channels k ≡ Some (channel_at channels k)
+channel_there channels k within = stands_in channels k (id_of 0 0 0) within
+
+pub one_at : (channels : List ChannelId) (k : ℕ) (c d : ChannelId) → slice_get channels k ≡ Some c → slice_get channels k ≡ Some d → c ≡ d
+one_at channels k c d at_c at_d = some_is c d (sym at_c ∙ at_d)
+
+-- ---- what stands first
+
+module _ (channels : List ChannelId) (place : ℕ) (passes now : List SendPass) (others : OthersStay place passes now) where
+  -- A look keeps what stands.
+  pub stands_looked : (history : List (ℕ × ReaderEntry)) → FrontStays (seen_at place passes) (seen_at place now) → (k : ℕ) → StandsAt channels history passes k → StandsAt channels history now k
+  stands_looked history stays k stood c at some = elim (cases_eq k place) [
+    | inl is ↦
+        let stood_there = subst (StandsAt channels history passes) is stood in
+        let at_place : slice_get channels place ≡ Some c = ap (slice_get channels) (sym is) ∙ at in
+        let front = stood_there c at_place some in
+        ap (λ j. front_after (seen_at j now)) is ∙ stays (λ none. some (sym front ∙ none)) ∙ front
+    | inr ne ↦ ap front_after (others k ne) ∙ stood c at some
+  ]
+
+  module _ (distinct : AreDistinct channels) (channel : ChannelId) (is_there : slice_get channels place ≡ Some channel) (head : Head) (before after : List (ℕ × ReaderEntry))
+      (heads : HeadsChange channels channel head before after) (front : front_after (seen_at place now) ≡ head) where
+    -- What is told to stand first at a place stands there.
+    pub stands_told : StandsAt channels after now place
+    stands_told c at some = front ∙ sym heads.told ∙ ap (λ d. head_told channels d after) (one_at channels place channel c is_there at)
+
+    -- And what stood at others stays.
+    pub stands_on : (k : ℕ) → (k ≢ place → StandsAt channels before passes k) → StandsAt channels after now k
+    stands_on k stood = elim (cases_eq k place) [
+      | inl is ↦ subst (StandsAt channels after now) (sym is) stands_told
+      | inr ne ↦ λ c at some.
+          let same = heads.others c (apart_at channels distinct k place c channel at is_there ne) in
+          ap front_after (others k ne) ∙ stood ne c at (λ none. some (same ∙ none)) ∙ sym same
+    ]
+
+-- Turns at the readers that tell of no head keep what stands.
+pub stands_stay : (channels : List ChannelId) (passes : List SendPass) (before after : List (ℕ × ReaderEntry)) → HeadsStay channels before after → (k : ℕ) →
+    StandsAt channels before passes k → StandsAt channels after passes k
+stands_stay channels passes before after stay k stood c at some = stood c at (λ none. some (stay c ∙ none)) ∙ sym (stay c)

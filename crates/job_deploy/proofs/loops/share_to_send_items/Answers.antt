@@ -1,0 +1,11 @@
+use Rattle.std.proofs.Common.{refl}
+use Rattle.std.specs.Prelude.{Some}
+use Rattle.conn_parts.specs.declared.share.SharePasses.{SharePasses}
+use Rattle.job_deploy.proofs.Lent.{may_send}
+use Rattle.job_deploy.proofs.loops.share_to_send_items.Goals as goal
+
+pub returns-clause-may : goal.returns-clause-may
+returns-clause-may c =
+    let passes : SharePasses = record { readers = Some c.args.send_items; subpartitions = c.args.takers; inputs = c.new.result; pools = c.args.pools; stop = c.next_stop-stop.result } in
+    let share = c.sending_share in
+    may_send c.args.size c.args.edge.now c.next_stop-stop.new.self.stop.now share.result passes c.requires.edge share.ensures.over share.ensures.passes c.next_stop-stop.ensures.pass.0 c.args.send_items refl c.requires.send_items c.requires.takers share.ensures.pools c.requires.pools

@@ -13,9 +13,9 @@ use Rattle.outside.specs.declared.last_image.Stored.{Stored}
 use Rattle.barriers.specs.Alignments.{is_open}
 use Rattle.input_gate.specs.Gates.{Account}
 use Rattle.snapshot_channel.specs.Passes.{sent_by}
-use Rattle.task_output.specs.Waiting.{KnowsLast, HasWaited, SeenIsWaited, WaitedStays}
+use Rattle.task_output.specs.Waiting.{LastIs, KnowsLast, HasWaited, SeenIsWaited, WaitedStays}
 use Rattle.task_taking.specs.Takings.{Taking, HasTaken, IsInStep}
-use Rattle.task_taking.specs.Endings.{ResumedIsGiven, IsTakerEnd, LastIs}
+use Rattle.task_taking.specs.Endings.{ResumedIsGiven, IsTakerEnd}
 use Rattle.aggregate_task.specs.declared.acks.Acks.{Acks}
 use Rattle.aggregate_task.specs.Snapshots.{AreSnapshots, SentSnapshot, all_taken}
 use Rattle.aggregate_task.specs.Acknowledging.{IsSame, IsCountUnderWay, IsAtCheckpoint, BreaksFor}

@@ -17,12 +17,12 @@ use Rattle.plain_machine.specs.Histories.{records}
 use Rattle.plain_machine.specs.Images.{HasShortKeys}
 use Rattle.input_gate.specs.Gates.{Account}
 use Rattle.snapshot_channel.specs.Passes.{sent_by}
-use Rattle.task_output.specs.Waiting.{HasWaited}
+use Rattle.task_output.specs.Waiting.{LastIs, HasWaited}
 use Rattle.task_taking.specs.declared.taking.Taken.{Taken}
 use Rattle.task_taking.specs.declared.taking.Taken.TheVariants as taken
 use Rattle.task_taking.specs.Takings.{Taking, HasTaken, IsInStep, AllBlocked}
 use Rattle.task_taking.specs.Steps.{TookNext, TakingGoesOn, IsTakerCause}
-use Rattle.task_taking.specs.Endings.{TakenIsGiven, BarrierIsGiven, IsTakerEnd, LastIs}
+use Rattle.task_taking.specs.Endings.{TakenIsGiven, BarrierIsGiven, IsTakerEnd}
 use Rattle.task_taking.proofs.InStep.{all_stopped}
 use Rattle.aggregate_task.specs.declared.acks.Acks.{Acks}
 use Rattle.aggregate_task.specs.Snapshots.{all_taken}

@@ -18,9 +18,8 @@ use Rattle.outside.specs.declared.last_image.Stored.{Stored}
 use Rattle.input_gate.specs.Gates.{Account}
 use Rattle.snapshot_channel.specs.Passes as channels
 use Rattle.snapshot_channel.specs.Passes.{opening, opening_of, sent_by, task_of}
-use Rattle.task_output.specs.Waiting.{HasWaited, KnowsLast}
+use Rattle.task_output.specs.Waiting.{LastIs, HasWaited, KnowsLast}
 use Rattle.task_taking.specs.Takings.{Taking, HasTaken, IsAtBarrier, IsInStep, AllBlocked}
-use Rattle.task_taking.specs.Endings.{LastIs}
 use Rattle.aggregate_task.specs.declared.acks.Acks.{Acks}
 use Rattle.aggregate_task.specs.declared.checkpoint.Ending.{Ending}
 use Rattle.aggregate_task.specs.Snapshots.{AreSnapshots, SentSnapshot, all_taken}

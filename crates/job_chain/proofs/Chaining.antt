@@ -61,7 +61,7 @@ module _ (laws : Laws) (job : Job) (size : ℕ) (every : Option ℕ) (bytes : �
   of_source : (a : ℕ) → a < tasks job 0 → TellsOf 0 a
   of_source a inside =
       let did = ran.sources a inside in
-      let has = laws.source job (lines_of bytes) base a size every (own 0 a) (sent 0 a) (bytes a) did.fell did.rose did.cause start inside refl did.account in
+      let has = laws.source job (lines_of bytes) base a size every (own 0 a) (sent 0 a) did.history (bytes a) did.fell did.rose did.cause start inside refl did.account in
       (has.0, has.1, record { account = has.2; gave = λ e is. absurd (omega (arith, is)); no_flight = source_none a every 0 0 0 did.account.groups (sent 0 a) did.account.snapshots })
 
   behind : {e f : ℕ} → suc e ≡ suc f → e ≡ f

@@ -31,10 +31,11 @@ use Rattle.collecting_worker.specs.Laws.{AreCollected}
 
 -- A source of these bytes, by its passes and its snapshots.
 pub record SourceDid (job : Job) (a size : ℕ) (every : Option ℕ) (bytes : List ℕ) (own : List SendPass) (sent : List Snapshot) : Type 0 where
+  pub history : List (ℕ × Stored)
   pub fell : ℕ
   pub rose : ℕ
   pub cause : Cause
-  pub account : SourceAccount job a size every own sent (Some bytes) fell rose cause
+  pub account : SourceAccount job a size every own sent history (Some bytes) fell rose cause
 
 -- A gate's account tells what the polls by its passes gave.
 abbrev pub TellsGiven : List InputPass → Account → Type 0

@@ -29,16 +29,16 @@ use Rattle.job_outcome.proofs.Running.{is_own, is_gate, is_sent, source_at, stag
 
 -- ---- accounts of the same things
 
-same_source : (job : Job) (k a m n : ℕ) (e f : Option ℕ) (xs ys : List SendPass) (ss ts : List Snapshot) (o p : Option (List ℕ))
+same_source : (job : Job) (k a m n : ℕ) (e f : Option ℕ) (xs ys : List SendPass) (ss ts : List Snapshot) (history : List (ℕ × Stored)) (o p : Option (List ℕ))
     (fell rose : ℕ) (cause : Cause) → k ≡ a → m ≡ n → e ≡ f → xs ≡ ys → ss ≡ ts → o ≡ p →
-    SourceAccount job k m e xs ss o fell rose cause → SourceAccount job a n f ys ts p fell rose cause
-same_source job k a m n e f xs ys ss ts o p fell rose cause index size every own sent left h =
-    subst (λ (x : Option (List ℕ)). SourceAccount job a n f ys ts x fell rose cause) left
-    (subst (λ (x : List Snapshot). SourceAccount job a n f ys x o fell rose cause) sent
-    (subst (λ (x : List SendPass). SourceAccount job a n f x ss o fell rose cause) own
-    (subst (λ (x : Option ℕ). SourceAccount job a n x xs ss o fell rose cause) every
-    (subst (λ (x : ℕ). SourceAccount job a x e xs ss o fell rose cause) size
-    (subst (λ (x : ℕ). SourceAccount job x m e xs ss o fell rose cause) index h)))))
+    SourceAccount job k m e xs ss history o fell rose cause → SourceAccount job a n f ys ts history p fell rose cause
+same_source job k a m n e f xs ys ss ts history o p fell rose cause index size every own sent left h =
+    subst (λ (x : Option (List ℕ)). SourceAccount job a n f ys ts history x fell rose cause) left
+    (subst (λ (x : List Snapshot). SourceAccount job a n f ys x history o fell rose cause) sent
+    (subst (λ (x : List SendPass). SourceAccount job a n f x ss history o fell rose cause) own
+    (subst (λ (x : Option ℕ). SourceAccount job a n x xs ss history o fell rose cause) every
+    (subst (λ (x : ℕ). SourceAccount job a x e xs ss history o fell rose cause) size
+    (subst (λ (x : ℕ). SourceAccount job x m e xs ss history o fell rose cause) index h)))))
 
 same_stage : (job : Job) (d e k b m n : ℕ) (i j : Option ℕ) (gate : Account) (xs ys : List SendPass) (ss ts : List Snapshot)
     (history : List (ℕ × Stored)) (takes : List TakeRun) (cause : Cause) → d ≡ e → k ≡ b → m ≡ n → i ≡ j → xs ≡ ys → ss ≡ ts →
@@ -71,17 +71,18 @@ module _ {S O I L N : Type 0} {left : S → Option (List ℕ)} {faults : S → �
     job size every snapshots edges inputs wires before after fell rose rows loops collected) where
   -- The account of a source of these bytes, and what each kind of task did.
   pub source_account : (bytes : ℕ → List ℕ) → AreTold left inputs bytes → (a : ℕ) (low : a < tasks job 0) →
-      SourceAccount job a size every (own_at rows 0 a) (snapshots_at rows 0 a) (Some (bytes a))
+      SourceAccount job a size every (own_at rows 0 a) (snapshots_at rows 0 a) (source_at run a low).by.history (Some (bytes a))
       (faults (source_at run a low).task.input) (faults (source_at run a low).by.input) (source_at run a low).end.left.cause
   source_account bytes told a low =
       let s = source_at run a low in
-      same_source job _ a _ size _ every _ (own_at rows 0 a) _ (snapshots_at rows 0 a) _ (Some (bytes a)) _ _ _
+      same_source job _ a _ size _ every _ (own_at rows 0 a) _ (snapshots_at rows 0 a) _ _ (Some (bytes a)) _ _ _
       s.was.index s.was.partition.size_is s.was.lent.every_is (sym (is_own rows 0 a s.end)) (sym (is_sent rows 0 a s.end))
       (told a s.task.input s.was.input) s.by.account
 
   pub source_did : (bytes : ℕ → List ℕ) → AreTold left inputs bytes → (a : ℕ) → a < tasks job 0 →
       SourceDid job a size every (bytes a) (own_at rows 0 a) (snapshots_at rows 0 a)
   source_did bytes told a low = record {
+    history = (source_at run a low).by.history;
     fell = faults (source_at run a low).task.input;
     rose = faults (source_at run a low).by.input;
     cause = (source_at run a low).end.left.cause;

@@ -106,7 +106,8 @@ pub record LeftBySource {S : Type 0} (left : S → Option (List ℕ)) (faults : 
   pub no_gate : end.gate ≡ None
   pub partition : HasPartitionPasses job 0 task.partition end.partition
   pub snapshots : HasSnapshotPass 0 task.index task.lent end.snapshots
-  pub account : SourceAccount job task.index task.partition.size task.lent.every (passes_in end.partition) (snapshots_in end.snapshots) (left task.input) (faults task.input) (faults input) end.cause
+  pub history : List (ℕ × Stored)
+  pub account : SourceAccount job task.index task.partition.size task.lent.every (passes_in end.partition) (snapshots_in end.snapshots) history (left task.input) (faults task.input) (faults input) end.cause
 
 -- A stateless task has its account by what its gate's passes tell.
 pub record LeftByStage {S : Type 0} (job : Job) (task : StageTask) (end : TaskLeft S) : Type 0 where

@@ -135,7 +135,7 @@ place_of Rebalance a n b within joined = record { inside = within; leads = refl 
 place_of Forward a n b within joined = record { inside = omega arith; leads = eqb-true a b joined }
 
 pub source_has_account : EmittedAreShort → SourceHasAccount
-source_has_account short_law job all base a size every passes sent bytes fell rose cause start inside all_is was =
+source_has_account short_law job all base a size every passes sent history bytes fell rose cause start inside all_is was =
     let to = receiver_on job 0 a in
     let rest = was.rest ++ was.begun in
     let front = was.front in

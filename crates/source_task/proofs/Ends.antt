@@ -9,6 +9,7 @@ use Rattle.flow_defs.specs.declared.job.Job.{Job}
 use Rattle.flow_defs.specs.Lines.{lines}
 use Rattle.plain_machine.specs.Emitting.{receiver_on}
 use Rattle.outside.specs.Stops.{told_of}
+use Rattle.outside.specs.declared.last_image.Stored.{Stored}
 use Rattle.conn_parts.specs.Shares.{mine_at, AreNew}
 use Rattle.conn_parts.specs.Stopping.{StopCell, StopPass, ToldStop}
 use Rattle.record_writer.specs.Partitions.{IsWriterOf}
@@ -42,21 +43,22 @@ module _ (job : Job) (partition : Partition) (w : Writer) (out : SourceOutput) (
 -- ---- where it ends
 
 -- an account of what is the same is the same
-pub account_of_same : (job : Job) (a a' size : ℕ) (every every' : Option ℕ) (passes passes' : List SendPass) (sent sent' : List Snapshot) (left : Option (List ℕ)) (fell rose : ℕ) (cause : Cause) → a ≡ a' → every ≡ every' → passes ≡ passes' → sent ≡ sent'
-    → SourceAccount job a size every passes sent left fell rose cause → SourceAccount job a' size every' passes' sent' left fell rose cause
-account_of_same job a a' size every every' passes passes' sent sent' left fell rose cause one two three four was =
-    subst (λ l. SourceAccount job a' size every' passes' l left fell rose cause) four
-    (subst (λ l. SourceAccount job a' size every' l sent left fell rose cause) three
-    (subst (λ (e : Option ℕ). SourceAccount job a' size e passes sent left fell rose cause) two
-    (subst (λ n. SourceAccount job n size every passes sent left fell rose cause) one was)))
+pub account_of_same : (job : Job) (a a' size : ℕ) (every every' : Option ℕ) (passes passes' : List SendPass) (sent sent' : List Snapshot) (history history' : List (ℕ × Stored)) (left : Option (List ℕ)) (fell rose : ℕ) (cause : Cause) → a ≡ a' → every ≡ every' → passes ≡ passes' → sent ≡ sent' → history ≡ history'
+    → SourceAccount job a size every passes sent history left fell rose cause → SourceAccount job a' size every' passes' sent' history' left fell rose cause
+account_of_same job a a' size every every' passes passes' sent sent' history history' left fell rose cause one two three four five was =
+    subst (λ l. SourceAccount job a' size every' passes' sent' l left fell rose cause) five
+    (subst (λ l. SourceAccount job a' size every' passes' l history left fell rose cause) four
+    (subst (λ l. SourceAccount job a' size every' l sent history left fell rose cause) three
+    (subst (λ (e : Option ℕ). SourceAccount job a' size e passes sent history left fell rose cause) two
+    (subst (λ n. SourceAccount job n size every passes sent history left fell rose cause) one was))))
 
 stopped_not_done : causes.Stopped ≢ causes.Done
 stopped_not_done = λ is. cc
 
 -- it was stopped where it was done
-pub account_ended : (job : Job) (a size : ℕ) (every : Option ℕ) (passes : List SendPass) (sent : List Snapshot) (left : Option (List ℕ)) (fell rose : ℕ) (cause cause' : Cause) → EndsAs cause cause'
-    → SourceAccount job a size every passes sent left fell rose cause → SourceAccount job a size every passes sent left fell rose cause'
-account_ended job a size every passes sent left fell rose cause cause' ends was = record {
+pub account_ended : (job : Job) (a size : ℕ) (every : Option ℕ) (passes : List SendPass) (sent : List Snapshot) (history : List (ℕ × Stored)) (left : Option (List ℕ)) (fell rose : ℕ) (cause cause' : Cause) → EndsAs cause cause'
+    → SourceAccount job a size every passes sent history left fell rose cause → SourceAccount job a size every passes sent history left fell rose cause'
+account_ended job a size every passes sent history left fell rose cause cause' ends was = record {
   groups = was.groups;
   rest = was.rest;
   begun = was.begun;
@@ -77,8 +79,8 @@ none_at (p ∷ passes) zero new = new 0 p (omega arith)
 none_at (p ∷ passes) (suc c) new = none_at passes c (λ k d within. new (suc k) d (omega (arith, within)))
 
 -- it found no memory for its writer
-pub account_unsent : (job : Job) (a size : ℕ) (every : Option ℕ) (passes : List SendPass) (sent : List Snapshot) (left : Option (List ℕ)) (fell rose : ℕ) → AreNew passes → sent ≡ [] → fell ≤ rose → SourceAccount job a size every passes sent left fell rose causes.Memory
-account_unsent job a size every passes sent left fell rose new none never_falls = record {
+pub account_unsent : (job : Job) (a size : ℕ) (every : Option ℕ) (passes : List SendPass) (sent : List Snapshot) (history : List (ℕ × Stored)) (left : Option (List ℕ)) (fell rose : ℕ) → AreNew passes → sent ≡ [] → fell ≤ rose → SourceAccount job a size every passes sent history left fell rose causes.Memory
+account_unsent job a size every passes sent history left fell rose new none never_falls = record {
   groups = [];
   rest = [];
   begun = [];

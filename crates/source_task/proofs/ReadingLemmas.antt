@@ -3,6 +3,7 @@ use Rattle.std.proofs.Common.{◌≡◌, ◌≢◌, ℕ, ◌+◌, ◌<◌, ◌�
 use Rattle.std.specs.List.{AllByRecursion}
 use Rattle.std.proofs.lemmas.List.{take-append-drop, length-drop}
 use Rattle.turn_cell.specs.History.{StartsWith}
+use Rattle.turn_cell.specs.Passes.{seen}
 use Rattle.flow_defs.specs.declared.cause.Cause.{Cause}
 use Rattle.flow_defs.specs.declared.cause.Cause.TheVariants as causes
 use Rattle.flow_defs.specs.declared.job.Job.{Job}
@@ -67,7 +68,7 @@ module _ (law : SentIsBegun) (over : FinishedIsBegun) (job : Job) (size : ℕ) (
 
   -- it broke off behind these lines, with those begun
   broke : (out : SourceOutput) (start : Option (List ℕ)) (lines_out begun : List (List ℕ)) (cause : Cause) → HasBroken job size out lines_out begun → AllByRecursion IsShort (lines_out ++ begun) → IfSome start (λ all. StartsWith (lines all) (lines_out ++ begun))
-      → (has_ended (sent_by out.pass) ≡ true → IfSome start (λ all. lines all ≡ lines_out)) → cause ≢ causes.Done → IsSourceCause out.index start fell rose cause → SourceAccount job out.index size out.every out.output.writer.passes (sent_by out.pass) start fell rose cause
+      → (has_ended (sent_by out.pass) ≡ true → IfSome start (λ all. lines all ≡ lines_out)) → cause ≢ causes.Done → IsSourceCause out.index start fell rose cause → SourceAccount job out.index size out.every out.output.writer.passes (sent_by out.pass) (seen out.last_pass) start fell rose cause
   broke out start lines_out begun cause broken short front at_end other cause_is =
       let all = sym (append_assoc (all_of broken.groups) broken.rest begun) ∙ ap (λ l. l ++ begun) broken.all_are in
       record {
@@ -164,7 +165,7 @@ module _ (law : SentIsBegun) (over : FinishedIsBegun) (job : Job) (size : ℕ) (
           short = subst (AllByRecursion IsShort) (sym (append-nil (all_of finished.1.groups) ∙ finished.1.all_are)) behind.0;
           front = whole_front start (all_of_it start way.2) (append-nil (all_of finished.1.groups) ∙ finished.1.all_are);
           at_end = λ is. (whole start (all_of_it start way.2) finished.1.all_are, refl);
-          done = λ is. (finished.1.ended, finished.1.finished.each);
+          done = λ is. (finished.1.ended, finished.1.last, finished.1.finished.each);
           within = λ is. within_of start way.2;
           never_falls = never_falls;
           cause_is = subst (IsSourceCause out.index start fell rose) (sym finished.0) tt;

@@ -16,7 +16,7 @@ use Rattle.outside.specs.declared.last_image.Stored.{Stored}
 use Rattle.record_writer.specs.Writers.{IsSame, HasSeenFault}
 use Rattle.snapshot_channel.specs.Passes.{IsPassOf, opening_of, sent_by, task_of}
 use Rattle.task_output.specs.Outputs.{HasSent, HasBegun, HasFinished, all_of}
-use Rattle.task_output.specs.Waiting.{HasWaited}
+use Rattle.task_output.specs.Waiting.{HasWaited, LastIs}
 use Rattle.source_task.specs.declared.output.SourceOutput.{SourceOutput}
 use Rattle.source_task.specs.declared.output.LineFault.{LineFault}
 use Rattle.source_task.specs.declared.output.LineFault.TheVariants as faults
@@ -85,13 +85,14 @@ pub record HasBroken (job : Job) (size : ℕ) (out : SourceOutput) (lines begun 
   pub snapshots : AreSnapshots out.index out.every 0 0 0 groups (sent_by out.pass)
   pub at_end : has_ended (sent_by out.pass) ≡ true → rest ++ begun ≡ []
 
--- It has ended its channels behind these lines.
+-- It has ended its channels behind these lines, and had acknowledged the last checkpoint of the job.
 pub record HasEnded (job : Job) (size : ℕ) (out : SourceOutput) (lines : List (List ℕ)) : Type 0 where
   pub groups : List (List (List ℕ))
   pub all_are : all_of groups ≡ lines
   pub finished : HasFinished job 0 out.index size out.output groups []
   pub snapshots : AreSnapshots out.index out.every 0 0 0 groups (sent_by out.pass)
   pub ended : has_ended (sent_by out.pass) ≡ true
+  pub last : LastIs out.every (seen out.last_pass) (length groups) true
 
 -- Its passes are of its cells and its channel. It has sent a snapshot only where it had seen the image of the checkpoint before.
 pub record HasOwnPasses (out : SourceOutput) : Type 0 where

@@ -3,7 +3,7 @@
 use Rattle.std.specs.Prelude.{◌≡◌, ◌≢◌, ℕ, ◌<◌, ◌≤◌, ◌⊎◌, ⊤, true, List, [], ◌++◌, length, Option, IfSome}
 use Rattle.std.specs.List.{AllByRecursion}
 use Rattle.turn_cell.specs.History.{StartsWith}
-use Rattle.turn_cell.specs.Passes.{IsPassOf, mine}
+use Rattle.turn_cell.specs.Passes.{IsPassOf, mine, seen}
 use Rattle.flow_defs.specs.declared.cause.Cause.{Cause}
 use Rattle.flow_defs.specs.declared.cause.Cause.TheVariants as causes
 use Rattle.flow_defs.specs.declared.job.Job.{Job}
@@ -13,6 +13,7 @@ use Rattle.flow_defs.specs.Records.{IsShort}
 use Rattle.plain_machine.specs.Emitting.{receiver_on}
 use Rattle.checkpoint_laws.specs.Chapters.{task_at}
 use Rattle.outside.specs.Faults.{HasRisen}
+use Rattle.outside.specs.declared.last_image.Stored.{Stored}
 use Rattle.job_plan.specs.Limits.{HasLongLine, source_max}
 use Rattle.conn_parts.specs.Shares.{mine_at}
 use Rattle.conn_parts.specs.Stopping.{StopCell}
@@ -22,6 +23,7 @@ use Rattle.snapshot_channel.specs.Passes as channels
 use Rattle.snapshot_channel.specs.Passes.{sent_by}
 use Rattle.task_output.specs.Outputs.{BegunOn, FinishedOn, all_of, end_of}
 use Rattle.task_output.specs.Ending.{EndsAs, ToldAtEnd}
+use Rattle.task_output.specs.Waiting.{LastIs}
 use Rattle.source_task.specs.declared.output.LineFault.{LineFault}
 use Rattle.source_task.specs.declared.output.SourceOutput.{SourceOutput}
 use Rattle.source_task.specs.declared.source.SourceTaskEnd.{SourceTaskEnd}
@@ -44,9 +46,9 @@ IsSourceCause a left fell rose (causes.Peer fault) = ⊥
 IsSourceCause a left fell rose causes.Memory = ⊤
 
 -- What source a did by its passes: it emitted lines of its input from the first on, where that is told, with a barrier and a snapshot
--- behind each group of them. Behind a snapshot that it sent at its end no line follows, and none is left. It was done only where it has
--- sent such a one, and then ended its channels.
-pub record SourceAccount (job : Job) (a size : ℕ) (every : Option ℕ) (passes : List SendPass) (sent : List Snapshot) (left : Option (List ℕ)) (fell rose : ℕ) (cause : Cause) : Type 0 where
+-- behind each group of them. Behind a snapshot that it sent at its end no line follows, and none is left. It was done only where it had
+-- acknowledged the last checkpoint of the job, at its end, and then ended its channels.
+pub record SourceAccount (job : Job) (a size : ℕ) (every : Option ℕ) (passes : List SendPass) (sent : List Snapshot) (history : List (ℕ × Stored)) (left : Option (List ℕ)) (fell rose : ℕ) (cause : Cause) : Type 0 where
   pub groups : List (List (List ℕ))
   pub rest : List (List ℕ)
   pub begun : List (List ℕ)
@@ -55,14 +57,14 @@ pub record SourceAccount (job : Job) (a size : ℕ) (every : Option ℕ) (passes
   pub short : AllByRecursion IsShort (all_of groups ++ (rest ++ begun))
   pub front : IfSome left (λ bytes. StartsWith (lines bytes) (all_of groups ++ (rest ++ begun)))
   pub at_end : has_ended sent ≡ true → IfSome left (λ bytes. lines bytes ≡ all_of groups) × (rest ++ begun ≡ [])
-  pub done : cause ≡ causes.Done → (has_ended sent ≡ true) × ((c : ℕ) → c < ways_on job 0 → FinishedOn (receiver_on job 0 a) groups (end_of job 0 a c) size [] (mine_at c passes))
+  pub done : cause ≡ causes.Done → (has_ended sent ≡ true) × LastIs every history (length groups) true × ((c : ℕ) → c < ways_on job 0 → FinishedOn (receiver_on job 0 a) groups (end_of job 0 a c) size [] (mine_at c passes))
   pub within : cause ≡ causes.Done → IfSome left (λ bytes. length bytes ≤ source_max)
   pub never_falls : fell ≤ rose
   pub cause_is : IsSourceCause a left fell rose cause
 
 -- It has its account, and was stopped only where its writer's pass had seen a fault.
 pub record SourceEnd (job : Job) (size : ℕ) (out : SourceOutput) (left : Option (List ℕ)) (fell rose : ℕ) (cause : Cause) : Type 0 where
-  pub account : SourceAccount job out.index size out.every out.output.writer.passes (sent_by out.pass) left fell rose cause
+  pub account : SourceAccount job out.index size out.every out.output.writer.passes (sent_by out.pass) (seen out.last_pass) left fell rose cause
   pub stopped : cause ≡ causes.Stopped → HasSeenFault out.output.writer
 
 -- A source that had read its input to the end, with this line begun, emitted that too and ended behind its last checkpoint; or it broke

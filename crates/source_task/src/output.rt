@@ -5,7 +5,7 @@ ghost use Rattle.flow_defs.specs.declared.job.Job.{Job};
 ghost use Rattle.flow_defs.specs.Records.{IsShort};
 ghost use Rattle.record_writer.specs.Writers.{HasSeenFault};
 ghost use Rattle.snapshot_channel.specs.Passes.{sent_by};
-ghost use Rattle.task_output.specs.Waiting.{HasWaited};
+ghost use Rattle.task_output.specs.Waiting.{HasWaited, KnowsLast, LastIs};
 ghost use Rattle.turn_cell.specs.Passes.{seen};
 ghost use Rattle.source_task.specs.Emitting.{IsInterval, IsSnapshotAt, IsSource, IsReading, HasOwnPasses, IsSameSource, HasEmitted, HasBroken, HasEnded, LineEmitted, CheckpointTaken, BreaksFor, has_ended};
 
@@ -91,8 +91,8 @@ impl<'a, 'p> SourceOutput<'a, 'p> {
     }
 
     /// Takes a checkpoint behind the lines that were emitted: puts a barrier and sends a snapshot. It waits
-    /// until the image of the checkpoint before is stored. Whether all sources are ended in that one, so
-    /// that this checkpoint is the last, is the answer.
+    /// until the image of the checkpoint before is stored. Whether this checkpoint is the last of the job is
+    /// the answer: without an interval it is, and with one it is where all sources are ended in that image.
     pub fn take_checkpoint<R: Wait>(
         &mut self,
         rt: &R,
@@ -108,6 +108,7 @@ impl<'a, 'p> SourceOutput<'a, 'p> {
         ensures since { OnOk result (self.new.since ≡ 0) }
         ensures kept { OnErr result (sent_by self.new.pass ≡ sent_by self.old.pass) }
         ensures ended { OnOk result ((ended ≡ true → has_ended (sent_by self.new.pass) ≡ true) × (ended ≡ false → has_ended (sent_by self.new.pass) ≡ has_ended (sent_by self.old.pass))) }
+        ensures last { IfOk result (λ last. LastIs self.new.every (seen self.new.last_pass) self.new.barriers last) }
         ensures fault { IfErr result (λ fault. BreaksFor fault self.new) }
         ensures taken { (job : Job) (size : ℕ) (lines : List (List ℕ)) → HasEmitted job size self.old lines →
             CheckpointTaken job size self.new lines result }
@@ -153,7 +154,7 @@ impl<'a, 'p> SourceOutput<'a, 'p> {
         for _checkpoint in rt.forever() {
             match self.take_checkpoint(rt, alloc, true) {
                 Ok(last) => {
-                    if last || self.every.is_none() {
+                    if last {
                         return self.finish(rt);
                     }
                 }
@@ -167,6 +168,7 @@ impl<'a, 'p> SourceOutput<'a, 'p> {
     fn finish<R: Wait>(&mut self, rt: &R) -> Result<(), LineFault>
         requires source { IsSource self.old }
         requires at_end { has_ended (sent_by self.old.pass) ≡ true }
+        requires last { LastIs self.old.every (seen self.old.last_pass) self.old.barriers true }
         ensures same { IsSameSource self.old self.new }
         ensures own { HasOwnPasses self.new }
         ensures fault { IfErr result (λ fault. BreaksFor fault self.new) }
@@ -201,8 +203,8 @@ impl<'a, 'p> SourceOutput<'a, 'p> {
         }
     }
 
-    // Waits until the image of the last checkpoint is stored, and answers whether all sources are ended in
-    // it. Before the first checkpoint there is none, and none is.
+    // Waits until the image of the checkpoint before is stored, if there was one, and answers whether the next
+    // checkpoint is the last of the job.
     fn wait_for_image<R: Wait>(&mut self, rt: &R) -> Result<bool, WriterStopped>
         requires { IsSource self.old }
         ensures same { IsSameSource self.old self.new }
@@ -210,18 +212,22 @@ impl<'a, 'p> SourceOutput<'a, 'p> {
         ensures source { IsSource self.new }
         ensures emitted { (job : Job) (size : ℕ) (lines : List (List ℕ)) → HasEmitted job size self.old lines → HasEmitted job size self.new lines }
         ensures waited { OnOk result (HasWaited (suc self.new.barriers) (seen self.new.last_pass)) }
+        ensures last { IfOk result (λ last. KnowsLast self.new.every (seen self.new.last_pass) self.new.barriers last) }
         ensures stopped { OnErr result (HasSeenFault self.new.output.writer) }
     {
         what_was_seen_stays();
         if self.barriers == 0 {
-            return Ok(false);
+            return Ok(self.every.is_none());
         }
-        wait_for_image(
+        match wait_for_image(
             rt,
             self.last_image,
             &mut self.last_pass,
             &mut self.output,
             self.barriers,
-        )
+        ) {
+            Ok(all_ended) => Ok(all_ended || self.every.is_none()),
+            Err(stopped) => Err(stopped),
+        }
     }
 }

@@ -63,7 +63,7 @@ pub fn run_source<'a, 'p, S: Source, R: Wait>(
     ensures snapshots { channels.IsPassOf world.entry.snapshots.now result.snapshot_pass × (channels.task_of result.snapshot_pass ≡ channels.task_of world.entry.snapshot_pass) }
     ensures last_image { IsPassOf world.entry.last_image.now result.last_pass }
     ensures waited { HasWaited (length (channels.sent_by result.snapshot_pass)) (seen result.last_pass) }
-    ensures account { SourceAccount world.entry.job.now index world.entry.partition.size every result.partition.subpartitions.items (channels.sent_by result.snapshot_pass) (S.left input.old) (S.faults input.old) (S.faults input.new) result.cause }
+    ensures account { SourceAccount world.entry.job.now index world.entry.partition.size every result.partition.subpartitions.items (channels.sent_by result.snapshot_pass) (seen result.last_pass) (S.left input.old) (S.faults input.old) (S.faults input.new) result.cause }
     ensures stop { ToldStop world.entry.stop.now result.cause world.entry.stop_pass result.stop_pass }
 {
     let SourceWorld {

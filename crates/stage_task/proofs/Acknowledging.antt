@@ -27,10 +27,10 @@ use Rattle.snapshot_channel.specs.declared.opened.TaskPass.{TaskPass}
 use Rattle.snapshot_channel.specs.Snapshots.{AreTakesAt, FitsTask, LeadsTo, ComesFrom, HaveOwnChannels, MaySend}
 use Rattle.snapshot_channel.specs.Passes.{IsPassOf, opening_of, sent_by, task_of}
 use Rattle.task_taking.specs.Takings.{Taking, HasTaken, IsAtBarrier}
-use Rattle.task_taking.specs.Endings.{LastIs, ResumedIsGiven}
+use Rattle.task_taking.specs.Endings.{ResumedIsGiven}
 use Rattle.task_output.specs.Outputs.{Output, HasSent, count_behind}
 use Rattle.task_output.specs.Laws.{SentIsBegun, BarrierIsLeftAside}
-use Rattle.task_output.specs.Waiting.{KnowsLast, HasWaited, SeenIsWaited, WaitedStays}
+use Rattle.task_output.specs.Waiting.{LastIs, KnowsLast, HasWaited, SeenIsWaited, WaitedStays}
 use Rattle.stage_task.specs.declared.checkpoints.StageOutput.{StageOutput}
 use Rattle.stage_task.specs.Snapshots.{IsSnapshotOf, IsSnapshotAt, AreSnapshots, all_applied}
 use Rattle.stage_task.specs.Stages.{StageAccount}

@@ -17,7 +17,8 @@ use Rattle.input_gate.specs.Gates.{Account, AllOver, stops_in}
 use Rattle.snapshot_channel.specs.Passes.{sent_by}
 use Rattle.task_taking.specs.Steps.{IsTakerCause}
 use Rattle.task_taking.specs.Takings.{Taking, HasTaken, IsAtBarrier, AllBlocked}
-use Rattle.task_taking.specs.Endings.{Gave, IsTakerEnd, LastIs, TakenIsGiven, BarrierIsGiven}
+use Rattle.task_output.specs.Waiting.{LastIs}
+use Rattle.task_taking.specs.Endings.{Gave, IsTakerEnd, TakenIsGiven, BarrierIsGiven}
 use Rattle.task_taking.proofs.Told.{none_at}
 use Rattle.task_output.specs.Outputs.{Output, HasSent, HasBegun, HasStopped, HasFinished}
 use Rattle.task_output.specs.Laws.{SentIsBegun, FinishedIsBegun}

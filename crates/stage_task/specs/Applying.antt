@@ -11,10 +11,9 @@ use Rattle.checkpoint_laws.specs.Chapters.{applied, task_at}
 use Rattle.record_writer.specs.Writers.{IsSame, HasSeenFault}
 use Rattle.input_gate.specs.Gates.{Account}
 use Rattle.snapshot_channel.specs.Passes.{IsPassOf, opening_of, sent_by, task_of}
-use Rattle.task_taking.specs.Endings.{LastIs}
 use Rattle.task_taking.specs.Takings.{Taking, HasTaken, IsAtBarrier}
 use Rattle.task_output.specs.Outputs.{Output, HasSent, HasBegun}
-use Rattle.task_output.specs.Waiting.{HasWaited}
+use Rattle.task_output.specs.Waiting.{LastIs, HasWaited}
 use Rattle.stage_task.specs.declared.checkpoints.StageOutput.{StageOutput}
 use Rattle.stage_task.specs.declared.checkpoints.TakerEnd.{TakerEnd}
 use Rattle.stage_task.specs.Snapshots.{AreSnapshots, all_applied}

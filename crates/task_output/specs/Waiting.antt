@@ -19,6 +19,11 @@ KnowsLast None history before last = last ≡ true
 KnowsLast (Some interval) history zero last = last ≡ false
 KnowsLast (Some interval) history (suc before) last = HasSeenStored history (suc before) last
 
+-- Whether the last of so many checkpoints that it has acknowledged is the last of the job, as it has seen.
+abbrev pub LastIs : Option ℕ → List (ℕ × Stored) → ℕ → Bool → Type 0
+LastIs every history zero last = last ≡ false
+LastIs every history (suc before) last = KnowsLast every history before last
+
 -- Where a task has sent so many snapshots one by one, it has seen by this history the image before the last of them, or one behind that.
 -- Before the first there is none.
 abbrev pub HasWaited : ℕ → List (ℕ × Stored) → Type 0

@@ -12,7 +12,7 @@ use Rattle.conn_parts.specs.Stopping.{StopCell, StopPass}
 use Rattle.outside.specs.declared.last_image.Stored.{Stored}
 use Rattle.record_writer.specs.Writers.{ways_into}
 use Rattle.input_gate.specs.Gates.{Account, AllOver, stops_in}
-use Rattle.task_output.specs.Waiting.{KnowsLast}
+use Rattle.task_output.specs.Waiting.{LastIs}
 use Rattle.task_taking.specs.Takings.{Taking, HasTaken, IsAtBarrier, start_of, stop_if}
 use Rattle.task_taking.specs.Takings as takings
 use Rattle.task_taking.specs.Steps.{GaveFront, IsCutShort}
@@ -40,11 +40,6 @@ ResumedIsGiven =
     HasTaken job e b gate t (groups ++ took ∷ []) [] → is_open t.alignment ≡ false → Gave job e b gate groups took
 
 -- ---- why it ends
-
--- Whether the last of so many checkpoints that it has acknowledged is the last of the job, as it has seen.
-abbrev pub LastIs : Option ℕ → List (ℕ × Stored) → ℕ → Bool → Type 0
-LastIs every history zero last = last ≡ false
-LastIs every history (suc before) last = KnowsLast every history before last
 
 -- All channels ended before it had acknowledged the last checkpoint, or a line or a barrier came after it had.
 abbrev pub BreaksOrder : Option ℕ → List (ℕ × Stored) → Account → List (List (ℕ × List ℕ)) → List (ℕ × List ℕ) → Type 0

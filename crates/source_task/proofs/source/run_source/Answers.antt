@@ -38,9 +38,9 @@ returns-in-Ok-clause-account g c =
     let after = c.emit_lines-cause.new.output in
     let end = c.end_output.ensures.ended in
     let was = (c.emit_lines-cause.ensures.ended job c.args.world.partition.size (emitted_none job c.args.world.partition c.in-Ok.writer out c.in-Ok.ensures.is_of.0 c.in-Ok.ensures.new c.new-in-Ok.ensures.none lent.pass.1 refl refl refl)).account in
-    account_ended job c.args.index c.args.world.partition.size c.args.every c.end_output.result.partition.subpartitions.items (sent_by c.end_output.result.snapshot_pass) (g.S.Source.left c.args.input.now) (g.S.Source.faults c.args.input.now) (g.S.Source.faults c.emit_lines-cause.new.input) c.emit_lines-cause.result c.end_output.result.cause end.ends
-    (account_of_same job after.index c.args.index c.args.world.partition.size after.every c.args.every after.output.writer.passes c.end_output.result.partition.subpartitions.items (sent_by after.pass) (sent_by c.end_output.result.snapshot_pass) (g.S.Source.left c.args.input.now) (g.S.Source.faults c.args.input.now) (g.S.Source.faults c.emit_lines-cause.new.input) c.emit_lines-cause.result
-    c.emit_lines-cause.ensures.same.index c.emit_lines-cause.ensures.same.every_is (sym end.passes_are) (ap sent_by (sym end.snapshots)) was)
+    account_ended job c.args.index c.args.world.partition.size c.args.every c.end_output.result.partition.subpartitions.items (sent_by c.end_output.result.snapshot_pass) (seen c.end_output.result.last_pass) (g.S.Source.left c.args.input.now) (g.S.Source.faults c.args.input.now) (g.S.Source.faults c.emit_lines-cause.new.input) c.emit_lines-cause.result c.end_output.result.cause end.ends
+    (account_of_same job after.index c.args.index c.args.world.partition.size after.every c.args.every after.output.writer.passes c.end_output.result.partition.subpartitions.items (sent_by after.pass) (sent_by c.end_output.result.snapshot_pass) (seen after.last_pass) (seen c.end_output.result.last_pass) (g.S.Source.left c.args.input.now) (g.S.Source.faults c.args.input.now) (g.S.Source.faults c.emit_lines-cause.new.input) c.emit_lines-cause.result
+    c.emit_lines-cause.ensures.same.index c.emit_lines-cause.ensures.same.every_is (sym end.passes_are) (ap sent_by (sym end.snapshots)) (ap seen (sym end.last_image)) was)
 
 pub returns-in-Ok-clause-stop : goal.returns-in-Ok-clause-stop
 returns-in-Ok-clause-stop g c =
@@ -57,6 +57,6 @@ pub returns-in-Err-clause-account : goal.returns-in-Err-clause-account
 returns-in-Err-clause-account g c =
     let lent = c.requires.lent in
     let job = c.args.world.job.now in
-    account_ended job c.args.index c.args.world.partition.size c.args.every c.in-Err.refused.passes.subpartitions.items (sent_by c.args.world.snapshot_pass) (g.S.Source.left c.args.input.now) (g.S.Source.faults c.args.input.now) (g.S.Source.faults c.args.input.now) causes.Memory c.end_task-cause.result c.end_task-cause.ensures.cause
-    (subst (λ (p : PartitionPasses). SourceAccount job c.args.index c.args.world.partition.size c.args.every p.subpartitions.items (sent_by c.args.world.snapshot_pass) (g.S.Source.left c.args.input.now) (g.S.Source.faults c.args.input.now) (g.S.Source.faults c.args.input.now) causes.Memory) (sym c.in-Err.ensures.refused.0)
-    (account_unsent job c.args.index c.args.world.partition.size c.args.every c.args.world.partition.passes.subpartitions.items (sent_by c.args.world.snapshot_pass) (g.S.Source.left c.args.input.now) (g.S.Source.faults c.args.input.now) (g.S.Source.faults c.args.input.now) lent.partition.new lent.pass.1 (omega arith)))
+    account_ended job c.args.index c.args.world.partition.size c.args.every c.in-Err.refused.passes.subpartitions.items (sent_by c.args.world.snapshot_pass) (seen c.args.world.last_pass) (g.S.Source.left c.args.input.now) (g.S.Source.faults c.args.input.now) (g.S.Source.faults c.args.input.now) causes.Memory c.end_task-cause.result c.end_task-cause.ensures.cause
+    (subst (λ (p : PartitionPasses). SourceAccount job c.args.index c.args.world.partition.size c.args.every p.subpartitions.items (sent_by c.args.world.snapshot_pass) (seen c.args.world.last_pass) (g.S.Source.left c.args.input.now) (g.S.Source.faults c.args.input.now) (g.S.Source.faults c.args.input.now) causes.Memory) (sym c.in-Err.ensures.refused.0)
+    (account_unsent job c.args.index c.args.world.partition.size c.args.every c.args.world.partition.passes.subpartitions.items (sent_by c.args.world.snapshot_pass) (seen c.args.world.last_pass) (g.S.Source.left c.args.input.now) (g.S.Source.faults c.args.input.now) (g.S.Source.faults c.args.input.now) lent.partition.new lent.pass.1 (omega arith)))

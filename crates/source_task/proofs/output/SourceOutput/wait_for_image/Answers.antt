@@ -1,7 +1,8 @@
-use Rattle.std.proofs.Common.{length}
+use Rattle.std.proofs.Common.{rules, ◌≢◌, length}
 use Rattle.turn_cell.specs.Passes.{seen}
 use Rattle.snapshot_channel.specs.Passes.{sent_by}
 use Rattle.source_task.proofs.Emitting.{still_emitted, still_source}
+use Rattle.source_task.proofs.Lasts.{last_at_first, last_by_image}
 use Rattle.source_task.proofs.output.SourceOutput.wait_for_image.Goals as goal
 
 pub returns-clause-source : goal.returns-clause-source

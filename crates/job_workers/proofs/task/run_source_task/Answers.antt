@@ -1,0 +1,17 @@
+-- What it leaves are its input and what the source handed back.
+use Rattle.std.proofs.Common.{refl, ◌∙◌}
+use Rattle.turn_cell.specs.Passes.{seen}
+use Rattle.job_workers.proofs.task.run_source_task.Goals as goal
+
+pub returns : goal.returns
+returns g c =
+    let end = c.run_source.result in
+    let did = c.run_source.ensures in record {
+      input = c.run_source.new.input;
+      is_there = refl;
+      no_gate = refl;
+      partition = record { passes = end.partition; are_there = refl; are_of = did.partition };
+      snapshots = record { pass = end.snapshot_pass; is_there = refl; of_channel = did.snapshots.0; task = did.snapshots.1 ∙ c.requires.may.may.task };
+      history = seen end.last_pass;
+      account = did.account;
+    }

@@ -1,6 +1,5 @@
 pub mod Emitting
 pub mod Snapshots
-pub mod Lasts
 pub mod Taking
 pub mod OneLine
 pub mod CuttingLemmas

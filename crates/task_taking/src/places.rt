@@ -1,42 +1,17 @@
 // From where the channels of a task come.
-ghost use Rattle.std.specs.Prelude.{◌≡◌, suc, ◌≤◌};
-ghost use Rattle.flow_defs.specs.Jobs.{IsJob, last_edge, tasks, exchange};
+ghost use Rattle.std.specs.Prelude.{◌≡◌};
+ghost use Rattle.flow_defs.specs.Jobs.{IsJob};
 ghost use Rattle.record_writer.specs.Writers.{sender_at, ways_into};
 
 use flow_defs::{Exchange, Job};
 
-/// How records go over an edge.
-pub fn exchange_of(job: &Job, edge: u32) -> Exchange
-    ensures { result ≡ exchange job.now edge }
-{
-    match job.stages.as_slice().get(edge as usize) {
-        Some(stage) => stage.exchange,
-        None => Exchange::Hash,
-    }
-}
-
-// How many tasks a stage has.
-fn tasks_of(job: &Job, stage: u32) -> u32
-    requires { IsJob job.now × (stage ≤ suc (last_edge job.now)) }
-    ensures { result ≡ tasks job.now stage }
-{
-    if stage == 0 {
-        return job.sources.as_slice().len() as u32;
-    }
-    match job.stages.as_slice().get(stage as usize - 1) {
-        Some(stage) => stage.tasks,
-        None => job.agg_tasks,
-    }
-}
-
 /// How many channels of an edge lead to each of its tasks.
 pub fn ways_of(job: &Job, edge: u32) -> u32
-    requires { IsJob job.now × (edge ≤ last_edge job.now) }
+    requires { IsJob job.now }
     ensures { result ≡ ways_into job.now edge }
 {
-    match exchange_of(job, edge) {
-        Exchange::Hash => tasks_of(job, edge),
-        Exchange::Rebalance => tasks_of(job, edge),
+    match job.exchange(edge as usize) {
+        Exchange::Hash | Exchange::Rebalance => job.tasks(edge as usize),
         Exchange::Forward => 1,
     }
 }

@@ -10,7 +10,7 @@ ghost use Rattle.input_gate.specs.Gates.{Account, IsNew};
 ghost use Rattle.task_taking.specs.Takings.{AllBlocked, HasTaken, IsAtBarrier, IsInStep, IsSame, untaken};
 ghost use Rattle.task_taking.specs.Steps.{TakingGoesOn, GoesOnFrom, TookItem, TookNext, cause_of};
 
-use crate::places::{exchange_of, sender_of, ways_of};
+use crate::places::{sender_of, ways_of};
 use crate::resuming::resume_each;
 use crate::runs::{make_room, note_take};
 use barriers::{Action, Aligner};
@@ -68,7 +68,7 @@ impl TaskTaking {
         let aligner = Aligner::new(alloc, channels)?;
         Ok(TaskTaking {
             alloc,
-            exchange: exchange_of(job, edge),
+            exchange: job.exchange(edge as usize),
             index,
             channels,
             runs: ListOf::new(alloc),

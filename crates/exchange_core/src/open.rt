@@ -96,9 +96,7 @@ fn pool_of(
     ensures count { IfOk result (λ r. length r.2.items ≡ channels) }
 {
     let (pool, mut passes) = Pool::new_limited(alloc, total, size, limits)?;
-    let Some(gate) = passes.pop() else {
-        unreachable!()
-    };
+    let gate = passes.take_last();
     Ok((pool, gate, passes))
 }
 

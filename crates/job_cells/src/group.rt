@@ -25,7 +25,7 @@ fn deal<S: Turned>(cell: &TurnCell<S>, passes: &mut ListOf<Pass<S>>) -> Pass<S>
     ensures last { IsMade cell.now (length passes.new.items) result }
 {
     let _cell = cell;
-    passes.pop().unwrap()
+    passes.take_last()
 }
 
 /// A cell round this state, with the passes of a task and a loop, or of two loops.

@@ -79,9 +79,7 @@ impl Lender {
         ensures share { result.2 ≡ share_of self.old.wants.items (total_of pool.now) result.1 }
     {
         let _pool = pool;
-        let Some(pass) = self.passes.pop() else {
-            unreachable!()
-        };
+        let pass = self.passes.take_last();
         let want = self.wants.as_slice()[self.given];
         let limit = self.limits.as_slice()[self.given];
         self.given += 1;

@@ -12,7 +12,7 @@ use crate::edge::{Edge, EdgePasses};
 use crate::lender::Lender;
 use crate::parts::{edge_of, parts_of};
 use crate::pools::{limits_of, wants_of};
-use crate::span::{edges_of, span_of};
+use crate::span::span_of;
 use flow_defs::{Job, ListOf, needed};
 use local_pool::Want;
 use segment_pool::{Pool, PoolPass};
@@ -108,7 +108,7 @@ pub fn open_edges<'p, R: Wait>(
     let mut lender = Lender::new(grants);
     let mut edges = ListOf::new(alloc);
     let mut all = ListOf::new(alloc);
-    for e in 0..edges_of(job) {
+    for e in 0..job.edges() {
         let parts = parts_of(rt, alloc, pool, span_of(job, e), &mut lender)?;
         let (edge, passes) = edge_of(parts);
         edges.push(edge)?;

@@ -5,7 +5,7 @@ ghost use Rattle.local_pool.specs.Shares.{IsWant, needs, share_of};
 ghost use Rattle.job_cells.specs.Grants.{gate_want, partition_want, wants_of};
 ghost use Rattle.job_cells.specs.Spans.{IsSpan, wants_at, ways_in, ways_out};
 
-use crate::span::{Span, edges_of, span_of};
+use crate::span::{Span, span_of};
 use flow_defs::{Job, ListOf};
 use local_pool::{Want, share};
 use std::alloc::{AllocError, Global};
@@ -65,7 +65,7 @@ pub fn wants_of(alloc: Global, job: &Job) -> Result<ListOf<Want>, AllocError>
     ensures { IfOk result (λ wants. wants.items ≡ wants_of job.now) }
 {
     let mut wants = ListOf::new(alloc);
-    for edge in 0..edges_of(job) {
+    for edge in 0..job.edges() {
         add_wants(&mut wants, span_of(job, edge))?;
     }
     Ok(wants)

@@ -1,6 +1,6 @@
 // The numbers of an edge.
-ghost use Rattle.std.specs.Prelude.{◌≡◌, suc, ◌<◌, ◌≤◌};
-ghost use Rattle.flow_defs.specs.Jobs.{IsJob, last_edge, tasks};
+ghost use Rattle.std.specs.Prelude.{◌≡◌, ◌≤◌};
+ghost use Rattle.flow_defs.specs.Jobs.{IsJob, last_edge};
 ghost use Rattle.record_writer.specs.Writers.{ways, sender_at};
 ghost use Rattle.job_cells.specs.Spans.{IsSpan, span_on, ways_in, ways_out};
 
@@ -15,43 +15,17 @@ pub struct Span {
     pub receivers: u32,
 }
 
-/// How many edges a job has.
-pub fn edges_of(job: &Job) -> usize
-    requires { IsJob job.now }
-    ensures { result ≡ suc (last_edge job.now) }
-{
-    job.stages.as_slice().len() + 1
-}
-
-// How many tasks a stage has.
-fn tasks_of(job: &Job, stage: usize) -> u32
-    requires { IsJob job.now × (stage ≤ suc (last_edge job.now)) }
-    ensures { result ≡ tasks job.now stage }
-{
-    if stage == 0 {
-        return job.sources.as_slice().len() as u32;
-    }
-    match job.stages.as_slice().get(stage - 1) {
-        Some(found) => found.tasks,
-        None => job.agg_tasks,
-    }
-}
-
 /// The span of an edge of a job.
 pub fn span_of(job: &Job, edge: usize) -> Span
     requires { IsJob job.now × (edge ≤ last_edge job.now) }
     ensures is { result ≡ span_on job.now edge }
     ensures fits { IsSpan result }
 {
-    let exchange = match job.stages.as_slice().get(edge) {
-        Some(stage) => stage.exchange,
-        None => Exchange::Hash,
-    };
     Span {
         edge: edge as u32,
-        exchange,
-        senders: tasks_of(job, edge),
-        receivers: tasks_of(job, edge + 1),
+        exchange: job.exchange(edge),
+        senders: job.tasks(edge),
+        receivers: job.tasks(edge + 1),
     }
 }
 

@@ -29,12 +29,12 @@ loop-e-init g c =
 
 pub parts_of-requires-clause-wants : goal.parts_of-requires-clause-wants
 parts_of-requires-clause-wants g c =
-    let end = c.edges_of-e-end.ensures in let low = c.loop-e-test.true in
+    let end = c.edges-e-end.ensures in let low = c.loop-e-test.true in
     gates_wanted c.args.job.now c.loop-e.e c.span_of.result c.loop-e.lender (omega (arith, end, low)) c.span_of.ensures.is c.loop-e.invariant.at
 
 pub parts_of-requires-clause-partition_wants : goal.parts_of-requires-clause-partition_wants
 parts_of-requires-clause-partition_wants g c =
-    let end = c.edges_of-e-end.ensures in let low = c.loop-e-test.true in
+    let end = c.edges-e-end.ensures in let low = c.loop-e-test.true in
     partitions_wanted c.args.job.now c.loop-e.e c.span_of.result c.loop-e.lender (omega (arith, end, low)) c.span_of.ensures.is c.loop-e.invariant.at
 
 pub loop-e-preserved : goal.loop-e-preserved
@@ -42,7 +42,7 @@ loop-e-preserved g c =
     let before = c.loop-e.invariant in let job = c.args.job.now in let e = c.loop-e.e in let size = size_of c.args.pool.now in
     let edges = c.loop-e.edges.items in let all = c.loop-e.all.items in
     let edge = c.edge_of-edge.result.0 in let passes = c.edge_of-edge.result.1 in
-    let end = c.edges_of-e-end.ensures in let test = c.loop-e-test.true in
+    let end = c.edges-e-end.ensures in let test = c.loop-e-test.true in
     let low : e ≤ last_edge job = omega (arith, end, test) in
     let is = c.span_of.ensures.is in let lent = c.in_ok-parts.ensures.lender in
     let are : AreParts (span_on job e) size c.in_ok-parts.parts = subst (λ (s : Span). AreParts s size c.in_ok-parts.parts) is c.in_ok-parts.ensures.parts in

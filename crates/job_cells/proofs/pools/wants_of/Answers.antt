@@ -15,6 +15,6 @@ loop-edge-preserved c =
 pub returns : goal.returns
 returns c =
     let job = c.args.job.now in
-    let end = c.edges_of-edge-end.ensures in
+    let end = c.edges-edge-end.ensures in
     let all : c.loop-edge.edge ≡ suc (last_edge job) = omega arith in
     c.loop-edge.invariant ∙ ap (λ k. concat_below k (wants_on job)) all

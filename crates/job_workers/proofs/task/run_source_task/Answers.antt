@@ -5,9 +5,9 @@ use Rattle.job_workers.proofs.task.run_source_task.Goals as goal
 
 pub returns : goal.returns
 returns g c =
-    let end = c.run_source.result in
-    let did = c.run_source.ensures in record {
-      input = c.run_source.new.input;
+    let end = c.run_source-partition.result in
+    let did = c.run_source-partition.ensures in record {
+      input = c.run_source-partition.new.input;
       is_there = refl;
       no_gate = refl;
       partition = record { passes = end.partition; are_there = refl; are_of = did.partition };

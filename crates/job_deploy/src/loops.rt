@@ -12,7 +12,7 @@ ghost use Rattle.job_deploy.specs.declared.loops.Shares.{Shares};
 ghost use Rattle.job_deploy.specs.Placing.{AreFewer, AreStops, HasTheirs, IsStop};
 ghost use Rattle.job_deploy.specs.Sharing.{AreLoopPasses, AreLoopsOver, AreRowsOver, AreSharesOf, HasRoom, IsOver, IsWired};
 
-use crate::order::{put, take_last, turned};
+use crate::order::{put, turned};
 use crate::shared::Shared;
 use conn_parts::{ConnShare, SharePasses};
 use flow_defs::ListOf;
@@ -322,7 +322,7 @@ pub fn loop_rows<'a, 'p, O: Drop, I: Drop>(
     let mut shares = shares;
     let mut rows = rows;
     'wires: while let Some(wire) = wires.pop() {
-        let share = take_last(&mut shares);
+        let share = shares.take_last();
         put(&mut rows, loops_over(alloc, share, wire));
     }
     turned(rows)

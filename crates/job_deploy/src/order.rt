@@ -12,18 +12,6 @@ pub fn turned<T: Drop>(list: ListOf<T>) -> ListOf<T>
     list
 }
 
-/// Takes the last item out.
-pub fn take_last<T>(list: &mut ListOf<T>) -> T
-    requires { 0 < length list.old.items }
-    ensures items { list.old.items ≡ list.new.items ++ result ∷ [] }
-    ensures room { list.new.room ≡ list.old.room + 1 }
-{
-    match list.pop() {
-        Some(item) => item,
-        None => unreachable!(),
-    }
-}
-
 /// Adds an item at the end, where there is room for it.
 pub fn put<T: Drop>(list: &mut ListOf<T>, item: T)
     requires { 0 < list.old.room }

@@ -9,10 +9,9 @@ ghost use Rattle.job_deploy.specs.Shared.{AreShared};
 ghost use Rattle.job_deploy.specs.Stops.{stops_needed};
 
 use crate::loops::{Shares, shares_of};
-use crate::order::{item_at, take_last, turned};
+use crate::order::{item_at, turned};
 use crate::senders::Senders;
 use crate::shared::Shared;
-use crate::span::{edges_of, tasks_of};
 use crate::split::{Ends, ends_of};
 use crate::tasks::{SourceLent, aggregate_row, sources_lent, stage_row};
 use flow_defs::{Job, ListOf};
@@ -137,7 +136,7 @@ fn all_made<'a, 'p, S: Drop, O: Drop, I: Drop>(
     ensures theirs { OnOk result (HasStages job.now 1 shared.new) }
 {
     let mut passes = passes;
-    let last = take_last(&mut passes);
+    let last = passes.take_last();
     let mut made = last_made(alloc, job, size, edges, last, shared)?;
     'edges: while let Some(next) = passes.pop() {
         let e = passes.as_slice().len();
@@ -171,9 +170,9 @@ pub fn prepare<'a, 'p, S: Drop, O: Drop, I: Drop>(
     rows.reserve(1)?;
     let lents = sources_lent(alloc, job, size, edges, senders, shared)?;
     let mut sources = ListOf::new(alloc);
-    sources.reserve(tasks_of(job, 0) as usize)?;
+    sources.reserve(job.tasks(0) as usize)?;
     let mut loops = ListOf::new(alloc);
-    loops.reserve(edges_of(job))?;
+    loops.reserve(job.edges())?;
     Ok(Prepared {
         lents,
         sources,

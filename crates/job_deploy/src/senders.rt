@@ -5,8 +5,7 @@ ghost use Rattle.record_writer.specs.Partitions.{IsPartitionOf};
 ghost use Rattle.job_cells.specs.Edges.{IsEdgeOf};
 ghost use Rattle.job_deploy.specs.Placing.{AreSenders, IsOverCells};
 
-use crate::order::{item_at, take_last};
-use crate::span::tasks_of;
+use crate::order::item_at;
 use flow_defs::{Job, ListOf};
 use job_cells::Edge;
 use local_pool::HeldPool;
@@ -40,13 +39,13 @@ impl<'p> Senders<'p> {
         ensures partition { IsPartitionOf job.now e (length self.new.own.items) result }
         ensures cells { IsOverCells job.now e (length self.new.own.items) size edge.now result }
     {
-        let own = take_last(&mut self.own);
-        let pool = take_last(&mut self.pools);
+        let own = self.own.take_last();
+        let pool = self.pools.take_last();
         let first = self.own.as_slice().len();
         Partition {
             subpartitions: edge.subpartitions.as_slice(),
             first,
-            stride: tasks_of(job, e) as usize,
+            stride: job.tasks(e) as usize,
             pool: item_at(edge.partitions.as_slice(), first),
             size,
             passes: PartitionPasses {

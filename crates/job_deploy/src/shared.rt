@@ -2,7 +2,6 @@
 ghost use Rattle.std.specs.Prelude.{◌≡◌, ◌<◌, length};
 ghost use Rattle.job_deploy.specs.Placing.{AreFewer, AreStops, HasTheirs, IsStop, WereTaken};
 
-use crate::order::take_last;
 use flow_defs::ListOf;
 use job_workers::Lent;
 use outside::{LastImage, StopState};
@@ -34,7 +33,7 @@ impl<'a> Shared<'a> {
         ensures theirs { HasTheirs self.old self.new }
         ensures pass { IsStop self.new.stop.now result }
     {
-        take_last(&mut self.stops)
+        self.stops.take_last()
     }
 
     // What the next task is lent.
@@ -45,9 +44,9 @@ impl<'a> Shared<'a> {
         ensures stops { AreFewer 1 self.old self.new }
         ensures taken { WereTaken self.old self.new result }
     {
-        let snapshot_pass = take_last(&mut self.snapshot_passes);
-        let last_pass = take_last(&mut self.last_passes);
-        let stop_pass = take_last(&mut self.stops);
+        let snapshot_pass = self.snapshot_passes.take_last();
+        let last_pass = self.last_passes.take_last();
+        let stop_pass = self.stops.take_last();
         Lent {
             every: self.every,
             snapshots: self.snapshots,

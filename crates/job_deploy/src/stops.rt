@@ -3,7 +3,6 @@ ghost use Rattle.std.specs.Prelude.{◌≡◌, ◌≤◌};
 ghost use Rattle.flow_defs.specs.Jobs.{IsJob};
 ghost use Rattle.job_deploy.specs.Stops.{stops_needed};
 
-use crate::span::{edges_of, tasks_of};
 use flow_defs::Job;
 
 /// How many passes of the stop cell the workers of a job need: one for each task, one for each gate, and one
@@ -13,9 +12,9 @@ pub fn stops_needed(job: &Job) -> u32
     ensures is { result ≡ stops_needed job.now }
     ensures few { result ≤ 148 }
 {
-    let mut needed = tasks_of(job, 0);
-    for e in 0..edges_of(job) {
-        needed += 2 * tasks_of(job, e + 1) + 4;
+    let mut needed = job.tasks(0);
+    for e in 0..job.edges() {
+        needed += 2 * job.tasks(e + 1) + 4;
     }
     needed
 }

@@ -15,7 +15,7 @@ ghost use Rattle.job_workers.specs.Tasks.{IsGateBehind};
 ghost use Rattle.job_cells.specs.Edges.{IsEdgeOf};
 ghost use Rattle.job_deploy.specs.Placing.{AreFewer, AreGateCells, AreStops, AreTakers, HasTheirs, IsStop};
 
-use crate::order::{item_at, part_of, take_last};
+use crate::order::{item_at, part_of};
 use crate::shared::Shared;
 use flow_defs::{Bytes, Job, ListOf};
 use input_gate::{CellGate, InputCell, InputPass};
@@ -97,8 +97,8 @@ impl<'p> Takers<'p> {
         ensures cells { IfOk result (λ gate. AreGateCells job.now e (length self.new.own.items) edge.now (cells_in gate.lanes)) }
     {
         let _job = job;
-        let own = take_last(&mut self.own);
-        let pool_pass = take_last(&mut self.pools);
+        let own = self.own.take_last();
+        let pool_pass = self.pools.take_last();
         let index = self.own.as_slice().len();
         let ways = own.as_slice().len();
         let first = index * ways;

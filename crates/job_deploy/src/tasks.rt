@@ -6,10 +6,9 @@ ghost use Rattle.job_deploy.specs.Deployed.{AreAggregates, AreStage, IsAggregate
 ghost use Rattle.job_deploy.specs.Lending.{AreLent, AreSendersAt, AreSourcesOver, AreTakersAt, IsLentAt};
 ghost use Rattle.job_deploy.specs.Placing.{AreFewer, AreStops, HasFirst, HasStages};
 
-use crate::order::{item_at, put, take_last, turned};
+use crate::order::{item_at, put, turned};
 use crate::senders::Senders;
 use crate::shared::Shared;
-use crate::span::{edges_of, tasks_of};
 use crate::takers::Takers;
 use flow_defs::{Job, ListOf};
 use job_cells::Edge;
@@ -68,7 +67,7 @@ pub fn sources_lent<'a, 'p>(
 {
     let mut senders = senders;
     let mut lents = ListOf::new(alloc);
-    let many = tasks_of(job, 0);
+    let many = job.tasks(0);
     for _made in 0..many {
         lents.push(source_lent(job, size, edges, &mut senders, shared))?;
     }
@@ -138,7 +137,7 @@ pub fn stage_row<'a, 'p, S: Drop>(
     let mut takers = takers;
     let mut senders = senders;
     let mut row = ListOf::new(alloc);
-    let many = tasks_of(job, e + 1);
+    let many = job.tasks(e + 1);
     for _made in 0..many {
         let task = stage_task(
             alloc,
@@ -204,8 +203,8 @@ pub fn aggregate_row<'a, 'p, S: Drop>(
     ensures stops { OnOk result (AreFewer (2 * tasks job.now (suc (last_edge job.now))) shared.old shared.new) }
     ensures theirs { OnOk result (HasStages job.now (suc (last_edge job.now)) shared.new) }
 {
-    let stage = edges_of(job);
-    let many = tasks_of(job, stage);
+    let stage = job.edges();
+    let many = job.tasks(stage);
     let mut takers = takers;
     let mut row = ListOf::new(alloc);
     for _made in 0..many {
@@ -233,7 +232,7 @@ pub fn source_row<'a, 'p, S: Drop>(
     let mut lents = lents;
     let mut row = row;
     'sources: while let Some(input) = inputs.pop() {
-        let SourceLent { partition, lent } = take_last(&mut lents);
+        let SourceLent { partition, lent } = lents.take_last();
         let task = SourceTask {
             alloc,
             input,

@@ -24,7 +24,7 @@ wires-smaller g c = let l = ap length c.in-Some.ensures.items ∙ length_push c.
 pub wires-preserved : goal.wires-preserved
 wires-preserved g c =
     let before = c.wires.invariant in
-    let rest = c.pop.new.self.items in let wire = c.in-Some.wire in let share = c.take_last-share.result in let left = c.take_last-share.new.list.items in let row = c.loops_over.result in
+    let rest = c.pop.new.self.items in let wire = c.in-Some.wire in let share = c.take_last-share.result in let left = c.take_last-share.new.self.items in let row = c.loops_over.result in
     let wires = c.args.wires.now.items in let shares = c.args.shares.items in
     let shorter = ap length c.in-Some.ensures.items ∙ length_push rest wire in
     let fewer = ap length c.take_last-share.ensures.items ∙ length_push left share in

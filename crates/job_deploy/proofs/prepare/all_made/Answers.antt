@@ -11,7 +11,7 @@ use Rattle.job_deploy.proofs.prepare.all_made.Goals as goal
 
 pub last_made-requires-clause-passes : goal.last_made-requires-clause-passes
 last_made-requires-clause-passes g c = λ edge stands.
-    let rest = c.take_last-last.new.list.items in let last = c.take_last-last.result in let job = c.args.job.now in
+    let rest = c.take_last-last.new.self.items in let last = c.take_last-last.result in let job = c.args.job.now in
     let many : length rest ≡ last_edge job =
     (let l = ap length c.take_last-last.ensures.items ∙ length_push rest last in let m = c.requires.passes.many in let n = c.requires.edges.many in omega (arith, l, m, n)) in
     c.requires.passes.each (last_edge job) edge last stands (ap (λ l. slice_get l (last_edge job)) c.take_last-last.ensures.items ∙ at_last rest last (last_edge job) (sym many))
@@ -25,7 +25,7 @@ last_made-requires-clause-stops g c =
 pub edges-init : goal.edges-init
 edges-init g c =
     let first = c.args.shared.now in
-    let rest = c.take_last-last.new.list.items in let last = c.take_last-last.result in let job = c.args.job.now in
+    let rest = c.take_last-last.new.self.items in let last = c.take_last-last.result in let job = c.args.job.now in
     let many : length rest ≡ last_edge job =
     (let l = ap length c.take_last-last.ensures.items ∙ length_push rest last in let m = c.requires.passes.many in let n = c.requires.edges.many in omega (arith, l, m, n)) in
     let f = λ (e : ℕ). 2 * tasks job (suc e) + 4 in

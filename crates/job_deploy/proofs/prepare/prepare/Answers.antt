@@ -22,11 +22,11 @@ returns g c =
     let shares_many : length c.in_ok-made.made.shares.items ≡ suc last = (let m = made.shares_many in omega (arith, m)) in
     record {
       lents = as_before (λ every snapshots. AreLent job c.args.size every snapshots edges c.in_ok-lents.lents.items) first c.all_made.new.shared c.in_ok-made.ensures.stayed c.in_ok-lents.ensures.lent;
-      sources = (c.reserve-2.ensures.items ∙ c.new-sources.ensures, (let r = c.in_ok-reserve-2.ensures.ok in let t = c.tasks_of.ensures.is in omega (arith, r, t)));
+      sources = (c.reserve-2.ensures.items ∙ c.new-sources.ensures, (let r = c.in_ok-reserve-2.ensures.ok in let t = c.tasks.ensures.is in omega (arith, r, t)));
       rows_many = ap length c.reserve.ensures.items ∙ (let m = made.rows_many in omega (arith, m));
       rows = subst (λ (l : List _). AreTurned (IsRowAt job c.args.size first.every first.snapshots.now edges) (suc (suc last)) l) (sym c.reserve.ensures.items) made.rows;
       rows_room = c.in_ok-reserve.ensures.ok;
       shares_many = length_turned c.in_ok-made.made.shares.items c.turned.result.items c.turned.ensures ∙ shares_many;
       shares = in_order (AreSharesAt edges) (suc last) c.in_ok-made.made.shares.items c.turned.result.items c.turned.ensures shares_many made.shares;
-      loops = (c.reserve-3.ensures.items ∙ c.new-loops.ensures, (let r = c.in_ok-reserve-3.ensures.ok in let t = c.edges_of.ensures in omega (arith, r, t)));
+      loops = (c.reserve-3.ensures.items ∙ c.new-loops.ensures, (let r = c.in_ok-reserve-3.ensures.ok in let t = c.edges.ensures in omega (arith, r, t)));
     }

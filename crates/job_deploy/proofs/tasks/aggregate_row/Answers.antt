@@ -45,35 +45,35 @@ loop-made-preserved g c =
 pub returns-clause-row : goal.returns-clause-row
 returns-clause-row g c =
     let i = c.loop-made.invariant in let job = c.args.job.now in
-    let end : c.loop-made._made ≡ c.tasks_of-many.result = omega arith in
-    let n : c.loop-made._made ≡ tasks job (suc (last_edge job)) = end ∙ c.tasks_of-many.ensures.is ∙ ap (tasks job) c.edges_of-stage.ensures in
+    let end : c.loop-made._made ≡ c.tasks-many.result = omega arith in
+    let n : c.loop-made._made ≡ tasks job (suc (last_edge job)) = end ∙ c.tasks-many.ensures.is ∙ ap (tasks job) c.edges-stage.ensures in
     aggregate_row_is job c.args.size c.args.shared.now.every c.args.shared.now.snapshots.now c.args.edges.now c.loop-made.row.items c.turned.result.items c.turned.ensures (i.row_many ∙ n) i.row
 
 pub returns-clause-stops : goal.returns-clause-stops
 returns-clause-stops g c =
     let job = c.args.job.now in
-    let end : c.loop-made._made ≡ c.tasks_of-many.result = omega arith in
-    let n : c.loop-made._made ≡ tasks job (suc (last_edge job)) = end ∙ c.tasks_of-many.ensures.is ∙ ap (tasks job) c.edges_of-stage.ensures in
+    let end : c.loop-made._made ≡ c.tasks-many.result = omega arith in
+    let n : c.loop-made._made ≡ tasks job (suc (last_edge job)) = end ∙ c.tasks-many.ensures.is ∙ ap (tasks job) c.edges-stage.ensures in
     subst (λ k. AreFewer (2 * k) c.args.shared.now c.loop-made.shared) n c.loop-made.invariant.stops
 
 pub returns-clause-theirs : goal.returns-clause-theirs
 returns-clause-theirs g c =
     let i = c.loop-made.invariant in let job = c.args.job.now in
-    let end : c.loop-made._made ≡ c.tasks_of-many.result = omega arith in
-    let n : c.loop-made._made ≡ tasks job (suc (last_edge job)) = end ∙ c.tasks_of-many.ensures.is ∙ ap (tasks job) c.edges_of-stage.ensures in
+    let end : c.loop-made._made ≡ c.tasks-many.result = omega arith in
+    let n : c.loop-made._made ≡ tasks job (suc (last_edge job)) = end ∙ c.tasks-many.ensures.is ∙ ap (tasks job) c.edges-stage.ensures in
     let l = i.left in
     stages_left job (suc (last_edge job)) (length c.loop-made.takers.own.items) c.loop-made.shared (omega (arith, l, n)) i.theirs
 
 pub aggregate_task-requires-clause-takers : goal.aggregate_task-requires-clause-takers
 aggregate_task-requires-clause-takers g c =
     let i = c.loop-made.invariant in let job = c.args.job.now in
-    let n : c.tasks_of-many.result ≡ tasks job (suc (last_edge job)) = c.tasks_of-many.ensures.is ∙ ap (tasks job) c.edges_of-stage.ensures in
+    let n : c.tasks-many.result ≡ tasks job (suc (last_edge job)) = c.tasks-many.ensures.is ∙ ap (tasks job) c.edges-stage.ensures in
     let low = c.loop-made-test.true in let l = i.left in
     (i.takers, omega (arith, l, n, low))
 
 pub aggregate_task-requires-clause-stops : goal.aggregate_task-requires-clause-stops
 aggregate_task-requires-clause-stops g c =
     let i = c.loop-made.invariant in let job = c.args.job.now in
-    let n : c.tasks_of-many.result ≡ tasks job (suc (last_edge job)) = c.tasks_of-many.ensures.is ∙ ap (tasks job) c.edges_of-stage.ensures in
+    let n : c.tasks-many.result ≡ tasks job (suc (last_edge job)) = c.tasks-many.ensures.is ∙ ap (tasks job) c.edges-stage.ensures in
     let low = c.loop-made-test.true in let f = i.stops.fewer in let s = c.requires.stops.1 in
     (i.stops.are, omega (arith, f, s, n, low))

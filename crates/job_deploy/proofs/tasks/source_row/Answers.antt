@@ -28,7 +28,7 @@ sources-smaller g c = let l = ap length c.in-Some.ensures.items ∙ length_push 
 pub sources-preserved : goal.sources-preserved
 sources-preserved g c =
     let before = c.sources.invariant in
-    let rest = c.pop.new.self.items in let input = c.in-Some.input in let lent = c.take_last-partition.result in let left = c.take_last-partition.new.list.items in
+    let rest = c.pop.new.self.items in let input = c.in-Some.input in let lent = c.take_last-partition.result in let left = c.take_last-partition.new.self.items in
     let inputs = c.args.inputs.now.items in let lents = c.args.lents.items in
     let task : SourceTask g.row.S.Denot = record { alloc = c.args.alloc; input = input; index = length c.as_slice.result.now; partition = lent.partition; lent = lent.lent } in
     let shorter = ap length c.in-Some.ensures.items ∙ length_push rest input in

@@ -35,8 +35,8 @@ loop-made-preserved c =
 pub returns-clause-lent : goal.returns-clause-lent
 returns-clause-lent c =
     let i = c.loop-made.invariant in let job = c.args.job.now in let first = c.args.shared.now in
-    let end : c.loop-made._made ≡ c.tasks_of-many.result = omega arith in
-    let all : length c.loop-made.lents.items ≡ tasks job 0 = i.lents_many ∙ end ∙ c.tasks_of-many.ensures.is in
+    let end : c.loop-made._made ≡ c.tasks-many.result = omega arith in
+    let all : length c.loop-made.lents.items ≡ tasks job 0 = i.lents_many ∙ end ∙ c.tasks-many.ensures.is in
     record {
       many = length_turned c.loop-made.lents.items c.turned.result.items c.turned.ensures ∙ all;
       each = in_order (IsLentAt job c.args.size first.every first.snapshots.now c.args.edges.now) (tasks job 0) c.loop-made.lents.items c.turned.result.items c.turned.ensures all i.lents;
@@ -44,5 +44,5 @@ returns-clause-lent c =
 
 pub returns-clause-stops : goal.returns-clause-stops
 returns-clause-stops c =
-    let end : c.loop-made._made ≡ c.tasks_of-many.result = omega arith in
-    subst (λ k. AreFewer k c.args.shared.now c.loop-made.shared) (end ∙ c.tasks_of-many.ensures.is) c.loop-made.invariant.stops
+    let end : c.loop-made._made ≡ c.tasks-many.result = omega arith in
+    subst (λ k. AreFewer k c.args.shared.now c.loop-made.shared) (end ∙ c.tasks-many.ensures.is) c.loop-made.invariant.stops

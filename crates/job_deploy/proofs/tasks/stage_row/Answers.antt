@@ -49,35 +49,35 @@ loop-made-preserved g c =
 pub returns-clause-row : goal.returns-clause-row
 returns-clause-row g c =
     let i = c.loop-made.invariant in let job = c.args.job.now in
-    let end : c.loop-made._made ≡ c.tasks_of-many.result = omega arith in
-    let n : c.loop-made._made ≡ tasks job (suc c.args.e) = end ∙ c.tasks_of-many.ensures.is ∙ ap (tasks job) (let next : c.args.e + 1 ≡ suc c.args.e = omega arith in next) in
+    let end : c.loop-made._made ≡ c.tasks-many.result = omega arith in
+    let n : c.loop-made._made ≡ tasks job (suc c.args.e) = end ∙ c.tasks-many.ensures.is ∙ ap (tasks job) (let next : c.args.e + 1 ≡ suc c.args.e = omega arith in next) in
     stage_row_is job c.args.size c.args.shared.now.every c.args.shared.now.snapshots.now c.args.edges.now c.args.e c.loop-made.row.items c.turned.result.items c.turned.ensures (i.row_many ∙ n) i.row
 
 pub returns-clause-stops : goal.returns-clause-stops
 returns-clause-stops g c =
     let job = c.args.job.now in
-    let end : c.loop-made._made ≡ c.tasks_of-many.result = omega arith in
-    let n : c.loop-made._made ≡ tasks job (suc c.args.e) = end ∙ c.tasks_of-many.ensures.is ∙ ap (tasks job) (let next : c.args.e + 1 ≡ suc c.args.e = omega arith in next) in
+    let end : c.loop-made._made ≡ c.tasks-many.result = omega arith in
+    let n : c.loop-made._made ≡ tasks job (suc c.args.e) = end ∙ c.tasks-many.ensures.is ∙ ap (tasks job) (let next : c.args.e + 1 ≡ suc c.args.e = omega arith in next) in
     subst (λ k. AreFewer (2 * k) c.args.shared.now c.loop-made.shared) n c.loop-made.invariant.stops
 
 pub returns-clause-theirs : goal.returns-clause-theirs
 returns-clause-theirs g c =
     let i = c.loop-made.invariant in let job = c.args.job.now in
-    let end : c.loop-made._made ≡ c.tasks_of-many.result = omega arith in
-    let n : c.loop-made._made ≡ tasks job (suc c.args.e) = end ∙ c.tasks_of-many.ensures.is ∙ ap (tasks job) (let next : c.args.e + 1 ≡ suc c.args.e = omega arith in next) in
+    let end : c.loop-made._made ≡ c.tasks-many.result = omega arith in
+    let n : c.loop-made._made ≡ tasks job (suc c.args.e) = end ∙ c.tasks-many.ensures.is ∙ ap (tasks job) (let next : c.args.e + 1 ≡ suc c.args.e = omega arith in next) in
     let l = i.left in
     stages_left job (suc c.args.e) (length c.loop-made.takers.own.items) c.loop-made.shared (omega (arith, l, n)) i.theirs
 
 pub stage_task-requires-clause-takers : goal.stage_task-requires-clause-takers
 stage_task-requires-clause-takers g c =
     let i = c.loop-made.invariant in
-    let n : c.tasks_of-many.result ≡ tasks c.args.job.now (suc c.args.e) = c.tasks_of-many.ensures.is ∙ ap (tasks c.args.job.now) (let next : c.args.e + 1 ≡ suc c.args.e = omega arith in next) in
+    let n : c.tasks-many.result ≡ tasks c.args.job.now (suc c.args.e) = c.tasks-many.ensures.is ∙ ap (tasks c.args.job.now) (let next : c.args.e + 1 ≡ suc c.args.e = omega arith in next) in
     let low = c.loop-made-test.true in let l = i.left in
     (i.takers, omega (arith, l, n, low))
 
 pub stage_task-requires-clause-stops : goal.stage_task-requires-clause-stops
 stage_task-requires-clause-stops g c =
     let i = c.loop-made.invariant in
-    let n : c.tasks_of-many.result ≡ tasks c.args.job.now (suc c.args.e) = c.tasks_of-many.ensures.is ∙ ap (tasks c.args.job.now) (let next : c.args.e + 1 ≡ suc c.args.e = omega arith in next) in
+    let n : c.tasks-many.result ≡ tasks c.args.job.now (suc c.args.e) = c.tasks-many.ensures.is ∙ ap (tasks c.args.job.now) (let next : c.args.e + 1 ≡ suc c.args.e = omega arith in next) in
     let low = c.loop-made-test.true in let f = i.stops.fewer in let s = c.requires.stops.1 in
     (i.stops.are, omega (arith, f, s, n, low))

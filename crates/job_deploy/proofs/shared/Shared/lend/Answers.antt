@@ -7,8 +7,8 @@ pub returns-clause-stops : goal.returns-clause-stops
 returns-clause-stops c = let was = c.args.self.now in let taken = c.take_last-stop_pass in record {
   stayed = record { every_is = refl; channel = refl };
   cell = refl;
-  are = (All-pop (IsStop was.stop.now) was.stops.items taken.new.list.items (Some taken.result) taken.ensures.items c.requires.stops.0).0;
-  fewer = ap length taken.ensures.items ∙ length-append taken.new.list.items (taken.result ∷ []);
+  are = (All-pop (IsStop was.stop.now) was.stops.items taken.new.self.items (Some taken.result) taken.ensures.items c.requires.stops.0).0;
+  fewer = ap length taken.ensures.items ∙ length-append taken.new.self.items (taken.result ∷ []);
 }
 
 pub returns-clause-taken : goal.returns-clause-taken
@@ -18,5 +18,5 @@ returns-clause-taken c = let was = c.args.self.now in let taken = c.take_last-st
   snapshot_pass = c.take_last-snapshot_pass.ensures.items;
   last_image = (refl, refl);
   last_pass = c.take_last-last_pass.ensures.items;
-  stop = (All-pop (IsStop was.stop.now) was.stops.items taken.new.list.items (Some taken.result) taken.ensures.items c.requires.stops.0).1;
+  stop = (All-pop (IsStop was.stop.now) was.stops.items taken.new.self.items (Some taken.result) taken.ensures.items c.requires.stops.0).1;
 }

@@ -8,17 +8,17 @@ use Rattle.job_deploy.proofs.takers.Takers.next.Goals as goal
 
 pub returns-clause-takers : goal.returns-clause-takers
 returns-clause-takers c =
-    let after : Takers = record { own = c.take_last-own.new.list; pools = c.take_last-pool_pass.new.list } in
+    let after : Takers = record { own = c.take_last-own.new.self; pools = c.take_last-pool_pass.new.self } in
     deal.takers_rest c.args.job.now c.args.e c.args.edge.now c.args.self.now after c.take_last-own.result c.take_last-pool_pass.result c.requires.takers c.take_last-own.ensures.items c.take_last-pool_pass.ensures.items
 
 pub returns-clause-fewer : goal.returns-clause-fewer
 returns-clause-fewer c =
-    let after : Takers = record { own = c.take_last-own.new.list; pools = c.take_last-pool_pass.new.list } in
+    let after : Takers = record { own = c.take_last-own.new.self; pools = c.take_last-pool_pass.new.self } in
     deal.takers_fewer c.args.job.now c.args.e c.args.edge.now c.args.self.now after c.take_last-own.result c.take_last-pool_pass.result c.requires.takers c.take_last-own.ensures.items c.take_last-pool_pass.ensures.items
 
 pub overflow_mul-first : goal.overflow_mul-first
 overflow_mul-first c =
-    let after : Takers = record { own = c.take_last-own.new.list; pools = c.take_last-pool_pass.new.list } in
+    let after : Takers = record { own = c.take_last-own.new.self; pools = c.take_last-pool_pass.new.self } in
     let job = c.args.job.now in let e = c.args.e in let edge = c.args.edge.now in let own = c.take_last-own.result in let pool = c.take_last-pool_pass.result in
     let here = deal.taker_within job e edge c.args.self.now after own pool c.requires.takers c.take_last-own.ensures.items c.take_last-pool_pass.ensures.items in
     let gate = deal.last_taker job e edge c.args.self.now after own pool c.requires.takers c.take_last-own.ensures.items c.take_last-pool_pass.ensures.items in
@@ -30,7 +30,7 @@ overflow_mul-first c =
 
 pub part_of-cells-requires : goal.part_of-cells-requires
 part_of-cells-requires c =
-    let after : Takers = record { own = c.take_last-own.new.list; pools = c.take_last-pool_pass.new.list } in
+    let after : Takers = record { own = c.take_last-own.new.self; pools = c.take_last-pool_pass.new.self } in
     let job = c.args.job.now in let e = c.args.e in let edge = c.args.edge.now in let own = c.take_last-own.result in let pool = c.take_last-pool_pass.result in
     let here = deal.taker_within job e edge c.args.self.now after own pool c.requires.takers c.take_last-own.ensures.items c.take_last-pool_pass.ensures.items in
     let gate = deal.last_taker job e edge c.args.self.now after own pool c.requires.takers c.take_last-own.ensures.items c.take_last-pool_pass.ensures.items in
@@ -44,7 +44,7 @@ part_of-cells-requires c =
 
 pub item_at-pool-requires : goal.item_at-pool-requires
 item_at-pool-requires c =
-    let after : Takers = record { own = c.take_last-own.new.list; pools = c.take_last-pool_pass.new.list } in
+    let after : Takers = record { own = c.take_last-own.new.self; pools = c.take_last-pool_pass.new.self } in
     let job = c.args.job.now in let e = c.args.e in let edge = c.args.edge.now in let own = c.take_last-own.result in let pool = c.take_last-pool_pass.result in
     let here = deal.taker_within job e edge c.args.self.now after own pool c.requires.takers c.take_last-own.ensures.items c.take_last-pool_pass.ensures.items in
     let gate = deal.last_taker job e edge c.args.self.now after own pool c.requires.takers c.take_last-own.ensures.items c.take_last-pool_pass.ensures.items in
@@ -54,7 +54,7 @@ item_at-pool-requires c =
 -- What `gate_of` is called with.
 pub gate_of-requires : goal.gate_of-requires
 gate_of-requires c =
-    let after : Takers = record { own = c.take_last-own.new.list; pools = c.take_last-pool_pass.new.list } in
+    let after : Takers = record { own = c.take_last-own.new.self; pools = c.take_last-pool_pass.new.self } in
     let job = c.args.job.now in let e = c.args.e in let edge = c.args.edge.now in let own = c.take_last-own.result in let pool = c.take_last-pool_pass.result in
     let here = deal.taker_within job e edge c.args.self.now after own pool c.requires.takers c.take_last-own.ensures.items c.take_last-pool_pass.ensures.items in
     let gate = deal.last_taker job e edge c.args.self.now after own pool c.requires.takers c.take_last-own.ensures.items c.take_last-pool_pass.ensures.items in
@@ -78,7 +78,7 @@ gate_of-requires c =
 
 pub returns-clause-cells : goal.returns-clause-cells
 returns-clause-cells c =
-    let after : Takers = record { own = c.take_last-own.new.list; pools = c.take_last-pool_pass.new.list } in
+    let after : Takers = record { own = c.take_last-own.new.self; pools = c.take_last-pool_pass.new.self } in
     let job = c.args.job.now in let e = c.args.e in let edge = c.args.edge.now in let own = c.take_last-own.result in let pool = c.take_last-pool_pass.result in
     let here = deal.taker_within job e edge c.args.self.now after own pool c.requires.takers c.take_last-own.ensures.items c.take_last-pool_pass.ensures.items in
     let gate = deal.last_taker job e edge c.args.self.now after own pool c.requires.takers c.take_last-own.ensures.items c.take_last-pool_pass.ensures.items in

@@ -21,6 +21,7 @@ use Rattle.source_task.specs.declared.output.SourceOutput.{SourceOutput}
 use Rattle.source_task.specs.Emitting.{AreSnapshots, HasEmitted, has_ended}
 use Rattle.source_task.specs.Sources.{SourceAccount, IsSourceCause}
 use Rattle.task_output.specs.Ending.{EndsAs, ToldAtEnd}
+use Rattle.task_output.specs.Waiting.{MayEnd}
 
 -- ---- where it begins
 
@@ -78,16 +79,24 @@ none_at [] c new = refl
 none_at (p ∷ passes) zero new = new 0 p (omega arith)
 none_at (p ∷ passes) (suc c) new = none_at passes c (λ k d within. new (suc k) d (omega (arith, within)))
 
+abbrev no_groups : List (List (List ℕ))
+no_groups = []
+
+abbrev no_lines : List (List ℕ)
+no_lines = []
+
 -- it found no memory for its writer
 pub account_unsent : (job : Job) (a size : ℕ) (every : Option ℕ) (passes : List SendPass) (sent : List Snapshot) (history : List (ℕ × Stored)) (left : Option (List ℕ)) (fell rose : ℕ) → AreNew passes → sent ≡ [] → fell ≤ rose → SourceAccount job a size every passes sent history left fell rose causes.Memory
-account_unsent job a size every passes sent history left fell rose new none never_falls = record {
+account_unsent job a size every passes sent history left fell rose new none_sent never_falls = record {
   groups = [];
   rest = [];
   begun = [];
-  snapshots = subst (AreSnapshots a every 0 0 0 []) (sym none) tt;
-  put = λ c inside. subst (BegunOn (receiver_on job 0 a) [] (end_of job 0 a c) size []) (sym (none_at passes c new)) (record {
+  snapshots = subst (AreSnapshots a every 0 0 0 []) (sym none_sent) tt;
+  put = λ c inside. subst (BegunOn (receiver_on job 0 a) [] (end_of job 0 a c) size [] (MayEnd every history no_groups no_lines)) (sym (none_at passes c new)) (record {
     more = [] ∷ [];
     cut = refl;
+    few = omega arith;
+    ended = λ over. absurd (cc);
     some = record { owed = []; begins = refl; buffers = tt };
   });
   short = tt;
@@ -103,7 +112,7 @@ account_unsent job a size every passes sent history left fell rose new none neve
     memory_not_done = λ is. cc
 
     ended : has_ended sent ≢ true
-    ended = λ is. (let no : has_ended sent ≡ false = ap has_ended none in cc)
+    ended = λ is. (let no : has_ended sent ≡ false = ap has_ended none_sent in cc)
 
     front_of : (s : Option (List ℕ)) → IfSome s (λ bytes. StartsWith (lines bytes) [])
     front_of None = tt

@@ -1,11 +1,14 @@
 -- A source emits a line.
 use Rattle.std.proofs.Common.{◌≡◌, ℕ, ◌+◌, true, false, List, [], ◌∷◌, ◌++◌, refl, sym, ap, subst, ◌∙◌, append_assoc, append-nil, arith}
 use Rattle.std.proofs.lemmas.List.{length-append}
+use Rattle.turn_cell.specs.Passes.{seen}
 use Rattle.flow_defs.specs.declared.job.Job.{Job}
 use Rattle.flow_defs.specs.Records.{IsShort}
 use Rattle.snapshot_channel.specs.Passes.{sent_by}
 use Rattle.task_output.specs.Outputs.{Output, HasSent, HasStopped, all_of}
 use Rattle.task_output.specs.Laws.{SentIsBegun}
+use Rattle.task_output.specs.Waiting.{MayEnd}
+use Rattle.task_output.proofs.Begun.{unended}
 use Rattle.source_task.specs.declared.output.SourceOutput.{SourceOutput}
 use Rattle.source_task.specs.Emitting.{HasEmitted, HasBroken, BrokeAmong, IsSource, has_ended}
 use Rattle.source_task.proofs.Taking.{broken_still}
@@ -44,7 +47,7 @@ module _ (out : SourceOutput) (line : List ℕ) (short : IsShort line) (not_ende
     }
 
   -- it was stopped on it
-  pub line_stopped : (o : Output) (job : Job) (size : ℕ) (lines : List (List ℕ)) (was : HasEmitted job size out lines) → HasStopped job 0 out.index size o was.groups was.rest (line ∷ []) → BrokeAmong job size (record out { output = o }) lines (line ∷ [])
+  pub line_stopped : (o : Output) (job : Job) (size : ℕ) (lines : List (List ℕ)) (was : HasEmitted job size out lines) → HasStopped job 0 out.index size o was.groups was.rest (line ∷ []) ⊥ → BrokeAmong job size (record out { output = o }) lines (line ∷ [])
   line_stopped o job size lines was stopped = record {
     done = [];
     begun = line ∷ [];
@@ -56,7 +59,7 @@ module _ (out : SourceOutput) (line : List ℕ) (short : IsShort line) (not_ende
       groups = was.groups;
       rest = was.rest;
       all_are = was.all_are ∙ sym (append-nil lines);
-      begun_them = stopped.begun_them;
+      begun_them = unended (MayEnd out.every (seen out.last_pass) was.groups (was.rest ++ line ∷ [])) job 0 out.index size o was.groups was.rest (line ∷ []) stopped.begun_them;
       snapshots = was.snapshots;
       at_end = never;
     };

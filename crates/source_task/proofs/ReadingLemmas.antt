@@ -18,6 +18,8 @@ use Rattle.record_writer.specs.Writers.{HasSeenFault}
 use Rattle.snapshot_channel.specs.Passes.{sent_by}
 use Rattle.task_output.specs.Outputs.{all_of}
 use Rattle.task_output.specs.Laws.{SentIsBegun, FinishedIsBegun}
+use Rattle.task_output.specs.Waiting.{MayEnd}
+use Rattle.task_output.proofs.Begun.{may_have_ended}
 use Rattle.source_task.specs.declared.output.LineFault.{LineFault}
 use Rattle.source_task.specs.declared.output.LineFault.TheVariants as faults
 use Rattle.source_task.specs.declared.output.SourceOutput.{SourceOutput}
@@ -25,6 +27,10 @@ use Rattle.source_task.specs.Emitting.{HasEmitted, HasBroken, has_ended}
 use Rattle.source_task.specs.Cutting.{IsSourceUnderWay, OutputGoesOn, BrokeOff, IsLineFault, cause_of_line}
 use Rattle.source_task.specs.Sources.{SourceAccount, SourceEnd, IsSourceCause, EndedAs}
 use Rattle.source_task.proofs.Taking.{broken_still}
+
+-- no line follows
+abbrev no_lines : List (List ℕ)
+no_lines = []
 
 -- some lines have ended in what was read, so many bytes, and the lines of what is left of all follow them
 abbrev pub IsOnWay : Job → ℕ → Option (List ℕ) → Option (List ℕ) → ℕ → SourceOutput → List ℕ → Type 0
@@ -161,7 +167,7 @@ module _ (law : SentIsBegun) (over : FinishedIsBegun) (job : Job) (size : ℕ) (
           rest = [];
           begun = [];
           snapshots = finished.1.snapshots;
-          put = (over job 0 out.index size out.output finished.1.groups [] finished.1.finished).each;
+          put = (may_have_ended (MayEnd out.every (seen out.last_pass) finished.1.groups no_lines) (finished.1.last, refl) job 0 out.index size out.output finished.1.groups [] [] (over job 0 out.index size out.output finished.1.groups [] finished.1.finished)).each;
           short = subst (AllByRecursion IsShort) (sym (append-nil (all_of finished.1.groups) ∙ finished.1.all_are)) behind.0;
           front = whole_front start (all_of_it start way.2) (append-nil (all_of finished.1.groups) ∙ finished.1.all_are);
           at_end = λ is. (whole start (all_of_it start way.2) finished.1.all_are, refl);

@@ -1,6 +1,6 @@
 -- A source takes a checkpoint.
 use Rattle.std.proofs.Common.{◌≡◌, ℕ, zero, suc, ◌+◌, Bool, true, List, [], ◌∷◌, ◌++◌, length, Option, Some, None, refl, sym, ap, subst, ◌∙◌, append-nil, arith}
-use Rattle.std.specs.Prelude.{All}
+use Rattle.std.specs.Prelude.{⊤, All}
 use Rattle.std.specs.FinMap.{empty}
 use Rattle.std.proofs.lemmas.List.{length-append}
 use Rattle.std.proofs.lemmas.List.Elements.{All-nil}
@@ -18,9 +18,10 @@ use Rattle.plain_machine.specs.Theorems.{CountedInParts}
 use Rattle.snapshot_channel.specs.declared.opened.TaskPass.{TaskPass}
 use Rattle.snapshot_channel.specs.Snapshots.{AreTakesAt, FitsTask, LeadsTo, ComesFrom, HaveOwnChannels, IsAtEnd, MaySend}
 use Rattle.snapshot_channel.specs.Passes.{opening_of, sent_by, task_of}
-use Rattle.task_output.specs.Outputs.{Output, HasSent, HasBegun, HasStopped, all_of, count_behind}
+use Rattle.task_output.specs.Outputs.{Output, HasSent, HasStopped, all_of, count_behind}
 use Rattle.task_output.specs.Laws.{SentIsBegun, BarrierIsLeftAside}
-use Rattle.task_output.specs.Waiting.{HasWaited}
+use Rattle.task_output.specs.Waiting.{HasWaited, LastIs, MayEnd}
+use Rattle.task_output.proofs.Begun.{unended, may_have_ended}
 use Rattle.turn_cell.specs.Passes.{seen}
 use Rattle.source_task.specs.declared.output.SourceOutput.{SourceOutput}
 use Rattle.source_task.specs.Emitting.{IsSnapshotAt, IsInterval, AreSnapshots, HasEmitted, HasBroken, IsSource, has_ended}
@@ -33,31 +34,43 @@ broken_still law job size out lines was = record {
   groups = was.groups;
   rest = was.rest;
   all_are = was.all_are;
-  begun_them = law job 0 out.index size out.output was.groups was.rest was.sent;
+  begun_them = unended (MayEnd out.every (seen out.last_pass) was.groups (was.rest ++ [])) job 0 out.index size out.output was.groups was.rest [] (law job 0 out.index size out.output was.groups was.rest was.sent);
   snapshots = was.snapshots;
   at_end = λ is. append-nil was.rest ∙ was.at_end is;
 }
 
-pub broken_at_barrier : (job : Job) (size : ℕ) (out : SourceOutput) (o : Output) (lines : List (List ℕ)) (was : HasEmitted job size out lines) → HasStopped job 0 out.index size o was.groups was.rest [] → HasBroken job size (record out { output = o }) lines []
+pub broken_at_barrier : (job : Job) (size : ℕ) (out : SourceOutput) (o : Output) (lines : List (List ℕ)) (was : HasEmitted job size out lines) → HasStopped job 0 out.index size o was.groups was.rest [] ⊥ → HasBroken job size (record out { output = o }) lines []
 broken_at_barrier job size out o lines was stopped = record {
   groups = was.groups;
   rest = was.rest;
   all_are = was.all_are;
-  begun_them = stopped.begun_them;
+  begun_them = unended (MayEnd out.every (seen out.last_pass) was.groups (was.rest ++ [])) job 0 out.index size o was.groups was.rest [] stopped.begun_them;
   snapshots = was.snapshots;
   at_end = λ is. append-nil was.rest ∙ was.at_end is;
 }
 
 -- the snapshot behind its barrier was not sent
-pub broken_behind_barrier : SentIsBegun → BarrierIsLeftAside → (job : Job) (size : ℕ) (out : SourceOutput) (o : Output) (pass : TaskPass) (lines : List (List ℕ)) (was : HasEmitted job size out lines)
+pub broken_behind_barrier : BarrierIsLeftAside → (job : Job) (size : ℕ) (out : SourceOutput) (o : Output) (pass : TaskPass) (lines : List (List ℕ)) (was : HasEmitted job size out lines)
     → HasSent job 0 out.index size o (was.groups ++ was.rest ∷ []) [] → sent_by pass ≡ sent_by out.pass → HasBroken job size (record out { output = o; pass = pass }) lines []
-broken_behind_barrier law aside job size out o pass lines was sent same = record {
+broken_behind_barrier aside job size out o pass lines was sent same = record {
   groups = was.groups;
   rest = was.rest;
   all_are = was.all_are;
-  begun_them = subst (λ l. HasBegun job 0 out.index size o was.groups l []) (append-nil was.rest) (aside job 0 out.index size o was.groups was.rest [] [] (law job 0 out.index size o (was.groups ++ was.rest ∷ []) [] sent));
+  begun_them = unended (MayEnd out.every (seen out.last_pass) was.groups (was.rest ++ [])) job 0 out.index size o was.groups was.rest [] (aside job 0 out.index size o was.groups was.rest sent);
   snapshots = subst (AreSnapshots out.index out.every 0 0 0 was.groups) (sym same) was.snapshots;
   at_end = λ is. append-nil was.rest ∙ was.at_end (ap has_ended (sym same) ∙ is);
+}
+
+-- it was ending its channels
+pub broken_at_end : (job : Job) (size : ℕ) (out : SourceOutput) (o : Output) (lines : List (List ℕ)) (was : HasEmitted job size out lines) → LastIs out.every (seen out.last_pass) out.barriers true → has_ended (sent_by out.pass) ≡ true
+    → HasStopped job 0 out.index size o was.groups was.rest [] ⊤ → HasBroken job size (record out { output = o }) lines []
+broken_at_end job size out o lines was last ended stopped = record {
+  groups = was.groups;
+  rest = was.rest;
+  all_are = was.all_are;
+  begun_them = may_have_ended (MayEnd out.every (seen out.last_pass) was.groups (was.rest ++ [])) (subst (λ n. LastIs out.every (seen out.last_pass) n true) was.barriers_are last, append-nil was.rest ∙ was.at_end ended) job 0 out.index size o was.groups was.rest [] stopped.begun_them;
+  snapshots = was.snapshots;
+  at_end = λ is. append-nil was.rest ∙ was.at_end is;
 }
 
 -- ---- where it goes on

@@ -16,7 +16,7 @@ use Rattle.outside.specs.declared.last_image.Stored.{Stored}
 use Rattle.record_writer.specs.Writers.{IsSame, HasSeenFault}
 use Rattle.snapshot_channel.specs.Passes.{IsPassOf, opening_of, sent_by, task_of}
 use Rattle.task_output.specs.Outputs.{HasSent, HasBegun, HasFinished, all_of}
-use Rattle.task_output.specs.Waiting.{HasWaited, LastIs}
+use Rattle.task_output.specs.Waiting.{HasWaited, LastIs, MayEnd}
 use Rattle.source_task.specs.declared.output.SourceOutput.{SourceOutput}
 use Rattle.source_task.specs.declared.output.LineFault.{LineFault}
 use Rattle.source_task.specs.declared.output.LineFault.TheVariants as faults
@@ -81,7 +81,7 @@ pub record HasBroken (job : Job) (size : ℕ) (out : SourceOutput) (lines begun 
   pub groups : List (List (List ℕ))
   pub rest : List (List ℕ)
   pub all_are : all_of groups ++ rest ≡ lines
-  pub begun_them : HasBegun job 0 out.index size out.output groups rest begun
+  pub begun_them : HasBegun job 0 out.index size out.output groups rest begun (MayEnd out.every (seen out.last_pass) groups (rest ++ begun))
   pub snapshots : AreSnapshots out.index out.every 0 0 0 groups (sent_by out.pass)
   pub at_end : has_ended (sent_by out.pass) ≡ true → rest ++ begun ≡ []
 

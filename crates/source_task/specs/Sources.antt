@@ -23,7 +23,7 @@ use Rattle.snapshot_channel.specs.Passes as channels
 use Rattle.snapshot_channel.specs.Passes.{sent_by}
 use Rattle.task_output.specs.Outputs.{BegunOn, FinishedOn, all_of, end_of}
 use Rattle.task_output.specs.Ending.{EndsAs, ToldAtEnd}
-use Rattle.task_output.specs.Waiting.{LastIs}
+use Rattle.task_output.specs.Waiting.{LastIs, MayEnd}
 use Rattle.source_task.specs.declared.output.LineFault.{LineFault}
 use Rattle.source_task.specs.declared.output.SourceOutput.{SourceOutput}
 use Rattle.source_task.specs.declared.source.SourceTaskEnd.{SourceTaskEnd}
@@ -47,13 +47,14 @@ IsSourceCause a left fell rose causes.Memory = ⊤
 
 -- What source a did by its passes: it emitted lines of its input from the first on, where that is told, with a barrier and a snapshot
 -- behind each group of them. Behind a snapshot that it sent at its end no line follows, and none is left. It was done only where it had
--- acknowledged the last checkpoint of the job, at its end, and then ended its channels.
+-- acknowledged the last checkpoint of the job, at its end, and then ended its channels. Whatever its cause, it put at most one barrier more
+-- than it sent snapshots, and an end only behind the barrier of the last checkpoint.
 pub record SourceAccount (job : Job) (a size : ℕ) (every : Option ℕ) (passes : List SendPass) (sent : List Snapshot) (history : List (ℕ × Stored)) (left : Option (List ℕ)) (fell rose : ℕ) (cause : Cause) : Type 0 where
   pub groups : List (List (List ℕ))
   pub rest : List (List ℕ)
   pub begun : List (List ℕ)
   pub snapshots : AreSnapshots a every 0 0 0 groups sent
-  pub put : (c : ℕ) → c < ways_on job 0 → BegunOn (receiver_on job 0 a) groups (end_of job 0 a c) size (rest ++ begun) (mine_at c passes)
+  pub put : (c : ℕ) → c < ways_on job 0 → BegunOn (receiver_on job 0 a) groups (end_of job 0 a c) size (rest ++ begun) (MayEnd every history groups (rest ++ begun)) (mine_at c passes)
   pub short : AllByRecursion IsShort (all_of groups ++ (rest ++ begun))
   pub front : IfSome left (λ bytes. StartsWith (lines bytes) (all_of groups ++ (rest ++ begun)))
   pub at_end : has_ended sent ≡ true → IfSome left (λ bytes. lines bytes ≡ all_of groups) × (rest ++ begun ≡ [])

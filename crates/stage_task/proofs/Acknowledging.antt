@@ -29,14 +29,15 @@ use Rattle.snapshot_channel.specs.Passes.{IsPassOf, opening_of, sent_by, task_of
 use Rattle.task_taking.specs.Takings.{Taking, HasTaken, IsAtBarrier}
 use Rattle.task_taking.specs.Endings.{ResumedIsGiven}
 use Rattle.task_output.specs.Outputs.{Output, HasSent, count_behind}
-use Rattle.task_output.specs.Laws.{SentIsBegun, BarrierIsLeftAside}
-use Rattle.task_output.specs.Waiting.{LastIs, KnowsLast, HasWaited, SeenIsWaited, WaitedStays}
+use Rattle.task_output.specs.Laws.{BarrierIsLeftAside}
+use Rattle.task_output.proofs.Begun.{unended}
+use Rattle.task_output.specs.Waiting.{LastIs, MayEnd, KnowsLast, HasWaited, SeenIsWaited, WaitedStays}
 use Rattle.stage_task.specs.declared.checkpoints.StageOutput.{StageOutput}
 use Rattle.stage_task.specs.Snapshots.{IsSnapshotOf, IsSnapshotAt, AreSnapshots, all_applied}
 use Rattle.stage_task.specs.Stages.{StageAccount}
 use Rattle.stage_task.specs.Applying.{HasOwnPasses, IsSameStage, HasApplied, IsMarked, HasAcknowledged}
 use Rattle.stage_task.proofs.Snapshots.{as_many, applied_more, snapshots_more}
-use Rattle.stage_task.proofs.Ends.{ended_account, stopped_not_done, all_front}
+use Rattle.stage_task.proofs.Ends.{ended_account, stopped_not_done, all_front_of}
 
 -- ---- a snapshot fits its task
 
@@ -121,15 +122,15 @@ own_later stays out out' same later kept pass own = record {
 
 -- ---- it was stopped before its snapshot was sent
 
-pub unacknowledged : SentIsBegun → BarrierIsLeftAside → ResumedIsGiven → (job : Job) (e b size k : ℕ) (every : Option ℕ) (gate : Account) (taking : Taking) (out : Output) (sent : List Snapshot) (history : List (ℕ × Stored)) (takes : List TakeRun)
+pub unacknowledged : BarrierIsLeftAside → ResumedIsGiven → (job : Job) (e b size k : ℕ) (every : Option ℕ) (gate : Account) (taking : Taking) (out : Output) (sent : List Snapshot) (history : List (ℕ × Stored)) (takes : List TakeRun)
     → IsResumed job e b size k every gate taking out sent history takes → StageAccount job e b size every gate out.writer.passes sent history takes causes.Stopped
-unacknowledged law aside resumed job e b size k every gate taking out sent history takes at =
+unacknowledged aside resumed job e b size k every gate taking out sent history takes at =
     let made = applied job e at.took in
-    ended_account job e b size every gate out sent history takes causes.Stopped at.groups at.took (made ++ []) []
+    ended_account job e b size every gate out sent history takes causes.Stopped at.groups at.took made []
     (resumed job e b gate taking at.groups at.took at.taken at.closed)
     at.snapshots at.takes_are
-    (aside job (suc e) b size out (all_applied job e at.groups) made [] [] (law job (suc e) b size out (all_applied job e at.groups ++ made ∷ []) [] at.was))
-    (subst (StartsWith made) (sym (append-nil (made ++ []) ∙ append-nil made)) (all_front made))
+    (unended (MayEnd every history at.groups at.took) job (suc e) b size out (all_applied job e at.groups) made [] (aside job (suc e) b size out (all_applied job e at.groups) made at.was))
+    (all_front_of made)
     stopped_not_done tt
 
 -- nothing was put since

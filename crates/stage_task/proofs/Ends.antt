@@ -1,5 +1,6 @@
 -- Where a stage takes no more.
 use Rattle.std.proofs.Common.{◌≡◌, ◌≢◌, ◌⊎◌, ℕ, suc, ◌<◌, ◌+◌, false, cond, List, [], ◌∷◌, ◌++◌, length, Option, refl, sym, ap, subst, ◌∙◌, inl, inr, append-nil, append_assoc, arith}
+use Rattle.std.specs.Prelude.{⊤}
 use Rattle.std.proofs.lemmas.List.{length-map}
 use Rattle.turn_cell.specs.History.{StartsWith}
 use Rattle.turn_cell.specs.Passes.{seen}
@@ -17,7 +18,8 @@ use Rattle.input_gate.specs.Gates.{Account, AllOver, stops_in}
 use Rattle.snapshot_channel.specs.Passes.{sent_by}
 use Rattle.task_taking.specs.Steps.{IsTakerCause}
 use Rattle.task_taking.specs.Takings.{Taking, HasTaken, IsAtBarrier, AllBlocked}
-use Rattle.task_output.specs.Waiting.{LastIs}
+use Rattle.task_output.specs.Waiting.{LastIs, MayEnd}
+use Rattle.task_output.proofs.Begun.{unended, may_have_ended}
 use Rattle.task_taking.specs.Endings.{Gave, IsTakerEnd, TakenIsGiven, BarrierIsGiven}
 use Rattle.task_taking.proofs.Told.{none_at}
 use Rattle.task_output.specs.Outputs.{Output, HasSent, HasBegun, HasStopped, HasFinished}
@@ -28,10 +30,14 @@ use Rattle.stage_task.specs.Stages.{StageAccount}
 use Rattle.stage_task.specs.Applying.{HasApplied, IsStageUnderWay, IsBehindLast, IsMarked, EndedAmong}
 use Rattle.stage_task.proofs.Records.{applied_line}
 
+-- it took nothing
+abbrev none_took : List (ℕ × List ℕ)
+none_took = []
+
 -- what was begun is put
 pub ended_account : (job : Job) (e b size : ℕ) (every : Option ℕ) (gate : Account) (out : Output) (sent : List Snapshot) (history : List (ℕ × Stored)) (takes : List TakeRun) (cause : Cause)
     (groups : List (List (ℕ × List ℕ))) (rest : List (ℕ × List ℕ)) (records begun : List (List ℕ))
-    → Gave job e b gate groups rest → AreSnapshots job e b 0 0 groups sent → RunsTake job e b takes rest → HasBegun job (suc e) b size out (all_applied job e groups) records begun
+    → Gave job e b gate groups rest → AreSnapshots job e b 0 0 groups sent → RunsTake job e b takes rest → HasBegun job (suc e) b size out (all_applied job e groups) records begun (MayEnd every history groups rest)
     → StartsWith (applied job e rest) (records ++ begun) → cause ≢ causes.Done → IsTakerEnd every history gate groups rest cause
     → StageAccount job e b size every gate out.writer.passes sent history takes cause
 ended_account job e b size every gate out sent history takes cause groups rest records begun given snapshots takes_are begun_them front other cause_is = record {
@@ -125,7 +131,7 @@ module _ (out : StageOutput) where
     module _ (sent_law : SentIsBegun) (given_law : TakenIsGiven) (taken : HasTaken job out.edge out.index gate t' groups took) where
       still_ended : (cause : Cause) → cause ≢ causes.Done → IsTakerEnd out.every (seen out.last_pass) gate groups took cause → Ended gate out.output t'.runs cause
       still_ended cause other is = ended_account job out.edge out.index size out.every gate out.output (sent_by out.pass) (seen out.last_pass) t'.runs cause groups took made [] (given_law job out.edge out.index gate t' groups took taken) was.snapshots taken.takes
-          (sent_law job (suc out.edge) out.index size out.output (all_applied job out.edge groups) made was.sent) (all_front_of made) other is
+          (unended (MayEnd out.every (seen out.last_pass) groups took) job (suc out.edge) out.index size out.output (all_applied job out.edge groups) made [] (sent_law job (suc out.edge) out.index size out.output (all_applied job out.edge groups) made was.sent)) (all_front_of made) other is
 
       -- its gate gave nothing more
       pub gate_ended : (cause : Cause) → IsTakerCause gate cause → cause ≢ causes.Done → Ended gate out.output t'.runs cause
@@ -158,7 +164,7 @@ module _ (out : StageOutput) where
 
       pub line_ended : TakenIsGiven → (o : Output) (cause : Cause) → o.writer.size ≡ size → EndedAmong job (suc out.edge) out.index size o (all_applied job out.edge groups) made given cause → Ended gate o t'.runs cause
       line_ended given_law o cause same among = ended_account job out.edge out.index o.writer.size out.every gate o (sent_by out.pass) (seen out.last_pass) t'.runs cause groups more (made ++ among.done) among.begun (given_law job out.edge out.index gate t' groups more taken) was.snapshots taken.takes
-          (subst (λ n. HasBegun job (suc out.edge) out.index n o (all_applied job out.edge groups) (made ++ among.done) among.begun) (sym same) among.begun_them)
+          (unended (MayEnd out.every (seen out.last_pass) groups more) job (suc out.edge) out.index o.writer.size o (all_applied job out.edge groups) (made ++ among.done) among.begun (subst (λ n. HasBegun job (suc out.edge) out.index n o (all_applied job out.edge groups) (made ++ among.done) among.begun ⊥) (sym same) among.begun_them))
           (among.rest, more_is ∙ ap (λ l. made ++ l) among.parts ∙ sym (append_assoc made among.done (among.begun ++ among.rest)) ∙ sym (append_assoc (made ++ among.done) among.begun among.rest))
           (λ is. elim among.cause_is [ inl full ↦ memory_not_done (sym full ∙ is) | inr stopped ↦ stopped_not_done (sym stopped.0 ∙ is) ])
           (elim among.cause_is [ inl full ↦ subst (IsTakerEnd out.every (seen out.last_pass) gate groups more) (sym full) tt | inr stopped ↦ subst (IsTakerEnd out.every (seen out.last_pass) gate groups more) (sym stopped.0) tt ])
@@ -176,9 +182,9 @@ module _ (out : StageOutput) where
         number = number;
       }
 
-      pub mark_ended : BarrierIsGiven → (o : Output) → o.writer.size ≡ size → HasStopped job (suc out.edge) out.index size o (all_applied job out.edge groups) made [] → Ended gate o t'.runs causes.Stopped
+      pub mark_ended : BarrierIsGiven → (o : Output) → o.writer.size ≡ size → HasStopped job (suc out.edge) out.index size o (all_applied job out.edge groups) made [] ⊥ → Ended gate o t'.runs causes.Stopped
       mark_ended given_law o same stopped = ended_account job out.edge out.index o.writer.size out.every gate o (sent_by out.pass) (seen out.last_pass) t'.runs causes.Stopped groups took made [] (given_law job out.edge out.index gate t' groups took at) was.snapshots at.takes
-          (subst (λ n. HasBegun job (suc out.edge) out.index n o (all_applied job out.edge groups) made []) (sym same) stopped.begun_them) (all_front_of made) stopped_not_done tt
+          (unended (MayEnd out.every (seen out.last_pass) groups took) job (suc out.edge) out.index o.writer.size o (all_applied job out.edge groups) made [] (subst (λ n. HasBegun job (suc out.edge) out.index n o (all_applied job out.edge groups) made [] ⊥) (sym same) stopped.begun_them)) (all_front_of made) stopped_not_done tt
 
 -- ---- behind the last checkpoint
 
@@ -198,22 +204,22 @@ module _ (before gate : Account) (t t' : Taking) (out : StageOutput) (behind : I
   pub line_behind : SentIsBegun → TakenIsGiven → (sender : ℕ) (line : List ℕ) → HasTaken job_of out.edge out.index gate t' behind.groups ((sender, line) ∷ []) → Ended out gate out.output t'.runs (causes.Peer peers.Barrier)
   line_behind sent_law given_law sender line taken = ended_account job_of out.edge out.index out.output.writer.size out.every gate out.output (sent_by out.pass) (seen out.last_pass) t'.runs (causes.Peer peers.Barrier) behind.groups ((sender, line) ∷ []) [] []
       (given_law job_of out.edge out.index gate t' behind.groups ((sender, line) ∷ []) taken) behind.applied_them.snapshots taken.takes
-      (sent_law job_of (suc out.edge) out.index out.output.writer.size out.output (all_applied job_of out.edge behind.groups) [] behind.applied_them.sent) (applied job_of out.edge ((sender, line) ∷ []), refl)
+      (unended (MayEnd out.every (seen out.last_pass) behind.groups ((sender, line) ∷ [])) job_of (suc out.edge) out.index out.output.writer.size out.output (all_applied job_of out.edge behind.groups) [] [] (sent_law job_of (suc out.edge) out.index out.output.writer.size out.output (all_applied job_of out.edge behind.groups) [] behind.applied_them.sent)) (applied job_of out.edge ((sender, line) ∷ []), refl)
       barrier_not_done (inr (inr (behind.last, inl (λ is. cc))))
 
   -- a barrier came on all channels
   pub barrier_behind : SentIsBegun → BarrierIsGiven → IsAtBarrier job_of out.edge out.index gate t' behind.groups [] → AllBlocked gate t' → Ended out gate out.output t'.runs (causes.Peer peers.Barrier)
   barrier_behind sent_law given_law at blocked = ended_account job_of out.edge out.index out.output.writer.size out.every gate out.output (sent_by out.pass) (seen out.last_pass) t'.runs (causes.Peer peers.Barrier) behind.groups [] [] []
       (given_law job_of out.edge out.index gate t' behind.groups [] at) behind.applied_them.snapshots at.takes
-      (sent_law job_of (suc out.edge) out.index out.output.writer.size out.output (all_applied job_of out.edge behind.groups) [] behind.applied_them.sent) ([], refl)
+      (unended (MayEnd out.every (seen out.last_pass) behind.groups none_took) job_of (suc out.edge) out.index out.output.writer.size out.output (all_applied job_of out.edge behind.groups) [] [] (sent_law job_of (suc out.edge) out.index out.output.writer.size out.output (all_applied job_of out.edge behind.groups) [] behind.applied_them.sent)) ([], refl)
       barrier_not_done (inr (inr (behind.last, inr (all_stops gate t' (suc (length behind.groups)) blocked at.closed))))
 
   -- all channels ended, and it ends its own
   module _ (given_law : TakenIsGiven) (taken : HasTaken job_of out.edge out.index gate t' behind.groups []) (o : Output) (same : o.writer.size ≡ out.output.writer.size) where
-    pub finish_ended : HasStopped job_of (suc out.edge) out.index out.output.writer.size o (all_applied job_of out.edge behind.groups) [] [] → Ended out gate o t'.runs causes.Stopped
+    pub finish_ended : HasStopped job_of (suc out.edge) out.index out.output.writer.size o (all_applied job_of out.edge behind.groups) [] [] ⊤ → Ended out gate o t'.runs causes.Stopped
     finish_ended stopped = ended_account job_of out.edge out.index o.writer.size out.every gate o (sent_by out.pass) (seen out.last_pass) t'.runs causes.Stopped behind.groups [] [] []
         (given_law job_of out.edge out.index gate t' behind.groups [] taken) behind.applied_them.snapshots taken.takes
-        (subst (λ n. HasBegun job_of (suc out.edge) out.index n o (all_applied job_of out.edge behind.groups) [] []) (sym same) stopped.begun_them) ([], refl) stopped_not_done tt
+        (may_have_ended (MayEnd out.every (seen out.last_pass) behind.groups none_took) (behind.last, refl) job_of (suc out.edge) out.index o.writer.size o (all_applied job_of out.edge behind.groups) [] [] (subst (λ n. HasBegun job_of (suc out.edge) out.index n o (all_applied job_of out.edge behind.groups) [] [] ⊤) (sym same) stopped.begun_them)) ([], refl) stopped_not_done tt
 
     pub finished : FinishedIsBegun → AllOver gate → HasFinished job_of (suc out.edge) out.index out.output.writer.size o (all_applied job_of out.edge behind.groups) [] → Ended out gate o t'.runs causes.Done
     finished law over has =
@@ -226,7 +232,7 @@ module _ (before gate : Account) (t t' : Taking) (out : StageOutput) (behind : I
           snapshots = behind.applied_them.snapshots;
           takes_are = taken.takes;
           front = ([], refl);
-          put = (law job_of (suc out.edge) out.index o.writer.size o (all_applied job_of out.edge behind.groups) [] all).each;
+          put = (may_have_ended (MayEnd out.every (seen out.last_pass) behind.groups none_took) (behind.last, refl) job_of (suc out.edge) out.index o.writer.size o (all_applied job_of out.edge behind.groups) [] [] (law job_of (suc out.edge) out.index o.writer.size o (all_applied job_of out.edge behind.groups) [] all)).each;
           done = λ is. (refl, all.each);
           cause_is = (over, refl, behind.last);
         }

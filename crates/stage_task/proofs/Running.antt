@@ -23,6 +23,7 @@ use Rattle.snapshot_channel.specs.Passes.{sent_by}
 use Rattle.task_taking.specs.Endings.{IsTakerEnd}
 use Rattle.task_taking.specs.Takings.{Taking, HasTaken, untaken}
 use Rattle.task_output.specs.Ending.{EndsAs, ToldAtEnd}
+use Rattle.task_output.specs.Waiting.{MayEnd}
 use Rattle.task_output.specs.Outputs.{WritesFor, HasSent, BegunOn, end_of}
 use Rattle.stage_task.specs.declared.checkpoints.StageOutput.{StageOutput}
 use Rattle.stage_task.specs.declared.checkpoints.TakerEnd.{TakerEnd}
@@ -60,6 +61,12 @@ none_at [] c new = refl
 none_at (p ∷ passes) zero new = new 0 p (omega arith)
 none_at (p ∷ passes) (suc c) new = none_at passes c (λ k d within. new (suc k) d (omega (arith, within)))
 
+abbrev no_groups : List (List (ℕ × List ℕ))
+no_groups = []
+
+abbrev none_took : List (ℕ × List ℕ)
+none_took = []
+
 -- it found no memory for what it takes and emits by
 pub unbegun : (job : Job) (e b size : ℕ) (every : Option ℕ) (gate : Account) (passes : List SendPass) (sent : List Snapshot) (history : List (ℕ × Stored)) (takes : List TakeRun) → gates.IsNew gate → AreNew passes → sent ≡ [] → takes ≡ []
     → StageAccount job e b size every gate passes sent history takes causes.Memory
@@ -71,9 +78,11 @@ unbegun job e b size every gate passes sent history takes new none_put none_sent
   snapshots = subst (AreSnapshots job e b 0 0 []) (sym none_sent) tt;
   takes_are = subst (λ (l : List TakeRun). RunsTake job e b l []) (sym none_taken) (record { senders_are = refl; are_runs = tt; short = tt });
   front = ([], refl);
-  put = λ c inside. subst (BegunOn (receiver_on job (suc e) b) [] (end_of job (suc e) b c) size []) (sym (none_at passes c none_put)) (record {
+  put = λ c inside. subst (BegunOn (receiver_on job (suc e) b) [] (end_of job (suc e) b c) size [] (MayEnd every history no_groups none_took)) (sym (none_at passes c none_put)) (record {
     more = [] ∷ [];
     cut = refl;
+    few = omega arith;
+    ended = λ over. absurd (cc);
     some = record { owed = []; begins = refl; buffers = tt };
   });
   done = λ is. absurd (memory_not_done is);

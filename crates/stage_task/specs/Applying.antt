@@ -88,7 +88,7 @@ pub record EndedAmong (job : Job) (e a size : ℕ) (out : Output) (groups : List
   pub begun : List (List ℕ)
   pub rest : List (List ℕ)
   pub parts : given ≡ done ++ (begun ++ rest)
-  pub begun_them : HasBegun job e a size out groups (records ++ done) begun
+  pub begun_them : HasBegun job e a size out groups (records ++ done) begun ⊥
   pub cause_is : (cause ≡ causes.Memory) ⊎ ((cause ≡ causes.Stopped) × HasSeenFault out.writer)
 
 -- It has emitted all of it, or ended among it.

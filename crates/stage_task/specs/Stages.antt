@@ -23,13 +23,15 @@ use Rattle.snapshot_channel.specs.declared.opened.SnapshotChannel.{SnapshotChann
 use Rattle.snapshot_channel.specs.declared.opened.TaskPass.{TaskPass}
 use Rattle.task_taking.specs.Endings.{Gave, IsTakerEnd}
 use Rattle.task_output.specs.Outputs.{BegunOn, FinishedOn, end_of}
+use Rattle.task_output.specs.Waiting.{MayEnd}
 use Rattle.stage_task.specs.Snapshots.{AreSnapshots, all_applied}
 
 -- ---- what it did
 
 -- What task b behind edge e did by its gate and its passes: it took these groups of records and sent a snapshot for each, and then took
 -- the rest, of which the runs tell. It put what its stage gives for each group before a barrier, and behind the last one what it gives for
--- the rest, from the first record on. It was done only where it had acknowledged the last checkpoint, and then ended its channels.
+-- the rest, from the first record on. It was done only where it had acknowledged the last checkpoint, and then ended its channels. Whatever
+-- its cause, it put at most one barrier more than it sent snapshots, and an end only behind the barrier of the last checkpoint.
 pub record StageAccount (job : Job) (e b size : ℕ) (every : Option ℕ) (gate : Account) (passes : List SendPass) (sent : List Snapshot) (history : List (ℕ × Stored)) (takes : List TakeRun) (cause : Cause) : Type 0 where
   pub groups : List (List (ℕ × List ℕ))
   pub rest : List (ℕ × List ℕ)
@@ -38,7 +40,7 @@ pub record StageAccount (job : Job) (e b size : ℕ) (every : Option ℕ) (gate 
   pub snapshots : AreSnapshots job e b 0 0 groups sent
   pub takes_are : RunsTake job e b takes rest
   pub front : StartsWith (applied job e rest) more
-  pub put : (c : ℕ) → c < ways_on job (suc e) → BegunOn (receiver_on job (suc e) b) (all_applied job e groups) (end_of job (suc e) b c) size more (mine_at c passes)
+  pub put : (c : ℕ) → c < ways_on job (suc e) → BegunOn (receiver_on job (suc e) b) (all_applied job e groups) (end_of job (suc e) b c) size more (MayEnd every history groups rest) (mine_at c passes)
   pub done : cause ≡ causes.Done → (rest ≡ []) × ((c : ℕ) → c < ways_on job (suc e) → FinishedOn (receiver_on job (suc e) b) (all_applied job e groups) (end_of job (suc e) b c) size [] (mine_at c passes))
   pub cause_is : IsTakerEnd every history gate groups rest cause
 

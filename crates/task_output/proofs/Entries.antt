@@ -1,5 +1,5 @@
 -- What entries put, and how it grows.
-use Rattle.std.proofs.Common.{◌≡◌, ℕ, List, [], ◌∷◌, ◌++◌, refl, sym, ap, ◌∙◌, append_assoc, append-nil}
+use Rattle.std.proofs.Common.{◌≡◌, ℕ, true, false, cond, List, [], ◌∷◌, ◌++◌, refl, sym, ap, ◌∙◌, append_assoc, append-nil}
 use Rattle.std.specs.Prelude.{map, flat_map}
 use Rattle.flow_defs.specs.declared.parcel.Parcel.{Parcel}
 use Rattle.flow_defs.specs.declared.parcel.Parcel.TheVariants.{Data, Barrier, End}
@@ -9,8 +9,8 @@ use Rattle.checkpoint_laws.specs.Puts.{onto_first, stretches}
 use Rattle.checkpoint_laws.specs.Growing.{DataGrowStretch}
 use Rattle.subpartition.specs.declared.entry.SendEntry.{SendEntry}
 use Rattle.subpartition.specs.declared.entry.SendEntry.TheVariants.{Put, PutInline, Finish, Take, Size}
-use Rattle.subpartition.specs.Sending.{parcels_put, put, barriers_put}
-use Rattle.subpartition.proofs.Travelling.{parcels_put-append, put-append, barriers_put-append}
+use Rattle.subpartition.specs.Sending.{parcels_put, put, barriers_put, is_finished}
+use Rattle.subpartition.proofs.Travelling.{parcels_put-append, put-append, barriers_put-append, is_finished-append}
 
 -- all bytes of some buffers
 abbrev pub joined : List (List ℕ) → List ℕ
@@ -30,6 +30,10 @@ no_barriers : (buffers : List (List ℕ)) → barriers_put (map Put buffers) ≡
 no_barriers [] = refl
 no_barriers (b ∷ buffers) = no_barriers buffers
 
+no_end : (buffers : List (List ℕ)) → is_finished (map Put buffers) ≡ false
+no_end [] = refl
+no_end (b ∷ buffers) = no_end buffers
+
 -- Behind these entries come these buffers, and then an entry that puts no data.
 module _ (own : List SendEntry) (buffers : List (List ℕ)) where
   pub bytes_more : put (own ++ map Put buffers) ≡ put own ++ joined buffers
@@ -47,6 +51,12 @@ module _ (own : List SendEntry) (buffers : List (List ℕ)) where
   barriers_one k =
       barriers_put-append (own ++ map Put buffers) (PutInline k ∷ [])
       ∙ ap (λ (l : List (ℕ × BarrierKind)). l ++ (k, Inline) ∷ []) barriers_same
+
+  pub still_open : is_finished own ≡ false → is_finished (own ++ map Put buffers) ≡ false
+  still_open is_open = is_finished-append own (map Put buffers) ∙ ap (λ b. cond b true (is_finished (map Put buffers))) is_open ∙ no_end buffers
+
+  pub open_at_barrier : (k : ℕ) → is_finished own ≡ false → is_finished (own ++ map Put buffers ++ PutInline k ∷ []) ≡ false
+  open_at_barrier k is_open = is_finished-append (own ++ map Put buffers) (PutInline k ∷ []) ∙ ap (λ b. cond b true false) (still_open is_open)
 
   parcels_more : parcels_put (own ++ map Put buffers) ≡ parcels_put own ++ map Data buffers
   parcels_more = parcels_put-append own (map Put buffers) ∙ ap (λ ps. parcels_put own ++ ps) (put_data buffers)

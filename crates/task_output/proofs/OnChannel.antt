@@ -1,6 +1,6 @@
 -- What a task sent on one channel, and how it grows.
-use Rattle.std.proofs.Common.{◌≡◌, inl, inr, ℕ, List, [], ◌∷◌, ◌++◌, refl, sym, ap, subst, ◌∙◌, append_assoc, append-nil}
-use Rattle.std.specs.Prelude.{map}
+use Rattle.std.proofs.Common.{◌≡◌, inl, inr, ℕ, true, false, true≢false, List, [], ◌∷◌, ◌++◌, refl, sym, ap, subst, ◌∙◌, append_assoc, append-nil, arith}
+use Rattle.std.specs.Prelude.{⊤, map}
 use Rattle.std.proofs.lemmas.List.{append_cancel_left}
 use Rattle.std.proofs.lemmas.Grind.{flat_map-append}
 use Rattle.flow_defs.specs.Records.{encoded, all_encoded}
@@ -10,10 +10,10 @@ use Rattle.checkpoint_laws.specs.Puts.{stretches}
 use Rattle.checkpoint_laws.specs.Growing.{DataGrowStretch, BarrierBeginsStretch, EndAddsNothing}
 use Rattle.subpartition.specs.declared.entry.SendEntry.{SendEntry}
 use Rattle.subpartition.specs.declared.entry.SendEntry.TheVariants.{Put, PutInline, Finish}
-use Rattle.subpartition.specs.Sending.{parcels_put, put}
+use Rattle.subpartition.specs.Sending.{parcels_put, put, is_finished}
 use Rattle.record_writer.specs.Writers.{PutSome, PutAll, GrewByData, GrewUpTo, GrewTowards}
 use Rattle.task_output.specs.Outputs.{brought, all_of, count_behind, SentOn, BegunOn, FinishedOn}
-use Rattle.task_output.proofs.Entries.{joined, bytes_more, bytes_up_to, parcels_up_to, cut_more, put_joined}
+use Rattle.task_output.proofs.Entries.{joined, bytes_more, bytes_up_to, still_open, open_at_barrier, parcels_up_to, cut_more, put_joined}
 
 -- What the laws below say.
 pub record Laws : Type 0 where
@@ -85,29 +85,36 @@ module _ (laws : Laws) (to : ℕ → List ℕ → ℕ) (b : ℕ) where
         some_of : PutSome size own' (coming 0 (all_of groups ++ (records ++ more)))
         some_of = subst (PutSome size own') (laid_more more) some
 
-        -- it was stopped among these records
-        pub begun_then : GrewByData own own' → BegunOn to groups b size (records ++ more) own'
-        begun_then (buffers, is) = record { more = (on.behind ++ joined buffers) ∷ []; cut = cut_then buffers is; some = some_of }
+        -- it was stopped among these records, where only this may end the channel
+        begun_single : (may_end : Type 0) (buffers : List (List ℕ)) → own' ≡ own ++ map Put buffers → (is_finished own' ≡ true → may_end) → BegunOn to groups b size (records ++ more) may_end own'
+        begun_single may_end buffers is ended = record { more = (on.behind ++ joined buffers) ∷ []; cut = cut_then buffers is; few = omega arith; ended = λ over. (ended over, refl); some = some_of }
+
+        pub begun_then : is_finished own ≡ false → GrewByData own own' → BegunOn to groups b size (records ++ more) ⊥ own'
+        begun_then is_open (buffers, is) = begun_single ⊥ buffers is (λ over. true≢false (sym over ∙ ap is_finished is ∙ still_open own buffers is_open))
 
         up_to : (last : SendEntry) (buffers : List (List ℕ)) → own' ≡ own ++ map Put buffers ++ last ∷ [] → parcels_put own' ≡ parcels_put (own ++ map Put buffers) ++ parcels_put (last ∷ [])
         up_to last buffers is = ap parcels_put is ∙ parcels_up_to own buffers last
 
         -- or at a barrier behind them
-        pub begun_barrier : (k : ℕ) → GrewTowards (PutInline k) own own' → BegunOn to groups b size (records ++ more) own'
-        begun_barrier k (inl grew) = begun_then grew
-        begun_barrier k (inr (buffers, is)) = record {
+        pub begun_barrier : (k : ℕ) → is_finished own ≡ false → GrewTowards (PutInline k) own own' → BegunOn to groups b size (records ++ more) ⊥ own'
+        begun_barrier k is_open (inl grew) = begun_then is_open grew
+        begun_barrier k is_open (inr (buffers, is)) = record {
           more = (on.behind ++ joined buffers) ∷ [] ∷ [];
           cut = ap stretches (up_to (PutInline k) buffers is) ∙ laws.barrier (parcels_put (own ++ map Put buffers)) k _ ∙ ap (λ l. l ++ [] ∷ []) (cut_more laws.grow own buffers (brought to 0 groups b) on.behind on.cut)
               ∙ append_assoc (brought to 0 groups b) ((on.behind ++ joined buffers) ∷ []) ([] ∷ []);
+          few = omega arith;
+          ended = λ over. absurd (true≢false (sym over ∙ ap is_finished is ∙ open_at_barrier own buffers k is_open));
           some = some_of;
         }
 
         -- or at the end
-        pub begun_end : GrewTowards Finish own own' → BegunOn to groups b size (records ++ more) own'
-        begun_end (inl grew) = begun_then grew
+        pub begun_end : GrewTowards Finish own own' → BegunOn to groups b size (records ++ more) ⊤ own'
+        begun_end (inl grew) = begun_single ⊤ grew.0 grew.1 (λ over. tt)
         begun_end (inr (buffers, is)) = record {
           more = (on.behind ++ joined buffers) ∷ [];
           cut = ap stretches (up_to Finish buffers is) ∙ laws.over (parcels_put (own ++ map Put buffers)) ∙ cut_more laws.grow own buffers (brought to 0 groups b) on.behind on.cut;
+          few = omega arith;
+          ended = λ over. (tt, refl);
           some = some_of;
         }
 

@@ -1,5 +1,6 @@
 -- What a task sent on all its channels, and how it grows.
 use Rattle.std.proofs.Common.{◌≡◌, ℕ, zero, suc, ◌+◌, ◌<◌, List, [], ◌∷◌, ◌++◌, length, take, drop, get_or, refl, sym, ap, subst, ◌∙◌, append_assoc, append-nil, arith}
+use Rattle.std.specs.Prelude.{⊤}
 use Rattle.std.specs.List.{AllByRecursion}
 use Rattle.std.proofs.lemmas.List.{map-append, take_more, take-append-drop, length-append}
 use Rattle.flow_defs.specs.Items.{Items}
@@ -96,14 +97,14 @@ module _ (laws : Laws) (job : Job) (e a size : ℕ) (old new : Output) (groups :
       (subst (PutSome old.writer.size (own_at new.writer c)) (with_coming more c) some)
 
   -- it was stopped among these
-  pub sent_until : (more : List (List ℕ)) → WasStopped old.writer new.writer more → HasPutData old.writer new.writer → new.emitted ≡ old.emitted → HasStopped job e a size new groups records more
+  pub sent_until : (more : List (List ℕ)) → WasStopped old.writer new.writer more → HasPutData old.writer new.writer → new.emitted ≡ old.emitted → HasStopped job e a size new groups records more ⊥
   sent_until more stopped grew counts = record {
     fault = stopped.fault;
     begun_them = record {
       counted = counts ∙ was.counted;
       each = λ c inside.
           begun_then laws (receiver_on job e a) (end_of job e a c) groups records (own_at old.writer c) (filling_at old.writer c) (was.each c inside) (own_at new.writer c) size more
-          (some_at more c (stopped.each c (at_old c inside))) (grew c (at_old c inside));
+          (some_at more c (stopped.each c (at_old c inside))) (was.is_open.each c (at_old c inside)).0 (grew c (at_old c inside));
     };
   }
 
@@ -127,14 +128,14 @@ module _ (laws : Laws) (job : Job) (e a size : ℕ) (old new : Output) (groups :
       all_more (g ∷ gs) rs = append_assoc g (all_of gs) rs ∙ ap (λ l. g ++ l) (all_more gs rs)
 
   -- it was stopped at the barrier
-  pub marked_until : (k : ℕ) → WasStopped old.writer new.writer [] → HasPutTowards (PutInline k) old.writer new.writer → new.emitted ≡ old.emitted → HasStopped job e a size new groups records []
+  pub marked_until : (k : ℕ) → WasStopped old.writer new.writer [] → HasPutTowards (PutInline k) old.writer new.writer → new.emitted ≡ old.emitted → HasStopped job e a size new groups records [] ⊥
   marked_until k stopped grew counts = record {
     fault = stopped.fault;
     begun_them = record {
       counted = counts ∙ was.counted;
       each = λ c inside.
           begun_barrier laws (receiver_on job e a) (end_of job e a c) groups records (own_at old.writer c) (filling_at old.writer c) (was.each c inside) (own_at new.writer c) size []
-          (some_at [] c (stopped.each c (at_old c inside))) k (grew c (at_old c inside));
+          (some_at [] c (stopped.each c (at_old c inside))) k (was.is_open.each c (at_old c inside)).0 (grew c (at_old c inside));
     };
   }
 
@@ -148,7 +149,7 @@ module _ (laws : Laws) (job : Job) (e a size : ℕ) (old new : Output) (groups :
   }
 
   -- it was stopped at the end
-  pub whole_until : WasStopped old.writer new.writer [] → HasPutTowards Finish old.writer new.writer → new.emitted ≡ old.emitted → HasStopped job e a size new groups records []
+  pub whole_until : WasStopped old.writer new.writer [] → HasPutTowards Finish old.writer new.writer → new.emitted ≡ old.emitted → HasStopped job e a size new groups records [] ⊤
   whole_until stopped grew counts = record {
     fault = stopped.fault;
     begun_them = record {

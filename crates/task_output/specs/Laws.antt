@@ -1,18 +1,18 @@
 -- What else is known of what a task sent. Each is proved as a clause of a function of `laws`.
-use Rattle.std.specs.Prelude.{ℕ, List, [], ◌∷◌, ◌++◌}
+use Rattle.std.specs.Prelude.{ℕ, ⊤, List, [], ◌∷◌, ◌++◌}
 use Rattle.flow_defs.specs.declared.job.Job.{Job}
 use Rattle.task_output.specs.Outputs.{Output, HasSent, HasBegun, HasFinished}
 
--- A task that goes on has begun nothing more than it emitted.
+-- A task that goes on has begun nothing more than it emitted, and ended no channel.
 abbrev pub SentIsBegun : Type 0
-SentIsBegun = (job : Job) (e a size : ℕ) (out : Output) (groups : List (List (List ℕ))) (records : List (List ℕ)) → HasSent job e a size out groups records → HasBegun job e a size out groups records []
+SentIsBegun = (job : Job) (e a size : ℕ) (out : Output) (groups : List (List (List ℕ))) (records : List (List ℕ)) → HasSent job e a size out groups records → HasBegun job e a size out groups records [] ⊥
 
 -- And so has one that has ended its channels.
 abbrev pub FinishedIsBegun : Type 0
-FinishedIsBegun = (job : Job) (e a size : ℕ) (out : Output) (groups : List (List (List ℕ))) (records : List (List ℕ)) → HasFinished job e a size out groups records → HasBegun job e a size out groups records []
+FinishedIsBegun = (job : Job) (e a size : ℕ) (out : Output) (groups : List (List (List ℕ))) (records : List (List ℕ)) → HasFinished job e a size out groups records → HasBegun job e a size out groups records [] ⊤
 
--- The last barrier may be left aside, and the records before it told with those behind it.
+-- Where nothing was emitted behind the last barrier, that may be left aside.
 abbrev pub BarrierIsLeftAside : Type 0
 BarrierIsLeftAside =
-    (job : Job) (e a size : ℕ) (out : Output) (groups : List (List (List ℕ))) (group records begun : List (List ℕ)) →
-    HasBegun job e a size out (groups ++ group ∷ []) records begun → HasBegun job e a size out groups (group ++ records) begun
+    (job : Job) (e a size : ℕ) (out : Output) (groups : List (List (List ℕ))) (group : List (List ℕ)) →
+    HasSent job e a size out (groups ++ group ∷ []) [] → HasBegun job e a size out groups group [] ⊥

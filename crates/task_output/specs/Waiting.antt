@@ -1,6 +1,6 @@
 -- What a task learns of the images that were stored. As with Flink's default one checkpoint is open at a time. That a task tells the last
 -- checkpoint of a job by the image before it is this project's own choice.
-use Rattle.std.specs.Prelude.{◌≡◌, ℕ, zero, suc, ◌≤◌, ⊤, Bool, true, false, List, Contains, Option, Some, None}
+use Rattle.std.specs.Prelude.{◌≡◌, ℕ, zero, suc, ◌≤◌, ⊤, Bool, true, false, List, [], length, Contains, Option, Some, None}
 use Rattle.turn_cell.specs.History.{StartsWith, entries_of}
 use Rattle.outside.specs.declared.last_image.Stored.{Stored}
 use Rattle.outside.specs.LastImages.{last_stored}
@@ -23,6 +23,10 @@ KnowsLast (Some interval) history (suc before) last = HasSeenStored history (suc
 abbrev pub LastIs : Option ℕ → List (ℕ × Stored) → ℕ → Bool → Type 0
 LastIs every history zero last = last ≡ false
 LastIs every history (suc before) last = KnowsLast every history before last
+
+-- A task may end its channels where it has acknowledged the last checkpoint, with these groups of records, and nothing comes behind them.
+abbrev pub MayEnd : {A B : Type 0} → Option ℕ → List (ℕ × Stored) → List A → List B → Type 0
+MayEnd every history groups rest = LastIs every history (length groups) true × (rest ≡ [])
 
 -- Where a task has sent so many snapshots one by one, it has seen by this history the image before the last of them, or one behind that.
 -- Before the first there is none.

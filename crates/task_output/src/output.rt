@@ -1,6 +1,6 @@
 // What a task sends.
 // A task with checkpoints has a half that sends, which is this, or one that takes (task_taking), or both.
-ghost use Rattle.std.specs.Prelude.{◌≡◌, ◌++◌, [], ◌∷◌, ℕ, List, suc, length, OnOk, OnErr, MatchResult};
+ghost use Rattle.std.specs.Prelude.{◌≡◌, ◌++◌, [], ◌∷◌, ⊤, ℕ, List, suc, length, OnOk, OnErr, MatchResult};
 ghost use Rattle.std.specs.List.{AllByRecursion};
 ghost use Rattle.turn_cell.specs.Passes.{IsPassOf};
 ghost use Rattle.flow_defs.specs.declared.job.Job.{Job};
@@ -52,7 +52,7 @@ impl<'a, 'p> TaskOutput<'a, 'p> {
         ensures same { IsSame self.old.writer self.new.writer }
         ensures is_open { OnOk result (IsOpen self.new.writer) }
         ensures emitted { (job : Job) (e a size : ℕ) (groups : List (List (List ℕ))) (records : List (List ℕ)) → HasSent job e a size self.old groups records →
-            MatchResult result (λ _. HasSent job e a size self.new groups (records ++ line.now ∷ [])) (λ _. HasStopped job e a size self.new groups records (line.now ∷ [])) }
+            MatchResult result (λ _. HasSent job e a size self.new groups (records ++ line.now ∷ [])) (λ _. HasStopped job e a size self.new groups records (line.now ∷ []) ⊥) }
     {
         stretches_grow();
         emits_in_parts();
@@ -91,7 +91,7 @@ impl<'a, 'p> TaskOutput<'a, 'p> {
         ensures same { IsSame self.old.writer self.new.writer }
         ensures is_open { OnOk result (IsOpen self.new.writer) }
         ensures marked { (job : Job) (e a size : ℕ) (groups : List (List (List ℕ))) (records : List (List ℕ)) → HasSent job e a size self.old groups records →
-            MatchResult result (λ _. HasSent job e a size self.new (groups ++ records ∷ []) []) (λ _. HasStopped job e a size self.new groups records []) }
+            MatchResult result (λ _. HasSent job e a size self.new (groups ++ records ∷ []) []) (λ _. HasStopped job e a size self.new groups records [] ⊥) }
     {
         stretches_grow();
         emits_in_parts();
@@ -107,7 +107,7 @@ impl<'a, 'p> TaskOutput<'a, 'p> {
         requires { IsOpen self.old.writer }
         ensures same { IsSame self.old.writer self.new.writer }
         ensures finished { (job : Job) (e a size : ℕ) (groups : List (List (List ℕ))) (records : List (List ℕ)) → HasSent job e a size self.old groups records →
-            MatchResult result (λ _. HasFinished job e a size self.new groups records) (λ _. HasStopped job e a size self.new groups records []) }
+            MatchResult result (λ _. HasFinished job e a size self.new groups records) (λ _. HasStopped job e a size self.new groups records [] ⊤) }
     {
         stretches_grow();
         emits_in_parts();

@@ -16,7 +16,7 @@ returns-in-Err-clause-ended g c =
     let takes = c.resume_all-takes.result.items in
     let at = resumed_at (g.G.Gate.account c.args.gate.now) gate c.args.taking.now taking c.args.out.now out c.args.k takes c.requires.marked c.knows_last.ensures.same (ap sent_by c.knows_last.ensures.kept) c.knows_last.ensures.still
     (ap is_open c.resume_all-takes.ensures.same.1 ∙ c.requires.blocked.aligned) c.resume_all-takes.ensures.taken in
-    unacknowledged c.what_was_sent_was_begun.ensures.sent c.what_was_sent_was_begun.ensures.aside c.what_was_taken_was_given.ensures.resumed out.job.now out.edge out.index out.output.writer.size c.args.k out.every gate taking out.output (sent_by out.pass) _ takes at
+    unacknowledged c.what_was_sent_was_begun.ensures.aside c.what_was_taken_was_given.ensures.resumed out.job.now out.edge out.index out.output.writer.size c.args.k out.every gate taking out.output (sent_by out.pass) _ takes at
 
 pub send_snapshot-requires-clause-may : goal.send_snapshot-requires-clause-may
 send_snapshot-requires-clause-may g c =
@@ -51,7 +51,7 @@ returns-in-Err-send_snapshot-clause-ended g c =
     (ap is_open c.resume_all-takes.ensures.same.1 ∙ c.requires.blocked.aligned) c.resume_all-takes.ensures.taken in
     let o = c.send_snapshot.new.output in
     let back = c.in-Err-send_snapshot.back.takes.items in
-    unacknowledged c.what_was_sent_was_begun.ensures.sent c.what_was_sent_was_begun.ensures.aside c.what_was_taken_was_given.ensures.resumed out.job.now out.edge out.index o.writer.size c.args.k out.every gate taking o (sent_by c.send_snapshot.new.pass) _ back
+    unacknowledged c.what_was_sent_was_begun.ensures.aside c.what_was_taken_was_given.ensures.resumed out.job.now out.edge out.index o.writer.size c.args.k out.every gate taking o (sent_by c.send_snapshot.new.pass) _ back
     (still_resumed out.job.now out.edge out.index out.output.writer.size o.writer.size c.args.k out.every gate taking out.output o (sent_by out.pass) (sent_by c.send_snapshot.new.pass) _ takes back c.send_snapshot.ensures.still refl c.in-Err-send_snapshot.ensures.stopped.0
     (ap (λ (x : Snapshot). x.takes.items) c.in-Err-send_snapshot.ensures.back ∙ ap (λ (l : Items TakeRun). l.items) c.snapshot-snapshot.ensures.takes) at)
 

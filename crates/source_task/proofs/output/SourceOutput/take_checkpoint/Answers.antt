@@ -31,7 +31,7 @@ returns-in-Err-send_snapshot-clause-taken g c = λ job size lines before.
     let out = c.wait_for_image.new.self in
     let was = c.wait_for_image.ensures.emitted job size lines before in
     let marked = c.in-Ok-mark.ensures.marked job 0 out.index size was.groups was.rest was.sent in
-    broken_behind_barrier c.what_was_sent_was_begun.ensures.sent c.what_was_sent_was_begun.ensures.aside job size out c.send_snapshot.new.output c.send_snapshot.new.pass lines was
+    broken_behind_barrier c.what_was_sent_was_begun.ensures.aside job size out c.send_snapshot.new.output c.send_snapshot.new.pass lines was
     (c.send_snapshot.ensures.still job 0 out.index size (was.groups ++ was.rest ∷ []) [] marked) c.in-Err-send_snapshot.ensures.stopped.0
 
 pub returns-clause-taken : goal.returns-clause-taken

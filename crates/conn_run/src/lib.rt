@@ -8,9 +8,9 @@
 
 pub mod laws;
 
-pub use conn_send_control::send_control;
-pub use conn_read_control::read_control;
 pub use conn_parts::{ConnShare, LoopEnd, SharePasses};
+pub use conn_read_control::read_control;
 pub use conn_read_items::read_items;
+pub use conn_send_control::send_control;
 pub use conn_send_items::send_items;
 pub use reader_state::ReaderState;

@@ -12,8 +12,8 @@ ghost use Rattle.outside.specs.Stops.{is_fault};
 
 use crate::lent::{CLOSING, deal, deal_place, open_stop};
 use crate::slow_links::SlowOut;
-use conn_send_control::send_control;
 use conn_parts::{ConnShare, LoopEnd, SharePasses};
+use conn_send_control::send_control;
 use flow_defs::{Cause, ChannelId, ListOf};
 use input_channel::laws::{answers_tell, channels_stand_for_histories};
 use input_channel::{Arrival, ArrivalKind, InputChannel, ReceiveEntry};

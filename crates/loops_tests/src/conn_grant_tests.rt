@@ -7,8 +7,8 @@ ghost use Rattle.outside.specs.Stops.{is_fault};
 
 use crate::lent::{CLOSING, deal, open_stop};
 use crate::slow_links::SlowIn;
-use conn_read_control::read_control;
 use conn_parts::{ConnShare, LoopEnd, SharePasses};
+use conn_read_control::read_control;
 use flow_defs::{Cause, ChannelId, Head, ListOf, PeerFault};
 use outside::{look_for_stop, tell_stop};
 use reader_state::{ReaderState, next_to_send, tell_ready};

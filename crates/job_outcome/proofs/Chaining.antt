@@ -1,17 +1,17 @@
 -- The images that were stored in a run are a chain with nothing in flight.
 use Rattle.std.proofs.Common.{◌≡◌, ℕ, zero, suc, ◌<◌, ◌≤◌, List, [], ◌∷◌, ◌++◌, length, Option, ap, subst, ◌∙◌, arith, inl, inr}
-use Rattle.std.specs.Prelude.{Bool, IfSome, slice_index_or}
+use Rattle.std.specs.Prelude.{IfSome, None, slice_index_or}
 use Rattle.std.specs.FinMap.{empty}
-use Rattle.std.specs.List.{AllByRecursion}
+use Rattle.std.specs.List.{AllByRecursion, last_or}
 use Rattle.std.proofs.lemmas.Bool.{cases_lt}
 use Rattle.turn_cell.specs.Passes.{mine, seen}
-use Rattle.flow_defs.specs.Items.{Items}
 use Rattle.flow_defs.specs.Lines.{lines}
 use Rattle.flow_defs.specs.declared.image.Image.{Image}
 use Rattle.flow_defs.specs.declared.image.Saved.{Saved}
 use Rattle.flow_defs.specs.declared.image.Snapshot.{Snapshot}
 use Rattle.flow_defs.specs.declared.job.Job.{Job}
 use Rattle.flow_defs.specs.Jobs.{last_edge, tasks}
+use Rattle.plain_machine.specs.Chains.{Chain}
 use Rattle.plain_machine.specs.Images.{IsStart}
 use Rattle.plain_machine.specs.Theorems.{StartExists}
 use Rattle.plain_machine.proofs.Channels.{ends_of}
@@ -19,11 +19,8 @@ use Rattle.plain_machine.specs.Spelling.{CanSpell}
 use Rattle.checkpoint_laws.specs.Chapters.{task_at}
 use Rattle.checkpoint_laws.specs.Collecting.{Collected, piece}
 use Rattle.checkpoint_laws.specs.Runs.{IsInterval}
-use Rattle.outside.specs.Keepers.{KeptImage}
-use Rattle.outside.specs.declared.wires.Wire.{Wire}
 use Rattle.record_writer.specs.Writers.{SendPass}
 use Rattle.input_gate.specs.Turning.{InputPass}
-use Rattle.snapshot_channel.specs.declared.opened.SnapshotChannel.{SnapshotChannel}
 use Rattle.snapshot_channel.specs.Passes.{received_by}
 use Rattle.snapshot_channel.specs.Snapshots.{IsBeginning, snapshots_of}
 use Rattle.collector.specs.Faults.{IsNothingSaved}
@@ -33,16 +30,16 @@ use Rattle.collecting_worker.specs.Images.{IsMadeFrom, IsNext}
 use Rattle.collecting_worker.specs.Laws.{AreCollected, StoredAreCollected}
 use Rattle.collecting_worker.proofs.Going.{all_more, linked_more}
 use Rattle.collecting_worker.proofs.Told.{made_are_collected, sent_it}
-use Rattle.job_cells.specs.declared.edge.Edge.{Edge}
 use Rattle.job_chain.specs.Ran.{JobRan, RanIsChain}
 use Rattle.job_chain.proofs.Tasks.{contained, source_none, stage_none, aggregate_none}
 use Rattle.job_workers.specs.declared.collecting.CollectTask.{CollectTask}
 use Rattle.job_workers.specs.declared.place.Place.{Place}
 use Rattle.job_workers.specs.declared.place.Place.TheVariants.{Ended}
-use Rattle.job_ends.specs.Ended.{TaskPlace, LoopPlace, own_at, gate_at, snapshots_at}
+use Rattle.job_ends.specs.Ended.{own_at, gate_at, snapshots_at}
 use Rattle.job_outcome.specs.Outcomes.{AreTold}
 use Rattle.job_outcome.specs.Storing.{HasNoneInFlight, HasStored, IsTooLarge}
-use Rattle.job_outcome.specs.Theorems.{HaveRun, AreSettledWith, StoredImagesAreChain, KeeperGotImages}
+use Rattle.job_outcome.specs.Theorems.{HaveRun, Run, AreSettledWith, StoredImagesAreChain, KeeperGotImages}
+use Rattle.job_outcome.specs.Words.{WorldWords}
 use Rattle.job_outcome.proofs.Jobs.{source_did, stage_did, aggregate_did}
 
 -- ---- nothing is in flight
@@ -109,113 +106,115 @@ interval_of every h n is = subst (λ (o : Option ℕ). IfSome o (λ (m : ℕ). 1
 pub same_end : (place : Place CollectTask CollectEnd) (x y : CollectEnd) → place ≡ Ended x → place ≡ Ended y → x ≡ y
 same_end place x y e f = cc
 
-module _ {S O I L N : Type 0} {left : S → Option (List ℕ)} {faults : S → ℕ}
-    {line : O → L} {sent : O → Option (List ℕ)} {finished : O → Option Bool} {of_out : O → ℕ}
-    {end_line : I → N} {got : I → Option (List ℕ)} {ended : I → Option Bool} {of_in : I → ℕ} {belong : L → N → Type 0}
-    {job : Job} {size : ℕ} {every : Option ℕ} {snapshots : SnapshotChannel} {edges : List Edge} {inputs : List S} {wires : List (Wire O I)}
-    {before after : Option (List KeptImage)} {fell rose : ℕ}
-    {rows : List (Items (TaskPlace S))} {loops : List (Items (LoopPlace O I))} {collected : Place CollectTask CollectEnd}
-    (run : HaveRun left faults line sent finished of_out end_line got ended of_in belong
-    job size every snapshots edges inputs wires before after fell rose rows loops collected)
-    (end : CollectEnd) (is : collected ≡ Ended end) where
-  -- The account of the worker that collected, of this job and interval.
-  abbrev AccountOf : Job → Option ℕ → CollectEnd → Type 0
-  AccountOf j n x = CollectAccount j n (received_by x.collecting) before after (mine x.last_pass) x.last fell rose (seen x.stop_pass) x.cause
+module _ {S O I L N : Type 0} {words : WorldWords S O I L N} {run : Run S O I} (ran : HaveRun words run) where
+  open run use {job, size, every, inputs, before, after, fell, rose, rows, collected}
 
-  pub account_of : AccountOf job every end
-  account_of =
-      subst (λ (x : CollectEnd). AccountOf job every x) (same_end collected run.end end run.end_is is)
-      (subst (λ (n : Option ℕ). AccountOf job n run.end) run.task_is.1
-      (subst (λ (j : Job). AccountOf j run.task.every run.end) run.task_is.0
-      run.collector.account))
+  module _ (end : CollectEnd) (is : collected ≡ Ended end) where
+    -- The account of the worker that collected, of this job and interval.
+    abbrev AccountOf : Job → Option ℕ → CollectEnd → Type 0
+    AccountOf j n x = CollectAccount j n (received_by x.collecting) before after (mine x.last_pass) x.last fell rose (seen x.stop_pass) x.cause
 
-  module _ (bytes : ℕ → List ℕ) (told : AreTold left inputs bytes)
-      (settled : AreSettledWith job rows end) where
-    -- The snapshots of each task that were received are a beginning of those that it sent.
-    beginnings : (i a : ℕ) → i ≤ suc (last_edge job) → a < tasks job i → IsBeginning (snapshots_of (task_at i a) (received_by end.collecting)) (snapshots_at rows i a)
-    beginnings i a stage low = settled.received i a (omega (arith, stage)) low
+    pub account_of : AccountOf job every end
+    account_of =
+        subst (λ (x : CollectEnd). AccountOf job every x) (same_end collected ran.end end ran.end_is is)
+        (subst (λ (n : Option ℕ). AccountOf job n ran.end) ran.task_is.1
+        (subst (λ (j : Job). AccountOf j ran.task.every ran.end) ran.task_is.0
+        ran.collector.account))
 
-    -- What all workers did, where these images were collected.
-    ran_behind : (base : Image) (images : List Image) →
-        ((snapshot : ℕ → ℕ → ℕ → Snapshot) × AreCollected job every base images (snapshots_at rows) snapshot) →
-        JobRan job size every bytes base (own_at rows) (gate_at rows) (snapshots_at rows) images
-    ran_behind base images c = record {
-      sources = source_did run bytes told;
-      stages = stage_did run;
-      aggregates = aggregate_did run;
-      channels = λ e a b channel. settled.edges e (ends_of job e a b channel).edge a b channel;
-      snapshot = c.0;
-      collected = c.1;
-    }
+    module _ (bytes : ℕ → List ℕ) (told : AreTold words.left inputs bytes) (settled : AreSettledWith job rows end) where
+      -- The snapshots of each task that were received are a beginning of those that it sent.
+      beginnings : (i a : ℕ) → i ≤ suc (last_edge job) → a < tasks job i → IsBeginning (snapshots_of (task_at i a) (received_by end.collecting)) (snapshots_at rows i a)
+      beginnings i a stage low = settled.received i a (omega (arith, stage)) low
 
-    module _ (collects : StoredAreCollected) where
-      -- What all workers did.
-      pub job_ran : (base : Image) → IsStart job base →
-          JobRan job size every bytes base (own_at rows) (gate_at rows) (snapshots_at rows) account_of.images
-      job_ran base start =
-          ran_behind base account_of.images
-          (collects job every base (received_by end.collecting) before after (mine end.last_pass) account_of.images (snapshots_at rows) start account_of.stored beginnings)
+      -- What all workers did, where these images are collected behind a start.
+      abbrev AllDid : Image → List Image → Type 0
+      AllDid base = JobRan job size every bytes base (own_at rows) (gate_at rows) (snapshots_at rows)
 
-      has_stored : StartExists → RanIsChain → HasStored job (λ a. lines (bytes a)) every before after
-      has_stored starts chains = record {
-        images = account_of.images;
-        kept = account_of.stored.kept;
-        chain = λ base start.
-            chains job size every bytes base (own_at rows) (gate_at rows) (snapshots_at rows) account_of.images
-            (interval_of every run.interval) start (job_ran base start);
-        still = let first = starts job in still (job_ran first.0 first.1);
-        spelled = account_of.stored.spelled;
-        readable = account_of.stored.readable;
+      ran_behind : (base : Image) (images : List Image) →
+          ((snapshot : ℕ → ℕ → ℕ → Snapshot) × AreCollected job every base images (snapshots_at rows) snapshot) → AllDid base images
+      ran_behind base images c = record {
+        sources = λ a low. (source_did ran bytes told a low).0;
+        stages = stage_did ran;
+        aggregates = aggregate_did ran;
+        channels = λ e a b channel. settled.edges e (ends_of job e a b channel).edge a b channel;
+        snapshot = c.0;
+        collected = c.1;
       }
 
-      -- The image that is next behind those that were stored is of the chain with them.
-      module _ (image : Image) (next : IsNext job every (received_by end.collecting) account_of.images image) where
-        none_of_task : (base : Image) → IsStart job base → (i a : ℕ) → i ≤ suc (last_edge job) → a < tasks job i → NoneIn (next.made.snapshot i a)
-        none_of_task base start i a stage low =
-            contained NoneIn (snapshots_at rows i a) (next.made.snapshot i a) (none_sent (job_ran base start) i a stage low)
-            (sent_it (received_by end.collecting) (snapshots_at rows i a) i a image.number (next.made.snapshot i a) (beginnings i a stage low) (next.made.each i a stage low))
+      -- So the images are a chain.
+      chain_of : RanIsChain → (base : Image) (images : List Image) → IsStart job base → AllDid base images → Chain job (λ a. lines (bytes a)) every base images
+      chain_of chains base images start did =
+          let chain = chains job size every bytes base (own_at rows) (gate_at rows) (snapshots_at rows) in
+          chain images (interval_of every ran.interval) start did
 
-        nothing_saved : (base : Image) → IsStart job base → IsNothingSaved job image
-        nothing_saved base start = λ e a b channel.
-            let ends = ends_of job e a b channel in
-            let made = next.made.made in
-            let came = none_of_task base start (suc e) b (omega (arith, ends.edge)) ends.receiver in
-            let went = none_of_task base start e a (omega (arith, ends.edge)) ends.sender in
-            none_of_both _ _
-            (made.saved_in e a b channel ∙ ap (λ (l : List Saved). piece e a b l) came.0)
-            (made.saved_out e a b channel ∙ ap (λ (l : List Saved). piece e a b l) went.1)
+      module _ (collects : StoredAreCollected) where
+        -- What all workers did.
+        pub job_ran : (base : Image) → IsStart job base → AllDid base account_of.images
+        job_ran base start =
+            let collected_are = collects job every base (received_by end.collecting) before after (mine end.last_pass) account_of.images in
+            ran_behind base account_of.images (collected_are (snapshots_at rows) start account_of.stored beginnings)
 
-        next_collected : (base : Image) → IsStart job base →
-            (snapshot : ℕ → ℕ → ℕ → Snapshot) × AreCollected job every base (account_of.images ++ image ∷ []) (snapshots_at rows) snapshot
-        next_collected base start =
-            made_are_collected job every base (received_by end.collecting) (account_of.images ++ image ∷ []) (snapshots_at rows)
-            (all_more (IsMadeFrom job (received_by end.collecting)) account_of.images image account_of.stored.made next.made)
-            (linked_more (Collected job every) base image account_of.images (account_of.stored.collected base start)
-            (next.collected (λ final. nothing_saved base start) base start)) beginnings
-
-        pub too_large : RanIsChain → (CanSpell image → ⊥) → IsTooLarge job (λ a. lines (bytes a)) every before after
-        too_large chains large = record {
+        has_stored : StartExists → RanIsChain → HasStored job (λ a. lines (bytes a)) every before after
+        has_stored starts chains = record {
           images = account_of.images;
           kept = account_of.stored.kept;
-          image = image;
-          chain = λ base start.
-              chains job size every bytes base (own_at rows) (gate_at rows) (snapshots_at rows) (account_of.images ++ image ∷ [])
-              (interval_of every run.interval) start (ran_behind base (account_of.images ++ image ∷ []) (next_collected base start));
-          large = large;
+          chain = λ base start. chain_of chains base account_of.images start (job_ran base start);
+          still = let first = starts job in still (job_ran first.0 first.1);
+          spelled = account_of.stored.spelled;
+          readable = account_of.stored.readable;
         }
+
+        -- The image that is next behind those that were stored is of the chain with them.
+        module _ (image : Image) (next : IsNext job every (received_by end.collecting) account_of.images image) where
+          none_of_task : (base : Image) → IsStart job base → (i a : ℕ) → i ≤ suc (last_edge job) → a < tasks job i → NoneIn (next.made.snapshot i a)
+          none_of_task base start i a stage low =
+              contained NoneIn (snapshots_at rows i a) (next.made.snapshot i a) (none_sent (job_ran base start) i a stage low)
+              (sent_it (received_by end.collecting) (snapshots_at rows i a) i a image.number (next.made.snapshot i a) (beginnings i a stage low) (next.made.each i a stage low))
+
+          nothing_saved : (base : Image) → IsStart job base → IsNothingSaved job image
+          nothing_saved base start = λ e a b channel.
+              let ends = ends_of job e a b channel in
+              let made = next.made.made in
+              let came = none_of_task base start (suc e) b (omega (arith, ends.edge)) ends.receiver in
+              let went = none_of_task base start e a (omega (arith, ends.edge)) ends.sender in
+              none_of_both _ _
+              (made.saved_in e a b channel ∙ ap (λ (l : List Saved). piece e a b l) came.0)
+              (made.saved_out e a b channel ∙ ap (λ (l : List Saved). piece e a b l) went.1)
+
+          -- All of them.
+          abbrev with_next : List Image
+          with_next = account_of.images ++ image ∷ []
+
+          next_collected : (base : Image) → IsStart job base →
+              (snapshot : ℕ → ℕ → ℕ → Snapshot) × AreCollected job every base with_next (snapshots_at rows) snapshot
+          next_collected base start =
+              let collected_are = made_are_collected job every base (received_by end.collecting) with_next (snapshots_at rows) in
+              collected_are
+              (all_more (IsMadeFrom job (received_by end.collecting)) account_of.images image account_of.stored.made next.made)
+              (linked_more (Collected job every) base image account_of.images (account_of.stored.collected base start)
+              (next.collected (λ final. nothing_saved base start) base start)) beginnings
+
+          pub too_large : RanIsChain → (CanSpell image → ⊥) → IsTooLarge job (λ a. lines (bytes a)) every before after
+          too_large chains large = record {
+            images = account_of.images;
+            kept = account_of.stored.kept;
+            image = image;
+            chain = λ base start. chain_of chains base with_next start (ran_behind base with_next (next_collected base start));
+            large = large;
+          }
+
+  -- The images that were stored, of which the worker that collected left the last one.
+  pub stored_by : StartExists → StoredAreCollected → RanIsChain → (end : CollectEnd) (bytes : ℕ → List ℕ) → collected ≡ Ended end →
+      AreTold words.left inputs bytes → AreSettledWith job rows end →
+      (stored : HasStored job (λ a. lines (bytes a)) every before after) × (end.last ≡ last_or None stored.images)
+  unfolding has_stored
+  stored_by starts collects chains end bytes is told settled = (has_stored end is bytes told settled collects starts chains, (account_of end is).last_is)
 
 -- ---- the laws
 
-module _ {S O I L N : Type 0} (left : S → Option (List ℕ)) (faults : S → ℕ)
-    (line : O → L) (sent : O → Option (List ℕ)) (finished : O → Option Bool) (of_out : O → ℕ)
-    (end_line : I → N) (got : I → Option (List ℕ)) (ended : I → Option Bool) (of_in : I → ℕ) (belong : L → N → Type 0) where
-  pub stored_images_are_chain : StartExists → StoredAreCollected → RanIsChain →
-      StoredImagesAreChain left faults line sent finished of_out end_line got ended of_in belong
-  unfolding has_stored
-  stored_images_are_chain starts collects chains job size every snapshots edges inputs wires before after fell rose rows loops collected
-      end bytes run is told settled =
-      (has_stored run end is bytes told settled collects starts chains, (account_of run end is).last_is)
+module _ {S O I L N : Type 0} (words : WorldWords S O I L N) where
+  pub stored_images_are_chain : StartExists → StoredAreCollected → RanIsChain → StoredImagesAreChain words
+  stored_images_are_chain starts collects chains run end bytes ran = stored_by ran starts collects chains end bytes
 
-  pub keeper_got_images : KeeperGotImages left faults line sent finished of_out end_line got ended of_in belong
-  keeper_got_images job size every snapshots edges inputs wires before after fell rose rows loops collected run =
-      ((run.collector.account.images, run.collector.account.stored.kept), run.collector.account.never_falls)
+  pub keeper_got_images : KeeperGotImages words
+  keeper_got_images run ran = ((ran.collector.account.images, ran.collector.account.stored.kept), ran.collector.account.never_falls)

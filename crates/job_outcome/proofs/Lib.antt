@@ -1,4 +1,4 @@
-mod Places
+pub mod Places
 mod Running
 mod Jobs
 mod Chaining

@@ -32,33 +32,22 @@ module _ (share : ConnShare) (passes : SharePasses) (was_ended ended : Option Bo
   items_begin_here peers.Size met = item_begins share.channels.now left met.2.0 _ _ met.2.1
   items_begin_here peers.Barrier met = item_begins share.channels.now left met.2.0 _ _ met.2.1
   items_begin_here peers.Cut met = tt
-  items_begin_here peers.Credit met = absurd met
-  items_begin_here peers.Resume met = absurd met
-  items_begin_here peers.Left met = absurd met
+  items_begin_here other met = absurd met
 
-  pub items_begin : (channels : List ChannelId) → share.channels.now ≡ channels → (fault : PeerFault) → MetAtItems share passes was_ended ended left fault →
+  pub items_begin : {channels : List ChannelId} → share.channels.now ≡ channels → (fault : PeerFault) → MetAtItems share passes was_ended ended left fault →
       ItemsBegin channels fault left
-  items_begin channels same fault met = subst (λ (cs : List ChannelId). ItemsBegin cs fault left) same (items_begin_here fault met)
+  items_begin same fault met = subst (λ (cs : List ChannelId). ItemsBegin cs fault left) same (items_begin_here fault met)
 
   wrong_is_control : (channels : List ChannelId) (history : List (ℕ × ReaderEntry)) (m : Message) → IsWrong channels history m → is_from_receiver m.0 ≡ true
   wrong_is_control channels history (frames.PartitionRequest channel credit, content) wrong = refl
   wrong_is_control channels history (frames.AddCredit channel credit, content) wrong = refl
   wrong_is_control channels history (frames.ResumeConsumption channel, content) wrong = refl
   wrong_is_control channels history (frames.NewBufferSize channel size, content) wrong = refl
-  wrong_is_control channels history (frames.BufferResponse channel sequence backlog what, content) wrong = absurd wrong
-  wrong_is_control channels history (frames.ErrorResponse channel code, content) wrong = absurd wrong
-  wrong_is_control channels history (frames.Close, content) wrong = absurd wrong
-  wrong_is_control channels history (frames.BacklogAnnouncement channel backlog, content) wrong = absurd wrong
+  wrong_is_control channels history (other, content) wrong = absurd wrong
 
   size_begins : (size : ℕ) (m : Message) → BeginsWith m left → IsTooLarge size m → ControlBegins peers.Size left
   size_begins size (frames.NewBufferSize channel n, content) begins large = (channel, n, content, begins)
-  size_begins size (frames.PartitionRequest channel credit, content) begins large = absurd large
-  size_begins size (frames.AddCredit channel credit, content) begins large = absurd large
-  size_begins size (frames.ResumeConsumption channel, content) begins large = absurd large
-  size_begins size (frames.BufferResponse channel sequence backlog what, content) begins large = absurd large
-  size_begins size (frames.ErrorResponse channel code, content) begins large = absurd large
-  size_begins size (frames.Close, content) begins large = absurd large
-  size_begins size (frames.BacklogAnnouncement channel backlog, content) begins large = absurd large
+  size_begins size (other, content) begins large = absurd large
 
   pub control_begins : (fault : PeerFault) → MetAtControl share passes was_ended ended left fault → ControlBegins fault left
   control_begins peers.BadFrame met = met
@@ -67,11 +56,7 @@ module _ (share : ConnShare) (passes : SharePasses) (was_ended ended : Option Bo
   control_begins peers.Credit met = tt
   control_begins peers.Resume met = tt
   control_begins peers.Cut met = tt
-  control_begins peers.Refused met = absurd met
-  control_begins peers.Sequence met = absurd met
-  control_begins peers.AfterEnd met = absurd met
-  control_begins peers.Barrier met = absurd met
-  control_begins peers.Left met = absurd met
+  control_begins other met = absurd met
 
 -- Bytes that were added to none.
 pub all_came : (old new : Option (List ℕ)) (had bytes : List ℕ) → old ≡ Some had → IfSome old (λ b. b ≡ []) → Appended old new bytes → new ≡ Some bytes

@@ -1,6 +1,7 @@
 -- Places of lists, and what a worker leaves in its own.
 use Rattle.std.proofs.Common.{◌≡◌, ℕ, zero, suc, ◌<◌, List, [], ◌∷◌, length, Option, Some, slice_get, refl, ap, subst, ◌∙◌, arith}
 use Rattle.std.specs.Prelude.{map, All}
+use Rattle.std.specs.List.{AllByRecursion}
 use Rattle.turn_cell.specs.declared.pass.Pass.{Pass}
 use Rattle.turn_cell.specs.Passes.{seen, mine}
 use Rattle.conn_parts.specs.Shares.{seen_at, mine_at}
@@ -40,22 +41,20 @@ map_at f (x ∷ xs) zero y e = (x, refl, cc)
 map_at f (x ∷ xs) (suc i) y e = map_at f xs i y e
 
 -- A list of four by its places.
-pub four : {A : Type 0} (xs : List A) (a b c d : A) → length xs ≡ 4 → slice_get xs 0 ≡ Some a → slice_get xs 1 ≡ Some b → slice_get xs 2 ≡ Some c →
+pub four : {A : Type 0} {xs : List A} {a b c d : A} → length xs ≡ 4 → slice_get xs 0 ≡ Some a → slice_get xs 1 ≡ Some b → slice_get xs 2 ≡ Some c →
     slice_get xs 3 ≡ Some d → xs ≡ a ∷ b ∷ c ∷ d ∷ []
-four [] a b c d n ea eb ec ed = absurd (omega (arith, n))
-four (w ∷ []) a b c d n ea eb ec ed = absurd (omega (arith, n))
-four (w ∷ x ∷ []) a b c d n ea eb ec ed = absurd (omega (arith, n))
-four (w ∷ x ∷ y ∷ []) a b c d n ea eb ec ed = absurd (omega (arith, n))
-four (w ∷ x ∷ y ∷ z ∷ []) a b c d n ea eb ec ed = cc
-four (w ∷ x ∷ y ∷ z ∷ v ∷ xs) a b c d n ea eb ec ed = absurd (omega (arith, n))
+four {xs = []} n ea eb ec ed = absurd (omega (arith, n))
+four {xs = w ∷ []} n ea eb ec ed = absurd (omega (arith, n))
+four {xs = w ∷ x ∷ []} n ea eb ec ed = absurd (omega (arith, n))
+four {xs = w ∷ x ∷ y ∷ []} n ea eb ec ed = absurd (omega (arith, n))
+four {xs = w ∷ x ∷ y ∷ z ∷ []} n ea eb ec ed = cc
+four {xs = w ∷ x ∷ y ∷ z ∷ v ∷ xs} n ea eb ec ed = absurd (omega (arith, n))
 
--- What holds of each of four holds of what stands in their list.
-pub one_of_four : {A : Type 0} (P : A → Type 0) (a b c d x : A) (i : ℕ) → P a → P b → P c → P d → slice_get (a ∷ b ∷ c ∷ d ∷ []) i ≡ Some x → P x
-one_of_four P a b c d x zero pa pb pc pd e = subst P (same_some (Some a) a x refl e) pa
-one_of_four P a b c d x (suc zero) pa pb pc pd e = subst P (same_some (Some b) b x refl e) pb
-one_of_four P a b c d x (suc (suc zero)) pa pb pc pd e = subst P (same_some (Some c) c x refl e) pc
-one_of_four P a b c d x (suc (suc (suc zero))) pa pb pc pd e = subst P (same_some (Some d) d x refl e) pd
-one_of_four P a b c d x (suc (suc (suc (suc i)))) pa pb pc pd e = absurd (cc)
+-- What holds of each of a list holds of what stands in it.
+pub each_at : {A : Type 0} (P : A → Type 0) (xs : List A) (i : ℕ) (x : A) → AllByRecursion P xs → slice_get xs i ≡ Some x → P x
+each_at P [] i x all e = absurd (cc)
+each_at P (y ∷ xs) zero x all e = subst P (same_some (Some y) y x refl e) all.0
+each_at P (y ∷ xs) (suc i) x all e = each_at P xs i x all.1 e
 
 module _ {S E F : Type 0} where
   -- Where no pass of a list saw or made an entry, there is none at any place.

@@ -1,24 +1,18 @@
 -- What stands at each place once the workers of a job have run.
 use Rattle.std.proofs.Common.{◌≡◌, ℕ, zero, suc, ◌<◌, List, [], ◌∷◌, length, Option, Some, slice_get, refl, sym, ap, subst, ◌∙◌, arith, inl, inr}
-use Rattle.std.specs.Prelude.{Bool}
 use Rattle.std.specs.Option.{option_map_or}
 use Rattle.std.proofs.lemmas.Bool.{cases_lt}
 use Rattle.flow_defs.specs.Items.{Items}
 use Rattle.flow_defs.specs.declared.job.Job.{Job}
 use Rattle.flow_defs.specs.Jobs.{last_edge, tasks}
-use Rattle.outside.specs.Keepers.{KeptImage}
 use Rattle.outside.specs.declared.wires.Wire.{Wire}
 use Rattle.conn_parts.specs.declared.share.LoopEnd.{LoopEnd}
-use Rattle.snapshot_channel.specs.declared.opened.SnapshotChannel.{SnapshotChannel}
-use Rattle.collecting_worker.specs.declared.world.CollectEnd.{CollectEnd}
 use Rattle.job_cells.specs.declared.edge.Edge.{Edge}
-use Rattle.job_workers.specs.declared.collecting.CollectTask.{CollectTask}
 use Rattle.job_workers.specs.declared.connection.ConnLoop.{ConnLoop}
 use Rattle.job_workers.specs.declared.connection.ConnLoop.TheVariants as todo
 use Rattle.job_workers.specs.declared.connection.LoopLeft.{LoopLeft}
 use Rattle.job_workers.specs.declared.connection.LoopLeft.TheVariants as did
 use Rattle.job_workers.specs.declared.connection.LoopWork.{LoopWork}
-use Rattle.job_workers.specs.declared.place.Place.{Place}
 use Rattle.job_workers.specs.declared.place.Place.TheVariants.{Todo, Ended, Vacant}
 use Rattle.job_workers.specs.declared.task.SourceTask.{SourceTask}
 use Rattle.job_workers.specs.declared.task.StageTask.{StageTask}
@@ -30,7 +24,8 @@ use Rattle.job_workers.specs.Places.{RowLeaves}
 use Rattle.job_workers.specs.Tasks.{LeftByTask, LeftBySource, LeftByStage, LeftByAggregate, gate_in, passes_in, snapshots_in}
 use Rattle.job_deploy.specs.Deployed.{AreLoopsAt, IsSourceAt, IsStageAt, IsAggregateAt}
 use Rattle.job_ends.specs.Ended.{TaskPlace, LoopPlace, left_in, left_at, own_at, gate_at, snapshots_at}
-use Rattle.job_outcome.specs.Theorems.{HaveRun}
+use Rattle.job_outcome.specs.Theorems.{HaveRun, Run}
+use Rattle.job_outcome.specs.Words.{LinkWords, WorldWords}
 use Rattle.job_outcome.proofs.Places.{same_some, placed, at_place, place_low, four, end_at}
 
 -- Something was left at place i of row s.
@@ -56,7 +51,9 @@ module _ {S : Type 0} (rows : List (Items (TaskPlace S))) (s i : ℕ) (end : End
 pub is_gate : {S : Type 0} (rows : List (Items (TaskPlace S))) (e b : ℕ) (end : EndAt rows (suc e) b) → gate_at rows e b ≡ gate_in end.left.gate
 is_gate {S} rows e b end = ap (λ (o : Option (TaskLeft S)). option_map_or (λ (left : TaskLeft S). gate_in left.gate) o []) (is_left rows (suc e) b end)
 
-module _ {O I L N : Type 0} (line : O → L) (sent : O → Option (List ℕ)) (of_out : O → ℕ) (end_line : I → N) (got : I → Option (List ℕ)) (ended : I → Option Bool) (of_in : I → ℕ) where
+module _ {O I L N : Type 0} (links : LinkWords O I L N) where
+  open links use {line, sent, of_out, end_line, got, ended, of_in}
+
   abbrev Leaving : ConnLoop O I → LoopLeft O I → Type 0
   Leaving = LeftByLoop line sent of_out end_line got ended of_in
 
@@ -98,9 +95,9 @@ module _ {O I L N : Type 0} (line : O → L) (sent : O → Option (List ℕ)) (o
     pub by_items : ReadItems end_line got ended of_in was.items.share was.items.half items
     pub by_announce : SentControl line sent of_out was.announce.share was.announce.half announce
 
-  pub ends_at : (job : Job) (e : ℕ) (edge : Edge) (wire : Wire O I) (before row : List (LoopPlace O I)) → AreLoopsAt job e edge wire before →
+  pub ends_at : {job : Job} {e : ℕ} {edge : Edge} {wire : Wire O I} {before row : List (LoopPlace O I)} → AreLoopsAt job e edge wire before →
       RowLeaves Leaving before row → EndsAt job e edge wire row
-  ends_at job e edge wire before row was leaves =
+  ends_at {before = before} {row = row} was leaves =
       let at = λ (k : ℕ). ap (λ (xs : List (LoopPlace O I)). slice_get xs k) was.row_is in
       let a = end_at Leaving before row 0 (todo.SendItems was.send) leaves (at 0) in
       let b = end_at Leaving before row 1 (todo.ReadControl was.control) leaves (at 1) in
@@ -119,8 +116,7 @@ module _ {O I L N : Type 0} (line : O → L) (sent : O → Option (List ℕ)) (o
         control = r.0;
         items = i.0;
         announce = n.0;
-        row_is = four row (Ended (did.SentItems s.0)) (Ended (did.ReadControl r.0)) (Ended (did.ReadItems i.0)) (Ended (did.SentControl n.0))
-            (leaves.many ∙ ap (λ (xs : List (LoopPlace O I)). length xs) was.row_is)
+        row_is = four (leaves.many ∙ ap (λ (xs : List (LoopPlace O I)). length xs) was.row_is)
             (stands a.0 (did.SentItems s.0) 0 a.1 s.1)
             (stands b.0 (did.ReadControl r.0) 1 b.1 r.1)
             (stands c.0 (did.ReadItems i.0) 2 c.1 i.1)
@@ -132,12 +128,10 @@ module _ {O I L N : Type 0} (line : O → L) (sent : O → Option (List ℕ)) (o
       }
 
 -- What ran, of which all else follows.
-module _ {S O I L N : Type 0} {left : S → Option (List ℕ)} {faults : S → ℕ}
-    {line : O → L} {sent : O → Option (List ℕ)} {finished : O → Option Bool} {of_out : O → ℕ}
-    {end_line : I → N} {got : I → Option (List ℕ)} {ended : I → Option Bool} {of_in : I → ℕ} {belong : L → N → Type 0}
-    {job : Job} {size : ℕ} {every : Option ℕ} {snapshots : SnapshotChannel} {edges : List Edge} {inputs : List S} {wires : List (Wire O I)}
-    {told told_after : Option (List KeptImage)} {fell rose : ℕ} {rows : List (Items (TaskPlace S))} {loops : List (Items (LoopPlace O I))} {collected : Place CollectTask CollectEnd}
-    (run : HaveRun left faults line sent finished of_out end_line got ended of_in belong job size every snapshots edges inputs wires told told_after fell rose rows loops collected) where
+module _ {S O I L N : Type 0} {words : WorldWords S O I L N} {run : Run S O I} (ran : HaveRun words run) where
+  open run use {job, size, every, snapshots, edges, inputs, wires, rows, loops}
+  open words use {left, faults, links}
+
   abbrev last : ℕ
   last = last_edge job
 
@@ -146,37 +140,37 @@ module _ {S O I L N : Type 0} {left : S → Option (List ℕ)} {faults : S → �
   -- A row before and after.
   record Rows (s : ℕ) : Type 0 where
     before : Items (TaskPlace S)
-    before_is : slice_get run.rows_before s ≡ Some before
+    before_is : slice_get ran.rows_before s ≡ Some before
     after : Items (TaskPlace S)
     after_is : slice_get rows s ≡ Some after
     leaves : RowLeaves (LeftByTask left faults job) before.items after.items
 
   rows_at : (s : ℕ) → s < suc (suc last) → Rows s
   rows_at s low =
-      let before = at_place run.rows_before s (omega (arith, low, run.deployed.rows_many)) in
-      let after = at_place rows s (omega (arith, low, run.rows_many, run.deployed.rows_many)) in
+      let before = at_place ran.rows_before s (omega (arith, low, ran.deployed.rows_many)) in
+      let after = at_place rows s (omega (arith, low, ran.rows_many, ran.deployed.rows_many)) in
       record {
         before = before.0;
         before_is = before.1;
         after = after.0;
         after_is = after.1;
-        leaves = run.rows_left s before.0 after.0 before.1 after.1;
+        leaves = ran.rows_left s before.0 after.0 before.1 after.1;
       }
 
-  before_many : (s : ℕ) (row : Items (TaskPlace S)) → slice_get run.rows_before s ≡ Some row → length row.items ≡ tasks job s
-  before_many zero row at = (run.deployed.sources row at).many
+  before_many : (s : ℕ) (row : Items (TaskPlace S)) → slice_get ran.rows_before s ≡ Some row → length row.items ≡ tasks job s
+  before_many zero row at = (ran.deployed.sources row at).many
   before_many (suc e) row at = elim (cases_lt e last) [
-    | inl low ↦ (run.deployed.stages e row low at).many
+    | inl low ↦ (ran.deployed.stages e row low at).many
     | inr high ↦
-        let low = place_low run.rows_before (suc e) row at in
-        let is : e ≡ last = omega (arith, low, high, run.deployed.rows_many) in
-        (run.deployed.aggregates row (subst (λ (k : ℕ). slice_get run.rows_before (suc k) ≡ Some row) is at)).many ∙ ap (λ (k : ℕ). tasks job (suc k)) (sym is)
+        let low = place_low ran.rows_before (suc e) row at in
+        let is : e ≡ last = omega (arith, low, high, ran.deployed.rows_many) in
+        (ran.deployed.aggregates row (subst (λ (k : ℕ). slice_get ran.rows_before (suc k) ≡ Some row) is at)).many ∙ ap (λ (k : ℕ). tasks job (suc k)) (sym is)
   ]
 
   pub row_many : (s : ℕ) (row : Items (TaskPlace S)) → slice_get rows s ≡ Some row → length row.items ≡ tasks job s
   row_many s row at =
       let low = place_low rows s row at in
-      let r = rows_at s (omega (arith, low, run.rows_many, run.deployed.rows_many)) in
+      let r = rows_at s (omega (arith, low, ran.rows_many, ran.deployed.rows_many)) in
       ap (λ (x : Items (TaskPlace S)). length x.items) (same_some (slice_get rows s) row r.after at r.after_is) ∙ r.leaves.many ∙ before_many s r.before r.before_is
 
   -- What a task left at its place.
@@ -201,7 +195,7 @@ module _ {S O I L N : Type 0} {left : S → Option (List ℕ)} {faults : S → �
   pub source_at : (a : ℕ) → a < tasks job 0 → BySource a
   source_at a low =
       let r = rows_at 0 (omega arith) in
-      let are = run.deployed.sources r.before r.before_is in
+      let are = ran.deployed.sources r.before r.before_is in
       let place = at_place r.before.items a (omega (arith, low, are.many)) in
       let task = are.each a place.0 place.1 in
       let e = end_at (LeftByTask left faults job) r.before.items r.after.items a (Source task.0) r.leaves (placed (slice_get r.before.items a) place.0 (Todo (Source task.0)) place.1 task.1) in
@@ -215,7 +209,7 @@ module _ {S O I L N : Type 0} {left : S → Option (List ℕ)} {faults : S → �
   pub stage_at : (e b : ℕ) → e < last → b < tasks job (suc e) → ByStage e b
   stage_at e b before low =
       let r = rows_at (suc e) (omega (arith, before)) in
-      let are = run.deployed.stages e r.before before r.before_is in
+      let are = ran.deployed.stages e r.before before r.before_is in
       let place = at_place r.before.items b (omega (arith, low, are.many)) in
       let task = are.each b place.0 place.1 in
       let end = end_at (LeftByTask left faults job) r.before.items r.after.items b (Stage task.0) r.leaves (placed (slice_get r.before.items b) place.0 (Todo (Stage task.0)) place.1 task.1) in
@@ -229,7 +223,7 @@ module _ {S O I L N : Type 0} {left : S → Option (List ℕ)} {faults : S → �
   pub aggregate_at : (b : ℕ) → b < tasks job (suc last) → ByAggregate b
   aggregate_at b low =
       let r = rows_at (suc last) (omega arith) in
-      let are = run.deployed.aggregates r.before r.before_is in
+      let are = ran.deployed.aggregates r.before r.before_is in
       let place = at_place r.before.items b (omega (arith, low, are.many)) in
       let task = are.each b place.0 place.1 in
       let end = end_at (LeftByTask left faults job) r.before.items r.after.items b (Aggregate task.0) r.leaves (placed (slice_get r.before.items b) place.0 (Todo (Aggregate task.0)) place.1 task.1) in
@@ -246,17 +240,16 @@ module _ {S O I L N : Type 0} {left : S → Option (List ℕ)} {faults : S → �
   pub record LoopsEnd (e : ℕ) (edge : Edge) (row : Items (LoopPlace O I)) : Type 0 where
     pub wire : Wire O I
     pub wire_is : slice_get wires e ≡ Some wire
-    pub ends : EndsAt line sent of_out end_line got ended of_in job e edge wire row.items
+    pub ends : EndsAt links job e edge wire row.items
 
   pub loops_at : (e : ℕ) (edge : Edge) (row : Items (LoopPlace O I)) → slice_get edges e ≡ Some edge → slice_get loops e ≡ Some row → LoopsEnd e edge row
   loops_at e edge row at_edge at_row =
       let low = place_low edges e edge at_edge in
-      let before = at_place run.loops_before e (omega (arith, low, run.edges_are.many, run.deployed.loops_many)) in
-      let wire = at_place wires e (omega (arith, low, run.edges_are.many, run.wires_many)) in
+      let before = at_place ran.loops_before e (omega (arith, low, ran.edges_are.many, ran.deployed.loops_many)) in
+      let wire = at_place wires e (omega (arith, low, ran.edges_are.many, ran.wires_many)) in
       record {
         wire = wire.0;
         wire_is = wire.1;
-        ends = ends_at line sent of_out end_line got ended of_in job e edge wire.0 before.0.items row.items
-            (run.deployed.loops e edge wire.0 before.0 at_edge wire.1 before.1)
-            (run.loops_left e before.0 row before.1 at_row);
+        ends = ends_at links (ran.deployed.loops e edge wire.0 before.0 at_edge wire.1 before.1)
+            (ran.loops_left e before.0 row before.1 at_row);
       }

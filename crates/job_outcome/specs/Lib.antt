@@ -3,3 +3,4 @@ pub mod Outcomes
 pub mod Rows
 pub mod Theorems
 pub mod Storing
+pub mod Words

@@ -1,5 +1,5 @@
 -- What follows once all workers of a job have ended, whatever the order of their turns. This is this project's own choice.
-use Rattle.std.specs.Prelude.{◌≡◌, ◌≢◌, ℕ, suc, ◌≤◌, Bool, List, All, length, slice_get, Option, Some, None, IfSome, IsSome}
+use Rattle.std.specs.Prelude.{◌≡◌, ◌≢◌, ℕ, suc, ◌≤◌, List, All, length, slice_get, Option, Some, None, IfSome, IsSome}
 use Rattle.std.specs.List.{last_or}
 use Rattle.flow_defs.specs.Items.{Items}
 use Rattle.flow_defs.specs.declared.cause.Cause.{Cause}
@@ -33,6 +33,7 @@ use Rattle.job_ends.specs.Ended.{TaskPlace, LoopPlace, left_at, own_at, gate_at,
 use Rattle.job_outcome.specs.Grounds.{HasPeerFault}
 use Rattle.job_outcome.specs.Outcomes.{AllDone, HasEnded, AreTold, AreWithin, IsRunCause}
 use Rattle.job_outcome.specs.Storing.{HasKept, HasStored, IsTooLarge}
+use Rattle.job_outcome.specs.Words.{LinkWords, WorldWords}
 
 -- Each input was left by its task, with no fewer faults.
 abbrev pub AreInputsLeft : {S : Type 0} → (S → ℕ) → List S → List (Items (TaskPlace S)) → Type 0
@@ -52,112 +53,109 @@ pub record AreSettledWith {S : Type 0} (job : Job) (rows : List (Items (TaskPlac
   pub edges : (e : ℕ) → e ≤ last_edge job → EdgeCarries job e (own_at rows e) (gate_at rows e)
   pub received : AreReceived job (received_by end.collecting) rows
 
-module _ {O I L N : Type 0} (line : O → L) (sent : O → Option (List ℕ)) (finished : O → Option Bool) (of_out : O → ℕ)
-    (end_line : I → N) (got : I → Option (List ℕ)) (ended : I → Option Bool) (of_in : I → ℕ) (belong : L → N → Type 0) where
-  -- Nothing went over a wire yet, and the ends of its link for data belong together. Of those of its link for control nothing is said.
-  pub record IsNewWire (wire : Wire O I) : Type 0 where
-    pub belonged : belong (line wire.data_out) (end_line wire.data_in)
-    pub data_out : IsNewOut (sent wire.data_out) (finished wire.data_out) (of_out wire.data_out)
-    pub data_in : IsNewIn (got wire.data_in) (ended wire.data_in) (of_in wire.data_in)
-    pub control_out : IsNewOut (sent wire.control_out) (finished wire.control_out) (of_out wire.control_out)
-    pub control_in : IsNewIn (got wire.control_in) (ended wire.control_in) (of_in wire.control_in)
+-- ---- what ran
 
-module _ {S O I L N : Type 0} (left : S → Option (List ℕ)) (faults : S → ℕ)
-    (line : O → L) (sent : O → Option (List ℕ)) (finished : O → Option Bool) (of_out : O → ℕ)
-    (end_line : I → N) (got : I → Option (List ℕ)) (ended : I → Option Bool) (of_in : I → ℕ) (belong : L → N → Type 0) where
-  -- ---- what ran
+-- Nothing went over a wire yet, and the ends of its link for data belong together. Of those of its link for control nothing is said.
+pub record IsNewWire {O I L N : Type 0} (links : LinkWords O I L N) (wire : Wire O I) : Type 0 where
+  pub belonged : links.belong (links.line wire.data_out) (links.end_line wire.data_in)
+  pub data_out : IsNewOut (links.sent wire.data_out) (links.finished wire.data_out) (links.of_out wire.data_out)
+  pub data_in : IsNewIn (links.got wire.data_in) (links.ended wire.data_in) (links.of_in wire.data_in)
+  pub control_out : IsNewOut (links.sent wire.control_out) (links.finished wire.control_out) (links.of_out wire.control_out)
+  pub control_in : IsNewIn (links.got wire.control_in) (links.ended wire.control_in) (links.of_in wire.control_in)
 
-  -- The workers of a job were deployed over new wires, with checkpoints behind so many lines and this channel of snapshots, and what each
-  -- left stands in its place. The keeper told these images before and those after, and had counted so many faults.
-  pub record HaveRun (job : Job) (size : ℕ) (every : Option ℕ) (snapshots : SnapshotChannel) (edges : List Edge) (inputs : List S) (wires : List (Wire O I))
-      (before after : Option (List KeptImage)) (fell rose : ℕ) (rows : List (Items (TaskPlace S))) (loops : List (Items (LoopPlace O I))) (collected : Place CollectTask CollectEnd) : Type 0 where
-    pub is_job : IsJob job
-    pub edges_are : AreEdgesOf job size edges
-    pub inputs_many : length inputs ≡ tasks job 0
-    pub wires_many : length wires ≡ suc (last_edge job)
-    pub new_wires : All (IsNewWire line sent finished of_out end_line got ended of_in belong) wires
+-- A run of a job: the size of its segments, behind how many lines it has checkpoints, its channel of snapshots, its edges, its inputs and its wires;
+-- which images the keeper told before and after, and how many faults it had counted; and what each worker left in its place.
+pub record Run (S O I : Type 0) : Type 0 where
+  pub job : Job
+  pub size : ℕ
+  pub every : Option ℕ
+  pub snapshots : SnapshotChannel
+  pub edges : List Edge
+  pub inputs : List S
+  pub wires : List (Wire O I)
+  pub before : Option (List KeptImage)
+  pub after : Option (List KeptImage)
+  pub fell : ℕ
+  pub rose : ℕ
+  pub rows : List (Items (TaskPlace S))
+  pub loops : List (Items (LoopPlace O I))
+  pub collected : Place CollectTask CollectEnd
+
+-- The workers that were deployed for it stand in these places.
+abbrev pub AreWorkersOf : {S O I : Type 0} → Run S O I → List (Items (TaskPlace S)) → List (Items (LoopPlace O I)) → Type 0
+AreWorkersOf run = AreDeployed run.job run.size run.every run.snapshots run.edges run.inputs run.wires
+
+module _ {S O I L N : Type 0} (words : WorldWords S O I L N) where
+  -- Its workers were deployed over new wires, and what each left stands in its place.
+  pub record HaveRun (run : Run S O I) : Type 0 where
+    pub is_job : IsJob run.job
+    pub edges_are : AreEdgesOf run.job run.size run.edges
+    pub inputs_many : length run.inputs ≡ tasks run.job 0
+    pub wires_many : length run.wires ≡ suc (last_edge run.job)
+    pub new_wires : All (IsNewWire words.links) run.wires
     pub rows_before : List (Items (TaskPlace S))
     pub loops_before : List (Items (LoopPlace O I))
-    pub deployed : AreDeployed job size every snapshots edges inputs wires rows_before loops_before
-    pub rows_many : length rows ≡ length rows_before
-    pub rows_left : Pairs (λ (old new : Items (TaskPlace S)). RowLeaves (LeftByTask left faults job) old.items new.items) rows_before rows
-    pub loops_many : length loops ≡ length loops_before
-    pub loops_left : Pairs (λ (old new : Items (LoopPlace O I)). RowLeaves (LeftByLoop line sent of_out end_line got ended of_in) old.items new.items) loops_before loops
+    pub deployed : AreWorkersOf run rows_before loops_before
+    pub rows_many : length run.rows ≡ length rows_before
+    pub rows_left : Pairs (λ (old new : Items (TaskPlace S)). RowLeaves (LeftByTask words.left words.faults run.job) old.items new.items) rows_before run.rows
+    pub loops_many : length run.loops ≡ length loops_before
+    pub loops_left : Pairs (λ (old new : Items (LoopPlace O I)). RowLeaves (LeftByLoop words.line words.sent words.of_out words.end_line words.got words.ended words.of_in) old.items new.items) loops_before run.loops
     pub task : CollectTask
-    pub task_is : (task.world.job.now ≡ job) × (task.every ≡ every) × (task.world.snapshots.now ≡ snapshots)
-    pub interval : IfSome every (λ n. 1 ≤ n)
+    pub task_is : (task.world.job.now ≡ run.job) × (task.every ≡ run.every) × (task.world.snapshots.now ≡ run.snapshots)
+    pub interval : IfSome run.every (λ n. 1 ≤ n)
     pub end : CollectEnd
-    pub end_is : collected ≡ Ended end
-    pub collector : LeftByCollector before after fell rose task end
+    pub end_is : run.collected ≡ Ended end
+    pub collector : LeftByCollector run.before run.after run.fell run.rose task end
 
   -- ---- the theorems
 
   -- Workers that ran have ended, each with the passes of its place.
   abbrev pub WorkersEnd : Type 0
-  WorkersEnd =
-      (job : Job) (size : ℕ) (every : Option ℕ) (snapshots : SnapshotChannel) (edges : List Edge) (inputs : List S) (wires : List (Wire O I))
-      (before after : Option (List KeptImage)) (fell rose : ℕ) (rows : List (Items (TaskPlace S))) (loops : List (Items (LoopPlace O I))) (collected : Place CollectTask CollectEnd) →
-      HaveRun job size every snapshots edges inputs wires before after fell rose rows loops collected →
-      AreEnded (λ out input. belong (line out) (end_line input)) sent got job size edges rows loops × HaveAcknowledged job snapshots rows
+  WorkersEnd = (run : Run S O I) → HaveRun run →
+      AreEnded (λ out input. words.belong (words.line out) (words.end_line input)) words.sent words.got run.job run.size run.edges run.rows run.loops
+      × HaveAcknowledged run.job run.snapshots run.rows
 
   -- Whatever the causes with which they ended, the images that were stored are a chain, and the one that was handed back is the last of them.
   abbrev pub StoredImagesAreChain : Type 0
-  StoredImagesAreChain =
-      (job : Job) (size : ℕ) (every : Option ℕ) (snapshots : SnapshotChannel) (edges : List Edge) (inputs : List S) (wires : List (Wire O I))
-      (before after : Option (List KeptImage)) (fell rose : ℕ) (rows : List (Items (TaskPlace S))) (loops : List (Items (LoopPlace O I))) (collected : Place CollectTask CollectEnd)
-      (end : CollectEnd) (bytes : ℕ → List ℕ) →
-      HaveRun job size every snapshots edges inputs wires before after fell rose rows loops collected → collected ≡ Ended end →
-      AreTold left inputs bytes → AreSettledWith job rows end →
-      (stored : HasStored job (λ a. lines (bytes a)) every before after) × (end.last ≡ last_or None stored.images)
+  StoredImagesAreChain = (run : Run S O I) (end : CollectEnd) (bytes : ℕ → List ℕ) → HaveRun run → run.collected ≡ Ended end →
+      AreTold words.left run.inputs bytes → AreSettledWith run.job run.rows end →
+      (stored : HasStored run.job (λ a. lines (bytes a)) run.every run.before run.after) × (end.last ≡ last_or None stored.images)
 
   -- Without what is told: the images that the keeper told before stay, some come behind them, and its count of faults never falls.
   abbrev pub KeeperGotImages : Type 0
-  KeeperGotImages =
-      (job : Job) (size : ℕ) (every : Option ℕ) (snapshots : SnapshotChannel) (edges : List Edge) (inputs : List S) (wires : List (Wire O I))
-      (before after : Option (List KeptImage)) (fell rose : ℕ) (rows : List (Items (TaskPlace S))) (loops : List (Items (LoopPlace O I))) (collected : Place CollectTask CollectEnd) →
-      HaveRun job size every snapshots edges inputs wires before after fell rose rows loops collected →
-      ((images : List Image) × HasKept before after images) × (fell ≤ rose)
+  KeeperGotImages = (run : Run S O I) → HaveRun run → ((images : List Image) × HasKept run.before run.after images) × (run.fell ≤ run.rose)
 
   -- Where all are done, the last image is marked so, its tables joined are the tally of what the inputs told, and that is within its limits.
   abbrev pub DoneWorkersTally : Type 0
-  DoneWorkersTally =
-      (job : Job) (size : ℕ) (every : Option ℕ) (snapshots : SnapshotChannel) (edges : List Edge) (inputs : List S) (wires : List (Wire O I))
-      (before after : Option (List KeptImage)) (fell rose : ℕ) (rows : List (Items (TaskPlace S))) (loops : List (Items (LoopPlace O I))) (collected : Place CollectTask CollectEnd)
-      (end : CollectEnd) (bytes : ℕ → List ℕ) (image : Image) →
-      HaveRun job size every snapshots edges inputs wires before after fell rose rows loops collected → collected ≡ Ended end → end.last ≡ Some image →
-      AllDone rows loops collected → AreTold left inputs bytes → AreSettledWith job rows end →
-      (join job.agg image.tables.items ≡ tally job (λ a. lines (bytes a))) × AreWithin job bytes
+  DoneWorkersTally = (run : Run S O I) (end : CollectEnd) (bytes : ℕ → List ℕ) (image : Image) → HaveRun run → run.collected ≡ Ended end →
+      end.last ≡ Some image → AllDone run.rows run.loops run.collected → AreTold words.left run.inputs bytes → AreSettledWith run.job run.rows end →
+      (join run.job.agg image.tables.items ≡ tally run.job (λ a. lines (bytes a))) × AreWithin run.job bytes
 
   -- Where the collecting worker is done, it has a last image.
   abbrev pub DoneCollectorHasLast : Type 0
-  DoneCollectorHasLast =
-      (job : Job) (size : ℕ) (every : Option ℕ) (snapshots : SnapshotChannel) (edges : List Edge) (inputs : List S) (wires : List (Wire O I))
-      (before after : Option (List KeptImage)) (fell rose : ℕ) (rows : List (Items (TaskPlace S))) (loops : List (Items (LoopPlace O I))) (collected : Place CollectTask CollectEnd)
-      (end : CollectEnd) →
-      HaveRun job size every snapshots edges inputs wires before after fell rose rows loops collected → collected ≡ Ended end →
-      end.cause ≡ Done → IsSome end.last
+  DoneCollectorHasLast = (run : Run S O I) (end : CollectEnd) → HaveRun run → run.collected ≡ Ended end → end.cause ≡ Done → IsSome end.last
 
   -- The tasks of the sources leave the inputs that they were given.
   abbrev pub InputsComeBack : Type 0
-  InputsComeBack =
-      (job : Job) (size : ℕ) (every : Option ℕ) (snapshots : SnapshotChannel) (edges : List Edge) (inputs : List S) (wires : List (Wire O I))
-      (before after : Option (List KeptImage)) (fell rose : ℕ) (rows : List (Items (TaskPlace S))) (loops : List (Items (LoopPlace O I))) (collected : Place CollectTask CollectEnd) →
-      HaveRun job size every snapshots edges inputs wires before after fell rose rows loops collected → AreInputsLeft faults inputs rows
+  InputsComeBack = (run : Run S O I) → HaveRun run → AreInputsLeft words.faults run.inputs run.rows
 
-  -- A cause with which one of them ended has its grounds. Of an image that is too large they are told of the inputs and of what the keeper
-  -- got.
+  -- An image behind those that the keeper got is too large, as far as the inputs tell their bytes.
+  abbrev pub HasLargeImage : Run S O I → Type 0
+  HasLargeImage run = (end : CollectEnd) (bytes : ℕ → List ℕ) → run.collected ≡ Ended end → AreTold words.left run.inputs bytes →
+      AreSettledWith run.job run.rows end → IsTooLarge run.job (λ a. lines (bytes a)) run.every run.before run.after
+
+  -- The grounds of a cause in a run whose inputs are these afterwards.
+  abbrev pub HasGrounds : Run S O I → List S → Cause → Type 0
+  HasGrounds run after =
+      IsRunCause words.left words.faults run.inputs after (HasLinkFault words.of_out words.of_in run.loops)
+      (HasPeerFault words.sent words.got words.ended run.job run.loops) (HasRisen run.fell run.rose) (HasLargeImage run)
+
+  -- A cause with which one of them ended has its grounds.
   abbrev pub CausesHaveGrounds : Type 0
-  CausesHaveGrounds =
-      (job : Job) (size : ℕ) (every : Option ℕ) (snapshots : SnapshotChannel) (edges : List Edge) (inputs after_run : List S) (wires : List (Wire O I))
-      (before after : Option (List KeptImage)) (fell rose : ℕ) (rows : List (Items (TaskPlace S))) (loops : List (Items (LoopPlace O I))) (collected : Place CollectTask CollectEnd) (cause : Cause) →
-      HaveRun job size every snapshots edges inputs wires before after fell rose rows loops collected → AreLeftIn rows after_run → length after_run ≡ length inputs →
-      HasEnded rows loops collected cause → cause ≢ Done → cause ≢ Stopped →
-      IsRunCause left faults inputs after_run (HasLinkFault of_out of_in loops) (HasPeerFault sent got ended job loops) (HasRisen fell rose)
-      ((end : CollectEnd) (bytes : ℕ → List ℕ) → collected ≡ Ended end → AreTold left inputs bytes → AreSettledWith job rows end → IsTooLarge job (λ a. lines (bytes a)) every before after) cause
+  CausesHaveGrounds = (run : Run S O I) (after : List S) (cause : Cause) → HaveRun run → AreLeftIn run.rows after → length after ≡ length run.inputs →
+      HasEnded run.rows run.loops run.collected cause → cause ≢ Done → cause ≢ Stopped → HasGrounds run after cause
 
   -- Over wires of which no end is to fail, no loop has counted a fault.
   abbrev pub SureWiresHaveNoFault : (O → Type 0) → (I → Type 0) → Type 0
-  SureWiresHaveNoFault sure_out sure_in =
-      (job : Job) (size : ℕ) (every : Option ℕ) (snapshots : SnapshotChannel) (edges : List Edge) (inputs : List S) (wires : List (Wire O I))
-      (before after : Option (List KeptImage)) (fell rose : ℕ) (rows : List (Items (TaskPlace S))) (loops : List (Items (LoopPlace O I))) (collected : Place CollectTask CollectEnd) →
-      HaveRun job size every snapshots edges inputs wires before after fell rose rows loops collected → All (NeverFails sure_out sure_in) wires → HasLinkFault of_out of_in loops → ⊥
+  SureWiresHaveNoFault sure_out sure_in = (run : Run S O I) → HaveRun run → All (NeverFails sure_out sure_in) run.wires →
+      HasLinkFault words.of_out words.of_in run.loops → ⊥

@@ -1,5 +1,6 @@
 //! The laws of workers that have ended. Each function does nothing; what it ensures is the law.
 ghost use Rattle.job_outcome.specs.Theorems.{AreFaultless, CausesHaveGrounds, DoneCollectorHasLast, DoneWorkersTally, InputsComeBack, KeeperGotImages, StoredImagesAreChain, SureWiresHaveNoFault, WorkersEnd};
+ghost use Rattle.job_outcome.specs.Words.{world_words};
 
 use collecting_worker::laws::stored_images_are_collected;
 use conn_run::laws::items_arrive;
@@ -9,7 +10,7 @@ use plain_machine::laws::start_exists;
 
 /// Workers that were deployed and ran have ended, each with the passes of its place.
 pub fn workers_end<S: Source, N: Links>()
-    ensures { WorkersEnd S.left S.faults N.Out.line N.Out.sent N.Out.finished N.Out.faults N.In.line N.In.got N.In.ended N.In.faults N.belong }
+    ensures { WorkersEnd (world_words S.Source N.Out.LinkOut N.In.LinkIn N.belong) }
 {
     items_arrive();
 }
@@ -17,7 +18,7 @@ pub fn workers_end<S: Source, N: Links>()
 /// The images that were stored are a chain with nothing in flight, whatever the causes with which the workers
 /// ended, and the image that was handed back is the last of them.
 pub fn stored_images_are_chain<S: Source, N: Links>()
-    ensures { StoredImagesAreChain S.left S.faults N.Out.line N.Out.sent N.Out.finished N.Out.faults N.In.line N.In.got N.In.ended N.In.faults N.belong }
+    ensures { StoredImagesAreChain (world_words S.Source N.Out.LinkOut N.In.LinkIn N.belong) }
 {
     start_exists();
     stored_images_are_collected();
@@ -26,13 +27,13 @@ pub fn stored_images_are_chain<S: Source, N: Links>()
 
 /// The images that the keeper told before stay, and some come behind them; its count of faults never falls.
 pub fn keeper_got_images<S: Source, N: Links>()
-    ensures { KeeperGotImages S.left S.faults N.Out.line N.Out.sent N.Out.finished N.Out.faults N.In.line N.In.got N.In.ended N.In.faults N.belong }
+    ensures { KeeperGotImages (world_words S.Source N.Out.LinkOut N.In.LinkIn N.belong) }
 {}
 
 /// Where all workers are done, the tables of the last image are the tally of what the inputs told, which is
 /// within its limits.
 pub fn done_workers_tally<S: Source, N: Links>()
-    ensures { DoneWorkersTally S.left S.faults N.Out.line N.Out.sent N.Out.finished N.Out.faults N.In.line N.In.got N.In.ended N.In.faults N.belong }
+    ensures { DoneWorkersTally (world_words S.Source N.Out.LinkOut N.In.LinkIn N.belong) }
 {
     start_exists();
     stored_images_are_collected();
@@ -41,13 +42,13 @@ pub fn done_workers_tally<S: Source, N: Links>()
 
 /// A collecting worker that is done has a last image.
 pub fn done_collector_has_last<S: Source, N: Links>()
-    ensures { DoneCollectorHasLast S.left S.faults N.Out.line N.Out.sent N.Out.finished N.Out.faults N.In.line N.In.got N.In.ended N.In.faults N.belong }
+    ensures { DoneCollectorHasLast (world_words S.Source N.Out.LinkOut N.In.LinkIn N.belong) }
 {}
 
 /// A cause with which a worker ended has its grounds in an input, a link, the credit of a channel, the other end
 /// of a connection, the keeper or an image. Of want of memory nothing is said.
 pub fn causes_have_grounds<S: Source, N: Links>()
-    ensures { CausesHaveGrounds S.left S.faults N.Out.line N.Out.sent N.Out.finished N.Out.faults N.In.line N.In.got N.In.ended N.In.faults N.belong }
+    ensures { CausesHaveGrounds (world_words S.Source N.Out.LinkOut N.In.LinkIn N.belong) }
 {
     stored_images_are_collected();
     runs_are_chains();
@@ -61,12 +62,13 @@ fn ends_are_faultless<O: LinkOut, I: LinkIn>()
 
 /// Over wires of which no end is to fail, no loop of a connection has counted a fault.
 pub fn sure_wires_have_no_fault<S: Source, N: Links>()
-    ensures { SureWiresHaveNoFault S.left S.faults N.Out.line N.Out.sent N.Out.finished N.Out.faults N.In.line N.In.got N.In.ended N.In.faults N.belong N.Out.never_fails N.In.never_fails }
+    ensures { SureWiresHaveNoFault (world_words S.Source N.Out.LinkOut N.In.LinkIn N.belong)
+        N.Out.never_fails N.In.never_fails }
 {
     ends_are_faultless::<N::Out, N::In>();
 }
 
 /// Each source's task hands its input back.
 pub fn inputs_come_back<S: Source, N: Links>()
-    ensures { InputsComeBack S.left S.faults N.Out.line N.Out.sent N.Out.finished N.Out.faults N.In.line N.In.got N.In.ended N.In.faults N.belong }
+    ensures { InputsComeBack (world_words S.Source N.Out.LinkOut N.In.LinkIn N.belong) }
 {}

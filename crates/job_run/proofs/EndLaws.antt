@@ -14,8 +14,8 @@ use Rattle.job_run.proofs.ListLaws.{get_there, place_low}
 
 module _ {S : Type 0} where
   -- Rows that were settled and settled again are settled.
-  pub settled_again : (old mid new : List (Items (TaskPlace S))) → AreSettled old mid → AreSettled mid new → AreSettled old new
-  settled_again old mid new one two = record {
+  pub settled_again : {old mid new : List (Items (TaskPlace S))} → AreSettled old mid → AreSettled mid new → AreSettled old new
+  settled_again {old = old} {mid = mid} one two = record {
     many = two.many ∙ one.many;
     row_many = λ s before after was is.
         let low = place_low old s before was in
@@ -31,10 +31,10 @@ module _ {S : Type 0} where
         );
   }
 
-  module _ (job : Job) (old new : List (Items (TaskPlace S))) (settled : AreSettled old new) (stay : SnapshotsStay old new) where
+  module _ {job : Job} {old new : List (Items (TaskPlace S))} (settled : AreSettled old new) (stay : SnapshotsStay old new) where
     -- Tasks whose edges were settled have their passes of the channel of snapshots.
-    pub still_acknowledged : (channel : SnapshotChannel) → HaveAcknowledged job channel old → HaveAcknowledged job channel new
-    still_acknowledged channel have = record {
+    pub still_acknowledged : {channel : SnapshotChannel} → HaveAcknowledged job channel old → HaveAcknowledged job channel new
+    still_acknowledged have = record {
       rows_many = settled.many ∙ have.rows_many;
       row_many = λ s row at.
           let low = place_low new s row at in
@@ -51,7 +51,7 @@ module _ {S : Type 0} where
     }
 
     -- And what was received of them then was received of them before.
-    module _ (channel : SnapshotChannel) (have : HaveAcknowledged job channel old) where
+    module _ {channel : SnapshotChannel} (have : HaveAcknowledged job channel old) where
       same_snapshots : (s i : ℕ) → s < suc (suc (last_edge job)) → i < tasks job s → snapshots_at new s i ≡ snapshots_at old s i
       same_snapshots s i stage low =
           let one = have.each s i stage low in

@@ -7,9 +7,10 @@ use Rattle.flow_defs.specs.Items.{Items}
 use Rattle.flow_defs.specs.declared.job.Job.{Job}
 use Rattle.flow_defs.specs.Jobs.{tasks}
 use Rattle.conn_parts.proofs.Lists.{get_is, refilled}
+use Rattle.job_cells.specs.declared.edge.Edge.{Edge}
 use Rattle.job_workers.specs.declared.place.Place.TheVariants.{Vacant}
 use Rattle.job_workers.specs.declared.task.TaskLeft.{TaskLeft}
-use Rattle.job_ends.specs.Ended.{TaskPlace, AreSettled, left_at, left_in}
+use Rattle.job_ends.specs.Ended.{TaskPlace, LoopPlace, AreEnded, AreSettled, left_at, left_in}
 use Rattle.job_outcome.specs.Theorems.{AreLeftIn}
 use Rattle.job_run.specs.Runs.{HaveInputs, input_in}
 use Rattle.job_run.proofs.ListLaws.{get_there, place_low, given_many, given_at, GivesAll}
@@ -27,7 +28,7 @@ module _ {S : Type 0} where
   left_low (x ∷ xs) zero end e = omega arith
   left_low (x ∷ xs) (suc a) end e = let low = left_low xs a end e in omega (arith, low)
 
-  module _ (job : Job) (old new : List (Items (TaskPlace S))) (before after : Items (TaskPlace S))
+  module _ (job : Job) {old new : List (Items (TaskPlace S))} {before after : Items (TaskPlace S)}
       (settled : AreSettled old new) (was : slice_get old 0 ≡ Some before) (is : slice_get new 0 ≡ Some after)
       (many : length before.items ≡ tasks job 0) (inputs : HaveInputs job old) where
     pub after_many : length after.items ≡ tasks job 0
@@ -58,10 +59,14 @@ module _ {S : Type 0} where
         given_at input_in after.items all_given a place.0 input place.1 (input_there a end input place.0 at has place.1)
 
 -- The first row of a list that was lent, settled and given back.
-module _ {S : Type 0} (job : Job) (ran lent back now : List (Items (TaskPlace S))) (row : Items (TaskPlace S)) (first : List (TaskPlace S))
+module _ {S O I : Type 0} {belong : O → I → Type 0} {sent : O → Option (List ℕ)} {got : I → Option (List ℕ)} {job : Job} {size : ℕ} {edges : List Edge}
+    {ran lent back now : List (Items (TaskPlace S))} {loops : List (Items (LoopPlace O I))} {row : Items (TaskPlace S)} {first : List (TaskPlace S)}
+    (ended : AreEnded belong sent got job size edges ran loops) (inputs : HaveInputs job ran)
     (lent_is : lent ≡ ran) (settled : AreSettled lent back) (now_is : now ≡ refill (length ran) ran back)
-    (low : 0 < length ran) (row_is : row ≡ get_or now 0 row) (first_is : first ≡ (get_or now 0 row).items)
-    (row_many : (s : ℕ) (r : Items (TaskPlace S)) → slice_get ran s ≡ Some r → length r.items ≡ tasks job s) (inputs : HaveInputs job ran) where
+    (row_is : row ≡ get_or now 0 row) (first_is : first ≡ (get_or now 0 row).items) where
+  low : 0 < length ran
+  low = let many = ended.rows_many in omega (arith, many)
+
   back_many : length back ≡ length ran
   back_many = settled.many ∙ ap length lent_is
 
@@ -70,9 +75,10 @@ module _ {S : Type 0} (job : Job) (ran lent back now : List (Items (TaskPlace S)
 
   at_back : slice_get back 0 ≡ Some (get_or now 0 row)
   at_back =
+      let some = low in
       let many = back_many in
       let same = ap length is_back in
-      ap (λ (l : List (Items (TaskPlace S))). slice_get l 0) (sym is_back) ∙ get_is now 0 row (omega (arith, low, many, same)) row_is ∙ ap Some row_is
+      ap (λ (l : List (Items (TaskPlace S))). slice_get l 0) (sym is_back) ∙ get_is now 0 row (omega (arith, some, many, same)) row_is ∙ ap Some row_is
 
   settled_ran : AreSettled ran back
   settled_ran = subst (λ (l : List (Items (TaskPlace S))). AreSettled l back) lent_is settled
@@ -80,16 +86,16 @@ module _ {S : Type 0} (job : Job) (ran lent back now : List (Items (TaskPlace S)
   pub first_many : length first ≡ tasks job 0
   first_many =
       let before = get_there ran 0 low in
-      ap length first_is ∙ after_many job ran back before.0 (get_or now 0 row) settled_ran before.1 at_back (row_many 0 before.0 before.1) inputs
+      ap length first_is ∙ after_many job settled_ran before.1 at_back (ended.row_many 0 before.0 before.1) inputs
 
   pub first_came : length (filter_map input_in first) ≡ tasks job 0
   first_came =
       let before = get_there ran 0 low in
       ap (λ (l : List (TaskPlace S)). length (filter_map input_in l)) first_is
-      ∙ came_many job ran back before.0 (get_or now 0 row) settled_ran before.1 at_back (row_many 0 before.0 before.1) inputs
+      ∙ came_many job settled_ran before.1 at_back (ended.row_many 0 before.0 before.1) inputs
 
   pub first_left : AreLeftIn ran (filter_map input_in first)
   first_left =
       let before = get_there ran 0 low in
       subst (λ (l : List (TaskPlace S)). AreLeftIn ran (filter_map input_in l)) (sym first_is)
-      (came_left job ran back before.0 (get_or now 0 row) settled_ran before.1 at_back (row_many 0 before.0 before.1) inputs)
+      (came_left job settled_ran before.1 at_back (ended.row_many 0 before.0 before.1) inputs)

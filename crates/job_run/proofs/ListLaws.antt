@@ -34,13 +34,6 @@ all_at P [] i x all at = absurd (cc)
 all_at P (y ∷ xs) zero x all at = let e : y ≡ x = cc in subst P e (all 0 y (omega arith))
 all_at P (y ∷ xs) (suc i) x all at = all_at P xs i x (λ k d low. all (suc k) d (omega (arith, low))) at
 
-pub each_of_four : {A : Type 0} (P : A → Type 0) (a b c d : A) → P a → P b → P c → P d → (i : ℕ) (x : A) → slice_get (a ∷ b ∷ c ∷ d ∷ []) i ≡ Some x → P x
-each_of_four P a b c d pa pb pc pd zero x at = let e : a ≡ x = cc in subst P e pa
-each_of_four P a b c d pa pb pc pd (suc zero) x at = let e : b ≡ x = cc in subst P e pb
-each_of_four P a b c d pa pb pc pd (suc (suc zero)) x at = let e : c ≡ x = cc in subst P e pc
-each_of_four P a b c d pa pb pc pd (suc (suc (suc zero))) x at = let e : d ≡ x = cc in subst P e pd
-each_of_four P a b c d pa pb pc pd (suc (suc (suc (suc i)))) x at = absurd (cc)
-
 -- ---- what a function gives of each
 
 module _ {A B : Type 0} (f : A → Option B) where

@@ -41,7 +41,7 @@ module _ {S E F : Type 0} (cell : TurnCell S E F) (passes : List (Pass S E F)) (
   all_told_nothing k d low = let new = fresh k (get_or passes k d) (elem_at passes k d low) in (new.0, new.1.2)
 
   -- The last two, and the rest.
-  module _ (front rest : List (Pass S E F)) (last other : Pass S E F) (front_is : passes ≡ front ++ last ∷ []) (rest_is : front ≡ rest ++ other ∷ []) where
+  module _ {front : List (Pass S E F)} (rest : List (Pass S E F)) (last other : Pass S E F) (front_is : passes ≡ front ++ last ∷ []) (rest_is : front ≡ rest ++ other ∷ []) where
     all_before : All (λ (pass : Pass S E F). IsPassOf cell pass × (mine pass ≡ [])) (rest ++ other ∷ [])
     all_before =
         subst (All (λ (pass : Pass S E F). IsPassOf cell pass × (mine pass ≡ []))) rest_is

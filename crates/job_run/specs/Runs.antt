@@ -24,6 +24,7 @@ use Rattle.job_workers.specs.declared.task.TaskLeft.{TaskLeft}
 use Rattle.job_ends.specs.Ended.{TaskPlace, LoopPlace, LinksTell, left_in, left_at}
 use Rattle.job_outcome.specs.Outcomes.{AllDone, HasEnded, AreTold, AreWithin, ComeBack, IsRunCause}
 use Rattle.job_outcome.specs.Storing.{EndsIn, HasKept, HasStored, IsTooLarge}
+use Rattle.job_outcome.specs.Words.{WorldWords}
 
 -- ---- what workers left
 
@@ -70,20 +71,40 @@ module _ {S O I : Type 0} (job : Job) (rows : List (Items (TaskPlace S))) (loops
 
 -- ---- the run
 
-module _ {S O I : Type 0} (left : S → Option (List ℕ)) (faults : S → ℕ) (sent : O → Option (List ℕ)) (got : I → Option (List ℕ)) where
+-- The course of a run as who starts it sees it: behind how many lines it has checkpoints, its inputs before and after, which images its keeper told
+-- before and after, and how many faults the keeper had counted.
+pub record Course (S : Type 0) : Type 0 where
+  pub job : Job
+  pub every : Option ℕ
+  pub before : List S
+  pub after : List S
+  pub kept : Option (List KeptImage)
+  pub keeps : Option (List KeptImage)
+  pub fell : ℕ
+  pub rose : ℕ
+
+module _ {S O I L N : Type 0} (words : WorldWords S O I L N) where
   -- It holds of the bytes of the inputs, where links and inputs tell their bytes.
   abbrev pub WhereTold : List S → ((ℕ → List ℕ) → Type 0) → Type 0
-  WhereTold inputs P = LinksTell sent got → (bytes : ℕ → List ℕ) → AreTold left inputs bytes → P bytes
+  WhereTold inputs P = LinksTell words.sent words.got → (bytes : ℕ → List ℕ) → AreTold words.left inputs bytes → P bytes
 
-  -- A run with these inputs, which are those afterwards, and with a keeper that told these images before and those after, and had counted so
-  -- many faults: its table is the tally of all lines where links and inputs tell their bytes, its cause has its grounds, and the inputs come
-  -- back. Whatever it answers, the keeper got some images, and they are a chain where links and inputs tell their bytes; a table is that of
-  -- the last one.
-  pub record IsRun (job : Job) (every : Option ℕ) (before after : List S) (kept keeps : Option (List KeptImage)) (fell rose : ℕ) (link : Type 0) (peer : PeerFault → Type 0) (result : Result Values Cause) : Type 0 where
-    pub tally : IfOk result (λ table. WhereTold before (λ bytes. AreWithin job bytes × (table ≡ tally job (λ a. lines (bytes a)))))
-    pub cause : IfErr result (IsRunCause left faults before after link peer (HasRisen fell rose) (WhereTold before (λ bytes. IsTooLarge job (λ a. lines (bytes a)) every kept keeps)))
-    pub inputs : ComeBack faults before after
-    pub chain : WhereTold before (λ bytes. HasStored job (λ a. lines (bytes a)) every kept keeps)
-    pub kept_some : (images : List Image) × HasKept kept keeps images
-    pub last : IfOk result (λ table. WhereTold before (λ bytes. EndsIn job (λ a. lines (bytes a)) every kept keeps table))
-    pub never_falls : fell ≤ rose
+  -- An image behind those that the keeper got is too large.
+  abbrev pub TellsLargeImage : Course S → Type 0
+  TellsLargeImage course = WhereTold course.before (λ bytes. IsTooLarge course.job (λ a. lines (bytes a)) course.every course.kept course.keeps)
+
+  -- The grounds of a cause in such a course.
+  abbrev pub HasItsGrounds : Course S → Type 0 → (PeerFault → Type 0) → Cause → Type 0
+  HasItsGrounds course link peer =
+      IsRunCause words.left words.faults course.before course.after link peer (HasRisen course.fell course.rose) (TellsLargeImage course)
+
+  -- A run of this course: its table is the tally of all lines where links and inputs tell their bytes, its cause has its grounds, and the
+  -- inputs come back. Whatever it answers, the keeper got some images, and they are a chain where links and inputs tell their bytes; a table
+  -- is that of the last one.
+  pub record IsRun (course : Course S) (link : Type 0) (peer : PeerFault → Type 0) (result : Result Values Cause) : Type 0 where
+    pub tally : IfOk result (λ table. WhereTold course.before (λ bytes. AreWithin course.job bytes × (table ≡ tally course.job (λ a. lines (bytes a)))))
+    pub cause : IfErr result (HasItsGrounds course link peer)
+    pub inputs : ComeBack words.faults course.before course.after
+    pub chain : WhereTold course.before (λ bytes. HasStored course.job (λ a. lines (bytes a)) course.every course.kept course.keeps)
+    pub kept_some : (images : List Image) × HasKept course.kept course.keeps images
+    pub last : IfOk result (λ table. WhereTold course.before (λ bytes. EndsIn course.job (λ a. lines (bytes a)) course.every course.kept course.keeps table))
+    pub never_falls : course.fell ≤ course.rose

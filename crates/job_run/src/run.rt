@@ -18,6 +18,7 @@ ghost use Rattle.job_ends.specs.Ended.{LinksTell};
 ghost use Rattle.job_outcome.specs.Outcomes.{AreTold, AreWithin, ComeBack, IsRunCause};
 ghost use Rattle.job_outcome.specs.Storing.{EndsIn, HasKept, HasStored, IsTooLarge};
 ghost use Rattle.job_outcome.specs.Theorems.{IsNewWire};
+ghost use Rattle.job_outcome.specs.Words.{link_words, world_words};
 ghost use Rattle.job_run.specs.Cells.{AreCellsOf, CanCheckpoint};
 ghost use Rattle.job_run.specs.Runs.{IsRun};
 ghost use Rattle.job_run.specs.Wires.{IsLinkGround, IsPeerGround};
@@ -68,10 +69,18 @@ where
     requires opened { AreCellsOf job.now every opened }
     requires inputs { length inputs.old.items ≡ tasks job.now 0 }
     requires wires { length wires.items ≡ suc (last_edge job.now) }
-    requires unused { All (λ wire. IsNewWire N.Out.line N.Out.sent N.Out.finished N.Out.faults N.In.line N.In.got N.In.ended N.In.faults N.belong wire) wires.items }
+    requires unused { All (IsNewWire (link_words N.Out.LinkOut N.In.LinkIn N.belong)) wires.items }
     requires lent { suc (last_edge job.now) ≤ N.lent net.old }
-    ensures run { IsRun S.left S.faults N.Out.sent N.In.got job.now every inputs.old.items inputs.new.items
-        (K.images keeper.old) (K.images keeper.new) (K.faults keeper.old) (K.faults keeper.new)
+    ensures run { IsRun (world_words S.Source N.Out.LinkOut N.In.LinkIn N.belong) (record {
+      job = job.now;
+      every = every;
+      before = inputs.old.items;
+      after = inputs.new.items;
+      kept = K.images keeper.old;
+      keeps = K.images keeper.new;
+      fell = K.faults keeper.old;
+      rose = K.faults keeper.new;
+    })
         (IsLinkGround (All (NeverFails N.Out.never_fails N.In.never_fails) wires.items) (N.faults net.old) (N.faults net.new))
         (IsPeerGround N.Out.sent N.In.got N.In.ended job.now (N.wires net.old) (N.wires net.new)) result }
     ensures lent { N.lent net.new + suc (last_edge job.now) ≡ N.lent net.old }
@@ -129,8 +138,16 @@ where
     requires checkpoints { CanCheckpoint job.now every (K.images keeper.old) }
     requires pool { (size_of pool.now ≡ size) × AreGrantsOf job.now pool.now grants }
     requires inputs { length inputs.old.items ≡ tasks job.now 0 }
-    ensures run { IsRun S.left S.faults N.Out.sent N.In.got job.now every inputs.old.items inputs.new.items
-        (K.images keeper.old) (K.images keeper.new) (K.faults keeper.old) (K.faults keeper.new)
+    ensures run { IsRun (world_words S.Source N.Out.LinkOut N.In.LinkIn N.belong) (record {
+      job = job.now;
+      every = every;
+      before = inputs.old.items;
+      after = inputs.new.items;
+      kept = K.images keeper.old;
+      keeps = K.images keeper.new;
+      fell = K.faults keeper.old;
+      rose = K.faults keeper.new;
+    })
         (IsLinkGround (N.never_fails net.old) (N.faults net.old) (N.faults net.new))
         (IsPeerGround N.Out.sent N.In.got N.In.ended job.now (N.wires net.old) (N.wires net.new)) result }
     ensures lent { N.lent net.new ≡ N.lent net.old }

@@ -2,6 +2,7 @@
 ghost use Rattle.std.specs.Prelude.{◌≡◌, ◌+◌, ◌≤◌, length, All, Err, IfErr, IfOk, OnErr, OnOk};
 ghost use Rattle.outside.specs.Links.{NeverFails};
 ghost use Rattle.job_outcome.specs.Theorems.{IsNewWire};
+ghost use Rattle.job_outcome.specs.Words.{link_words};
 ghost use Rattle.job_run.specs.Wires.{IsLinkGround, IsWireCause};
 
 use flow_defs::{Cause, ListOf};
@@ -30,7 +31,7 @@ fn add_wires<N: Links>(
 ) -> Result<(), PairFault>
     requires none { length wires.old.items ≡ 0 }
     requires room { many ≤ wires.old.room }
-    ensures unused { All (λ wire. IsNewWire N.Out.line N.Out.sent N.Out.finished N.Out.faults N.In.line N.In.got N.In.ended N.In.faults N.belong wire) wires.new.items }
+    ensures unused { All (IsNewWire (link_words N.Out.LinkOut N.In.LinkIn N.belong)) wires.new.items }
     ensures many { OnOk result (length wires.new.items ≡ many) }
     ensures lent { N.lent net.new ≡ N.lent net.old + length wires.new.items }
     ensures same { N.wires net.new ≡ N.wires net.old }
@@ -53,7 +54,7 @@ pub fn open_wires<N: Links>(
     net: &mut N,
     many: usize,
 ) -> Result<ListOf<Wire<N::Out, N::In>>, Cause>
-    ensures unused { IfOk result (λ wires. All (λ wire. IsNewWire N.Out.line N.Out.sent N.Out.finished N.Out.faults N.In.line N.In.got N.In.ended N.In.faults N.belong wire) wires.items) }
+    ensures unused { IfOk result (λ wires. All (IsNewWire (link_words N.Out.LinkOut N.In.LinkIn N.belong)) wires.items) }
     ensures many { IfOk result (λ wires. length wires.items ≡ many) }
     ensures lent { OnOk result (N.lent net.new ≡ N.lent net.old + many) }
     ensures same { OnOk result (N.wires net.new ≡ N.wires net.old) }

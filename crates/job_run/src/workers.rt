@@ -5,6 +5,7 @@ ghost use Rattle.stage_fns.specs.Kinds.{kinds};
 ghost use Rattle.job_plan.specs.Plans.{CanRun};
 ghost use Rattle.job_cells.specs.Edges.{AreAllPassesOf, AreEdgesOf};
 ghost use Rattle.job_outcome.specs.Theorems.{HaveRun, IsNewWire};
+ghost use Rattle.job_outcome.specs.Words.{link_words, world_words};
 ghost use Rattle.job_run.specs.Cells.{AreDealt, CanCheckpoint};
 
 use crate::cells::{CellPasses, RunCells};
@@ -56,10 +57,23 @@ where
     requires dealt { AreDealt job.now every cells.now dealt }
     requires inputs { length inputs.old.items ≡ tasks job.now 0 }
     requires wires { length wires.old.items ≡ suc (last_edge job.now) }
-    requires unused { All (λ wire. IsNewWire N.Out.line N.Out.sent N.Out.finished N.Out.faults N.In.line N.In.got N.In.ended N.In.faults N.belong wire) wires.old.items }
-    ensures ran { IfOk result (λ d. HaveRun S.left S.faults N.Out.line N.Out.sent N.Out.finished N.Out.faults N.In.line N.In.got N.In.ended N.In.faults N.belong
-        job.now size every cells.now.channel edges.now inputs.old.items wires.old.items
-        (K.images keeper.old) (K.images keeper.new) (K.faults keeper.old) (K.faults keeper.new) d.rows.items d.loops.items d.collected) }
+    requires unused { All (IsNewWire (link_words N.Out.LinkOut N.In.LinkIn N.belong)) wires.old.items }
+    ensures ran { IfOk result (λ d. HaveRun (world_words S.Source N.Out.LinkOut N.In.LinkIn N.belong) (record {
+      job = job.now;
+      size = size;
+      every = every;
+      snapshots = cells.now.channel;
+      edges = edges.now;
+      inputs = inputs.old.items;
+      wires = wires.old.items;
+      before = K.images keeper.old;
+      after = K.images keeper.new;
+      fell = K.faults keeper.old;
+      rose = K.faults keeper.new;
+      rows = d.rows.items;
+      loops = d.loops.items;
+      collected = d.collected;
+    })) }
     ensures taken { OnOk result ((inputs.new.items ≡ []) × (length inputs.old.items ≤ inputs.new.room)) }
     ensures kept { OnErr result ((inputs.new.items ≡ inputs.old.items) × (wires.new.items ≡ wires.old.items) × (keeper.new ≡ keeper.old)) }
 {

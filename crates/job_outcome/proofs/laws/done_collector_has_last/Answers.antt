@@ -2,4 +2,4 @@ use Rattle.job_outcome.proofs.Tallying as lemmas
 use Rattle.job_outcome.proofs.laws.done_collector_has_last.Goals as goal
 
 pub returns : goal.returns
-returns g c = lemmas.done_collector_has_last _ _ _ _ _ _ _ _ _ _ _
+returns g c = lemmas.done_collector_has_last _

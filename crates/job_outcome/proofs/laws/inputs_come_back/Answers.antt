@@ -2,4 +2,4 @@ use Rattle.job_outcome.proofs.Grounds as lemmas
 use Rattle.job_outcome.proofs.laws.inputs_come_back.Goals as goal
 
 pub returns : goal.returns
-returns g c = lemmas.inputs_come_back _ _ _ _ _ _ _ _ _ _ _
+returns g c = lemmas.inputs_come_back _

@@ -8,18 +8,15 @@ use Rattle.job_run.proofs.ending.settle_all.Goals as goal
 
 pub settle_snapshots-requires-clause-passes : goal.settle_snapshots-requires-clause-passes
 settle_snapshots-requires-clause-passes g c =
-    still_acknowledged c.args.job.now c.args.rows.now c.settle_edges.new.rows c.settle_edges.ensures.rest c.settle_edges.ensures.snapshots
-    c.args.channel.now c.requires.acknowledged
+    still_acknowledged c.settle_edges.ensures.rest c.settle_edges.ensures.snapshots c.requires.acknowledged
 
 pub returns-clause-settled : goal.returns-clause-settled
 returns-clause-settled g c = λ tell end is. record {
   edges = c.settle_edges.ensures.carry tell;
   received =
       subst (λ (l : List Snapshot). AreReceived c.args.job.now l c.args.rows.now) (sym (ap received_by is))
-      (were_received c.args.job.now c.args.rows.now c.settle_edges.new.rows c.settle_edges.ensures.rest c.settle_edges.ensures.snapshots
-      c.args.channel.now c.requires.acknowledged (received_by c.args.collecting) c.settle_snapshots.ensures.received);
+      (were_received c.settle_edges.ensures.rest c.settle_edges.ensures.snapshots c.requires.acknowledged (received_by c.args.collecting) c.settle_snapshots.ensures.received);
 }
 
 pub returns-clause-rest : goal.returns-clause-rest
-returns-clause-rest g c =
-    settled_again c.args.rows.now c.settle_edges.new.rows c.settle_snapshots.new.rows c.settle_edges.ensures.rest c.settle_snapshots.ensures.rest
+returns-clause-rest g c = settled_again c.settle_edges.ensures.rest c.settle_snapshots.ensures.rest

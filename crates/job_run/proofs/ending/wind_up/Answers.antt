@@ -12,15 +12,14 @@ use Rattle.job_ends.specs.Returning.{RowsCameBack}
 use Rattle.job_outcome.specs.Theorems.{AreLeftIn, AreSettledWith}
 use Rattle.job_run.specs.Runs.{input_in}
 use Rattle.job_run.proofs.InputLaws.{first_came, first_left, first_many}
-use Rattle.job_run.proofs.RunLaws.{ended_lent, has_image, is_answer, same_end}
+use Rattle.job_run.proofs.RunLaws.{IsOutcome, ended_lent, has_image, is_answer, of_lent, same_end}
 use Rattle.job_run.proofs.ending.wind_up.Goals as goal
 
 pub settle_all-requires-clause-ended : goal.settle_all-requires-clause-ended
 settle_all-requires-clause-ended g c κs within =
     let ended = c.requires.ended in (
       ended.0,
-      ended_lent (λ out input. g.N.Links.belong (g.N.Out.LinkOut.line out) (g.N.In.LinkIn.line input)) g.N.Out.LinkOut.sent g.N.In.LinkIn.got c.args.job.now ended.0 c.args.edges.now
-          c.args.ran.rows.items c.as_mut_slice.result.now c.args.ran.loops.items c.as_mut_slice-2.result.now c.as_mut_slice.ensures.value c.as_mut_slice-2.ensures.value ended.1,
+      ended_lent c.as_mut_slice.ensures.value c.as_mut_slice-2.ensures.value ended.1,
     )
 
 pub settle_all-requires-clause-acknowledged : goal.settle_all-requires-clause-acknowledged
@@ -29,25 +28,19 @@ settle_all-requires-clause-acknowledged g c κs within =
 
 pub take_inputs-requires : goal.take_inputs-requires
 take_inputs-requires g c =
-    let ended = c.requires.ended.1 in
-    let rows_many = ended.rows_many in
-    let row = c.index-as_mut_slice-0.result in
-    let many = first_many c.args.job.now c.args.ran.rows.items c.as_mut_slice.result.now c.settle_all.new.rows c.as_mut_slice-3.result.now row c.as_mut_slice-4.result.now
-    c.as_mut_slice.ensures.value c.settle_all.ensures.rest c.as_mut_slice-3.ensures.value (omega (arith, rows_many)) c.index-as_mut_slice-0.is c.as_mut_slice-4.ensures.value ended.row_many c.requires.left in
+    let many = first_many c.requires.ended.1 c.requires.left c.as_mut_slice.ensures.value c.settle_all.ensures.rest c.as_mut_slice-3.ensures.value
+    c.index-as_mut_slice-0.is c.as_mut_slice-4.ensures.value in
     let room = c.requires.inputs.1 in
     omega (arith, many, room)
 
 pub returns-clause-inputs : goal.returns-clause-inputs
 returns-clause-inputs g c =
-    let ended = c.requires.ended.1 in
-    let rows_many = ended.rows_many in
-    let row = c.index-as_mut_slice-0.result in
     let taken : c.take_inputs.new.inputs.items ≡ filter_map input_in c.as_mut_slice-4.result.now =
     c.take_inputs.ensures ∙ ap (λ (l : List g.row.S.Denot). l ++ filter_map input_in c.as_mut_slice-4.result.now) c.requires.inputs.0 in
-    let many = first_came c.args.job.now c.args.ran.rows.items c.as_mut_slice.result.now c.settle_all.new.rows c.as_mut_slice-3.result.now row c.as_mut_slice-4.result.now
-    c.as_mut_slice.ensures.value c.settle_all.ensures.rest c.as_mut_slice-3.ensures.value (omega (arith, rows_many)) c.index-as_mut_slice-0.is c.as_mut_slice-4.ensures.value ended.row_many c.requires.left in
-    let left = first_left c.args.job.now c.args.ran.rows.items c.as_mut_slice.result.now c.settle_all.new.rows c.as_mut_slice-3.result.now row c.as_mut_slice-4.result.now
-    c.as_mut_slice.ensures.value c.settle_all.ensures.rest c.as_mut_slice-3.ensures.value (omega (arith, rows_many)) c.index-as_mut_slice-0.is c.as_mut_slice-4.ensures.value ended.row_many c.requires.left in
+    let many = first_came c.requires.ended.1 c.requires.left c.as_mut_slice.ensures.value c.settle_all.ensures.rest c.as_mut_slice-3.ensures.value
+    c.index-as_mut_slice-0.is c.as_mut_slice-4.ensures.value in
+    let left = first_left c.requires.ended.1 c.requires.left c.as_mut_slice.ensures.value c.settle_all.ensures.rest c.as_mut_slice-3.ensures.value
+    c.index-as_mut_slice-0.is c.as_mut_slice-4.ensures.value in
     (subst (λ (l : List g.row.S.Denot). AreLeftIn c.args.ran.rows.items l) (sym taken) left, ap length taken ∙ many)
 
 pub returns-clause-wires : goal.returns-clause-wires
@@ -58,10 +51,14 @@ returns-clause-wires g c =
 pub answer_of-answer-requires : goal.answer_of-answer-requires
 answer_of-answer-requires g c =
     let same = same_end c.requires.collected.end c.end_in-collecting.result c.requires.collected.end_is c.end_in-collecting.ensures in
-    has_image c.args.job.now c.args.ran.rows.items c.as_slice.result.now c.args.ran.loops.items c.as_slice-2.result.now c.args.ran.collected c.as_slice.ensures c.as_slice-2.ensures c.outcome_of-cause.result
-    c.outcome_of-cause.ensures.done.0 c.outcome_of-cause.ensures.ended c.outcome_of-cause.ensures.stopped (seen c.look_for_stop-told.new.pass)
-    (λ not other. sym c.look_for_stop-told.ensures.answer ∙ c.outcome_of-cause.ensures.told not other)
-    c.end_in-collecting.result c.end_in-collecting.ensures (subst (λ (end : CollectEnd). end.cause ≡ Done → IsSome end.last) same c.requires.collected.last)
+    let outcome : IsOutcome c.args.ran.rows.items c.args.ran.loops.items c.args.ran.collected (seen c.look_for_stop-told.new.pass) c.outcome_of-cause.result =
+    of_lent c.as_slice.ensures c.as_slice-2.ensures (record {
+      done = c.outcome_of-cause.ensures.done.0;
+      ended = c.outcome_of-cause.ensures.ended;
+      not_stopped = c.outcome_of-cause.ensures.stopped;
+      first = λ not other. sym c.look_for_stop-told.ensures.answer ∙ c.outcome_of-cause.ensures.told not other;
+    }) in
+    has_image outcome c.end_in-collecting.result c.end_in-collecting.ensures (subst (λ (end : CollectEnd). end.cause ≡ Done → IsSome end.last) same c.requires.collected.last)
 
 pub settle_all-requires-clause-collecting : goal.settle_all-requires-clause-collecting
 settle_all-requires-clause-collecting g c κs within =
@@ -70,10 +67,14 @@ settle_all-requires-clause-collecting g c κs within =
 
 pub returns-clause-answer : goal.returns-clause-answer
 returns-clause-answer g c =
-    is_answer c.args.job.now c.args.ran.rows.items c.as_slice.result.now c.args.ran.loops.items c.as_slice-2.result.now c.args.ran.collected c.as_slice.ensures c.as_slice-2.ensures c.outcome_of-cause.result
-    c.outcome_of-cause.ensures.done.0 c.outcome_of-cause.ensures.ended c.outcome_of-cause.ensures.stopped (seen c.look_for_stop-told.new.pass)
-    (λ not other. sym c.look_for_stop-told.ensures.answer ∙ c.outcome_of-cause.ensures.told not other)
-    c.answer_of-answer.result c.end_in-collecting.result c.end_in-collecting.ensures c.answer_of-answer.ensures.done c.answer_of-answer.ensures.table c.answer_of-answer.ensures.fault
+    let outcome : IsOutcome c.args.ran.rows.items c.args.ran.loops.items c.args.ran.collected (seen c.look_for_stop-told.new.pass) c.outcome_of-cause.result =
+    of_lent c.as_slice.ensures c.as_slice-2.ensures (record {
+      done = c.outcome_of-cause.ensures.done.0;
+      ended = c.outcome_of-cause.ensures.ended;
+      not_stopped = c.outcome_of-cause.ensures.stopped;
+      first = λ not other. sym c.look_for_stop-told.ensures.answer ∙ c.outcome_of-cause.ensures.told not other;
+    }) in
+    is_answer outcome c.answer_of-answer.result c.end_in-collecting.result c.end_in-collecting.ensures c.answer_of-answer.ensures.done c.answer_of-answer.ensures.table c.answer_of-answer.ensures.fault
 
 pub returns-clause-settled : goal.returns-clause-settled
 returns-clause-settled g c = λ tell end is.

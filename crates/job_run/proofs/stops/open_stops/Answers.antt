@@ -16,7 +16,7 @@ returns c =
     let all = made.1 in
     record {
       enough = omega (arith, many_front, many_rest, all, needed);
-      each = rest_told_nothing c.in-Ok.cell c.in-Ok.workers.items made.0 front rest c.in-Some.own c.in-Some-pop.collecting front_is rest_is;
-      collecting = other_told_nothing c.in-Ok.cell c.in-Ok.workers.items made.0 front rest c.in-Some.own c.in-Some-pop.collecting front_is rest_is;
-      own = last_is c.in-Ok.cell c.in-Ok.workers.items made.0 front rest c.in-Some.own c.in-Some-pop.collecting front_is rest_is;
+      each = rest_told_nothing c.in-Ok.cell c.in-Ok.workers.items made.0 rest c.in-Some.own c.in-Some-pop.collecting front_is rest_is;
+      collecting = other_told_nothing c.in-Ok.cell c.in-Ok.workers.items made.0 rest c.in-Some.own c.in-Some-pop.collecting front_is rest_is;
+      own = last_is c.in-Ok.cell c.in-Ok.workers.items made.0 rest c.in-Some.own c.in-Some-pop.collecting front_is rest_is;
     }

@@ -1,11 +1,12 @@
 use Rattle.std.proofs.Common.{◌≡◌, ◌+◌, ◌≤◌, length, All}
 use Rattle.outside.specs.Links.{NeverFails}
 use Rattle.job_outcome.specs.Theorems.{IsNewWire}
+use Rattle.job_outcome.specs.Words.{link_words}
 use Rattle.job_run.proofs.wires.add_wires.Given as goal
 
 abbrev pub invariant-loop-made : goal.invariant-loop-made
 invariant-loop-made g l = record {
-  unused : All (λ wire. IsNewWire g.N.Out.LinkOut.line g.N.Out.LinkOut.sent g.N.Out.LinkOut.finished g.N.Out.LinkOut.faults g.N.In.LinkIn.line g.N.In.LinkIn.got g.N.In.LinkIn.ended g.N.In.LinkIn.faults g.N.Links.belong wire) l.wires.items;
+  unused : All (IsNewWire (link_words g.N.Out.LinkOut g.N.In.LinkIn g.N.Links.belong)) l.wires.items;
   many : length l.wires.items ≡ l._made;
   room : l.many ≤ l.wires.room + l._made;
   lent : g.N.Links.lent l.net ≡ g.N.Links.lent l.fn.net + l._made;

@@ -36,9 +36,7 @@ pub fn open_images(alloc: Global, job: &Job) -> Result<ImagePasses, AllocError>
         return Err(AllocError);
     };
     reverse_all(&mut tasks);
-    let Some(collecting) = tasks.pop() else {
-        unreachable!()
-    };
+    let collecting = tasks.take_last();
     Ok(ImagePasses {
         cell,
         collecting,

@@ -28,12 +28,8 @@ pub fn open_stops(alloc: Global, job: &Job) -> Result<StopPasses, AllocError>
     let Ok((cell, mut workers)) = TurnCell::new(alloc, StopState::new(), passes) else {
         return Err(AllocError);
     };
-    let Some(own) = workers.pop() else {
-        unreachable!()
-    };
-    let Some(collecting) = workers.pop() else {
-        unreachable!()
-    };
+    let own = workers.take_last();
+    let collecting = workers.take_last();
     Ok(StopPasses {
         cell,
         workers,

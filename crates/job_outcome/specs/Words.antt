@@ -24,6 +24,7 @@ pub record WorldWords (S O I L N : Type 0) : Type 1 where
   pub links : LinkWords O I L N
   pub open links use *
 
+-- The words of ends whose traits have these members, and those of a source besides.
 abbrev pub link_words : {O I L N : Type 0} → LinkOut.Ghosts O L → LinkIn.Ghosts I N → (L → N → Type 0) → LinkWords O I L N
 link_words out input belong = record {
   line = out.line;

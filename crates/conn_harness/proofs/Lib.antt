@@ -1,7 +1,5 @@
 mod Channels
-mod Dealt
 mod GroupLaws
 mod IdLaws
 mod InletLaws
-mod Puts
 mod TaskLaws

@@ -1,5 +1,5 @@
 // Cells of one kind, and their passes.
-ghost use Rattle.std.specs.Prelude.{◌≡◌, [], ◌∷◌, ◌++◌, ◌<◌, length, OnOk};
+ghost use Rattle.std.specs.Prelude.{◌≡◌, [], OnOk};
 ghost use Rattle.conn_harness.specs.Groups.{AreDealt, HasMore};
 
 use flow_defs::ListOf;
@@ -14,14 +14,6 @@ pub struct Group<S: Turned + Drop> {
     pub tasks: ListOf<Pass<S>>,
     pub first: ListOf<Pass<S>>,
     pub second: ListOf<Pass<S>>,
-}
-
-// Takes the last of these passes.
-pub fn deal<S: Turned>(passes: &mut ListOf<Pass<S>>) -> Pass<S>
-    requires { 0 < length passes.old.items }
-    ensures { passes.old.items ≡ passes.new.items ++ result ∷ [] }
-{
-    passes.pop().unwrap()
 }
 
 impl<S: Turned + Drop> Group<S> {
@@ -48,9 +40,9 @@ impl<S: Turned + Drop> Group<S> {
         let Ok((cell, mut passes)) = TurnCell::new(alloc, state, 3) else {
             return Err(AllocError);
         };
-        let second = deal(&mut passes);
-        let first = deal(&mut passes);
-        let task = deal(&mut passes);
+        let second = passes.take_last();
+        let first = passes.take_last();
+        let task = passes.take_last();
         self.cells.push(cell)?;
         self.tasks.push(task)?;
         self.first.push(first)?;

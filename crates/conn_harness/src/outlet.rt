@@ -1,78 +1,12 @@
 // The task's end of a channel on which it puts.
-ghost use Rattle.std.specs.Prelude.{◌≡◌, ◌<◌, [], ◌∷◌, ◌++◌, false, length, OnOk, OnErr, IsTrue, IsFalse};
-ghost use Rattle.turn_cell.specs.Passes.{IsPassOf, IsTurnOf, HasEntered, opened_with, mine, number, seen};
-ghost use Rattle.subpartition.specs.declared.entry.SendEntry.TheVariants.{Put};
-ghost use Rattle.subpartition.specs.Queues.{last_bytes};
+ghost use Rattle.std.specs.Prelude.{◌≡◌, [], false};
+ghost use Rattle.turn_cell.specs.Passes.{IsPassOf, mine, number};
 ghost use Rattle.subpartition.specs.Sending.{is_finished};
-ghost use Rattle.subpartition.specs.Standing.{QueueStandsFor};
 
-use std::marker::Brand;
+use fixtures::{finish_in_turn, put_in_turn};
 use std::sync::Wait;
-use subpartition::laws::{calls_add_entries, calls_tell};
-use subpartition::{Filled, SendEntry, Subpartition};
-use turn_cell::{Named, Pass, Turn, TurnCell};
-
-// Ends the turn in which the last item was put, a buffer.
-fn leave_put<E: Named<SendEntry>>(turn: Turn<Subpartition>)
-    requires entry { E.entry ≡ Put (last_bytes turn.state.items) }
-    requires turn { IsTurnOf turn.cell.now turn.pass.now }
-    requires state { QueueStandsFor turn.state (seen turn.pass.now ++ (number turn.pass.now, Put (last_bytes turn.state.items)) ∷ []) }
-    requires size { turn.state.size ≡ (opened_with turn.cell.now).size }
-    ensures pass { IsPassOf turn.entry.cell.now turn.exit.1.0.now }
-    ensures entered { HasEntered (Put (last_bytes turn.entry.state.items)) turn.entry.pass.now turn.exit.1.0.now }
-{
-    turn.leave::<E>();
-}
-
-// Puts a buffer in a turn, or hands it back where there is no room or its segment has another length.
-fn put_in_turn<R: Wait>(
-    rt: &R,
-    cell: &TurnCell<Subpartition>,
-    pass: &mut Pass<Subpartition>,
-    filled: Filled,
-) -> Result<(), Filled>
-    requires pass { IsPassOf cell.now pass.old }
-    requires task { number pass.old ≡ 0 }
-    requires open_end { is_finished (mine pass.old) ≡ false }
-    ensures pass { IsPassOf cell.now pass.new × (number pass.new ≡ 0) }
-    ensures open_end { is_finished (mine pass.new) ≡ false }
-{
-    let mut turn = cell.enter(rt, pass);
-    calls_add_entries();
-    calls_tell();
-    let size = turn.state().size() as usize;
-    if turn.state().spare() == 0 || size != filled.segment.bytes().len() {
-        turn.leave_as_is();
-        return Err(filled);
-    }
-    turn.state().put(filled);
-    leave_put::<Brand>(turn);
-    Ok(())
-}
-
-// Puts the end in a turn, and answers whether there was room.
-fn finish_in_turn<R: Wait>(
-    rt: &R,
-    cell: &TurnCell<Subpartition>,
-    pass: &mut Pass<Subpartition>,
-) -> bool
-    requires pass { IsPassOf cell.now pass.old }
-    requires task { number pass.old ≡ 0 }
-    requires open_end { is_finished (mine pass.old) ≡ false }
-    ensures pass { IsPassOf cell.now pass.new × (number pass.new ≡ 0) }
-    ensures open_end { IsFalse result → is_finished (mine pass.new) ≡ false }
-{
-    let mut turn = cell.enter(rt, pass);
-    calls_add_entries();
-    calls_tell();
-    if turn.state().spare() == 0 {
-        turn.leave_as_is();
-        return false;
-    }
-    turn.state().finish();
-    turn.leave::<Brand>();
-    true
-}
+use subpartition::{Filled, Subpartition};
+use turn_cell::{Pass, TurnCell};
 
 /// The task's end of a channel, on which buffers are put and at last the end.
 #[derive(Drop)]

@@ -1,3 +1,2 @@
-mod Dealt
 mod InOrder
-mod SubpartitionDealt
+mod PoolsClosed

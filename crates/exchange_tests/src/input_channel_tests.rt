@@ -1,8 +1,10 @@
 // Channels whose segments come from a pool: the rules of credit and of barriers, step by step.
-ghost use Rattle.std.specs.Prelude.{◌≡◌, ◌+◌, ◌<◌, [], ◌∷◌, ◌++◌, length, IfOk};
+ghost use Rattle.std.specs.Prelude.{◌≡◌, ◌+◌, ◌<◌};
 ghost use Rattle.segment_pool.specs.Passes.{number, out};
-ghost use Rattle.segment_pool.specs.Pools.{IsPassOf, limits_of, passes_of, size_of};
+ghost use Rattle.segment_pool.specs.Pools.{IsPassOf, size_of};
 
+use crate::one_pass::{claim, close};
+use fixtures::open_pool;
 use flow_defs::{BarrierKind, ListOf};
 use input_channel::laws::answers_tell;
 use input_channel::{AcceptFault, Arrival, ArrivalKind, InputChannel, Polled};
@@ -196,7 +198,7 @@ fn a_front_barrier_comes_first(rt: HostRuntime) -> Result<(), Fail> {
 
 // Takes these steps with a channel of two of five segments, and gives all back to their pool.
 fn run<R: Wait + Abort>(rt: &R, alloc: Global, steps: &[Step]) -> Result<(), AllocError> {
-    let (pool, passes, mut pass) = open(alloc)?;
+    let (pool, passes, mut pass) = open_pool(alloc, 5)?;
     let first = claim(rt, &pool, &mut pass);
     let second = claim(rt, &pool, &mut pass);
     let third = claim(rt, &pool, &mut pass);
@@ -224,7 +226,7 @@ fn run<R: Wait + Abort>(rt: &R, alloc: Global, steps: &[Step]) -> Result<(), All
     give_next(rt, &pool, &mut pass, &mut spare);
     give_next(rt, &pool, &mut pass, &mut spare);
     give_next(rt, &pool, &mut pass, &mut spare);
-    close(rt, pool, passes, pass);
+    close(rt, pool, passes, pass, 5);
     Ok(())
 }
 
@@ -343,36 +345,6 @@ fn add<R: Abort>(rt: &R, channel: &mut InputChannel, spare: &mut ListOf<Segment>
     channel.add_floating(segment);
 }
 
-// A pool of five segments of 64 bytes, with its one pass and the list that had it.
-fn open(alloc: Global) -> Result<(Pool, ListOf<PoolPass>, PoolPass), AllocError>
-    ensures pass { IfOk result (λ r. IsPassOf r.0 r.2 × (number r.2 ≡ 0) × (passes_of r.0 ≡ 1)) }
-    ensures pool { IfOk result (λ r. (limits_of r.0 ≡ []) × (size_of r.0 ≡ 64)) }
-    ensures passes { IfOk result (λ r. (r.1.items ≡ []) × (0 < r.1.room)) }
-{
-    let (pool, passes) = Pool::new(alloc, 5, 64, 1)?;
-    let mut passes = passes;
-    let pass = deal(&mut passes);
-    Ok((pool, passes, pass))
-}
-
-// Takes the last of these passes.
-fn deal(passes: &mut ListOf<PoolPass>) -> PoolPass
-    requires { 0 < length passes.old.items }
-    ensures { (passes.old.items ≡ passes.new.items ++ result ∷ []) × (passes.new.room ≡ passes.old.room + 1) }
-{
-    passes.pop().unwrap()
-}
-
-// Claims a segment, which is there.
-fn claim<R: Wait + Abort>(rt: &R, pool: &Pool, pass: &mut PoolPass) -> Segment
-    requires { IsPassOf pool.now pass.old × (limits_of pool.now ≡ []) }
-    ensures pass { IsPassOf pool.now pass.new × (number pass.new ≡ number pass.old) }
-    ensures out { out pass.new ≡ out pass.old + 1 }
-    ensures size { length result ≡ size_of pool.now }
-{
-    pool.claim(rt, pass).expect(rt, "a segment is free")
-}
-
 // Gives the last of these segments back.
 fn give_next<R: Wait + Abort>(rt: &R, pool: &Pool, pass: &mut PoolPass, spare: &mut ListOf<Segment>)
     requires pass { IsPassOf pool.now pass.old × (size_of pool.now ≡ 64) }
@@ -385,17 +357,4 @@ fn give_next<R: Wait + Abort>(rt: &R, pool: &Pool, pass: &mut PoolPass, spare: &
     };
     assert!(rt; segment.bytes().len() == 64);
     pool.give(rt, pass, segment);
-}
-
-// Closes a pool of five segments and one pass.
-fn close<R: Abort>(rt: &R, pool: Pool, passes: ListOf<PoolPass>, pass: PoolPass)
-    requires pass { IsPassOf pool pass × (number pass ≡ 0) × (passes_of pool ≡ 1) }
-    requires passes { (passes.items ≡ []) × (0 < passes.room) }
-{
-    let mut passes = passes;
-    assert!(rt; passes.push(pass).is_ok());
-    match pool.close(passes) {
-        Ok(total) => assert_eq!(rt; total, 5),
-        Err(_) => panic!(rt; "a segment is lent"),
-    }
 }

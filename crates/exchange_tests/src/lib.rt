@@ -11,6 +11,8 @@ mod local_pool_tests;
 #[cfg(test)]
 mod net_frames_tests;
 #[cfg(test)]
+mod one_pass;
+#[cfg(test)]
 mod segment_pool_tests;
 #[cfg(test)]
 mod subpartition_tests;

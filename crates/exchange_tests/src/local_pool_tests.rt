@@ -7,7 +7,7 @@ ghost use Rattle.local_pool.specs.Helds.{local_of, pool_of};
 ghost use Rattle.local_pool.specs.Locals.{IsLocalOf, lent_of, limit_of, most_of, need_of, pass_of};
 ghost use Rattle.local_pool.specs.Shares.{IsWant, needs};
 
-use flow_defs::ListOf;
+use fixtures::give_back;
 use local_pool::{HeldPool, LocalFault, LocalPool, Want, give_in_turn, request_in_turn, share};
 use segment_pool::{Counts, Pool, PoolPass};
 use std::alloc::Global;
@@ -161,22 +161,6 @@ fn shares_are_those_by_hand(rt: HostRuntime) -> Result<(), Fail> {
     Ok(())
 }
 
-fn deal<P>(passes: &mut ListOf<P>) -> P
-    requires { 0 < length passes.old.items }
-    ensures { (passes.old.items ≡ passes.new.items ++ result ∷ []) × (passes.new.room ≡ passes.old.room + 1) }
-{
-    passes.pop().unwrap()
-}
-
-fn give_back<P: Drop>(passes: &mut ListOf<P>, pass: P)
-    requires { 0 < passes.old.room }
-    ensures { (passes.new.items ≡ passes.old.items ++ pass ∷ []) × (passes.old.room ≤ passes.new.room + 1) }
-{
-    let Ok(()) = passes.push(pass) else {
-        unreachable!()
-    };
-}
-
 // A local pool of need 3 is made, and another of need 2 is refused. The pool is then as before.
 fn too_few<R: Wait + Abort>(
     rt: &R,
@@ -290,7 +274,7 @@ fn lend_by_turns<R: Wait + Abort>(rt: &R, alloc: Global, pool: &Pool, pass: Pool
     let Ok((cell, mut places)) = TurnCell::new(alloc, HeldPool::new(pool, local), 1) else {
         panic!(rt; "no cell")
     };
-    let place = deal(&mut places);
+    let place = places.take_last();
     let place = lend_in_a_turn(rt, &cell, place);
     give_back(&mut places, place);
     let local = cell.close(places).into_local();
@@ -305,8 +289,8 @@ fn local_pools_live_in_a_pool_of_four(rt: HostRuntime) {
     let Ok((pool, mut passes)) = Pool::new(rt.alloc(), 4, 64, 2) else {
         panic!(rt; "no memory")
     };
-    let second = deal(&mut passes);
-    let first = deal(&mut passes);
+    let second = passes.take_last();
+    let first = passes.take_last();
     let (first, second) = too_few(&rt, rt.alloc(), &pool, first, second);
     let first = lend_and_take_back(&rt, rt.alloc(), &pool, first);
     let second = lend_by_turns(&rt, rt.alloc(), &pool, second);

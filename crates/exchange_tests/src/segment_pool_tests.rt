@@ -5,6 +5,7 @@ ghost use Rattle.segment_pool.specs.Counting.{claim_entries};
 ghost use Rattle.segment_pool.specs.Passes.{number, out};
 ghost use Rattle.segment_pool.specs.Pools.{AreInOrder, IsLimited, IsPassOf, limit_of, limits_of, size_of};
 
+use fixtures::give_back;
 use flow_defs::ListOf;
 use segment_pool::{Counts, Pool, PoolPass, Segment, StillLent};
 use std::alloc::Global;
@@ -21,18 +22,7 @@ fn deal(pool: &Pool, passes: &mut ListOf<PoolPass>) -> PoolPass
     ensures room { passes.new.room ≡ passes.old.room + 1 }
     ensures out { sum_by out passes.old.items ≡ sum_by out passes.new.items + out result }
 {
-    passes.pop().unwrap()
-}
-
-// Adds a pass at the end, where there is room.
-fn add(passes: &mut ListOf<PoolPass>, pass: PoolPass)
-    requires { 0 < passes.old.room }
-    ensures items { passes.new.items ≡ passes.old.items ++ pass ∷ [] }
-    ensures room { passes.old.room ≤ passes.new.room + 1 }
-{
-    let Ok(()) = passes.push(pass) else {
-        unreachable!()
-    };
+    passes.take_last()
 }
 
 // Takes a pass back in its place.
@@ -44,7 +34,7 @@ fn take_back(pool: &Pool, passes: &mut ListOf<PoolPass>, pass: PoolPass)
     ensures room { passes.old.room ≤ passes.new.room + 1 }
     ensures out { sum_by out passes.new.items ≡ sum_by out passes.old.items + out pass }
 {
-    add(passes, pass);
+    give_back(passes, pass);
 }
 
 // Gives back what a claim answered.

@@ -1,11 +1,13 @@
 // Buffers that a task fills and a sender takes, and their segments, which go back to their pool.
-ghost use Rattle.std.specs.Prelude.{◌≡◌, ◌+◌, ◌<◌, [], ◌∷◌, ◌++◌, length, IfOk};
+ghost use Rattle.std.specs.Prelude.{◌≡◌, ◌+◌, ◌<◌, [], length};
 ghost use Rattle.segment_pool.specs.Passes.{out, number};
-ghost use Rattle.segment_pool.specs.Pools.{IsPassOf, limits_of, passes_of, size_of};
+ghost use Rattle.segment_pool.specs.Pools.{IsPassOf, limits_of, size_of};
 ghost use Rattle.subpartition.specs.Queues.{empty_queue};
 
+use crate::one_pass::{claim, close};
 use crate::subpartition_turns::{Sent, send_in_threads};
-use flow_defs::{BarrierKind, Head, ListOf};
+use fixtures::open_pool;
+use flow_defs::{BarrierKind, Head};
 use record_spans::write_span;
 use segment_pool::{Pool, PoolPass, Segment};
 use std::alloc::{AllocError, Global};
@@ -24,22 +26,22 @@ const RECORD: &str =
 #[test]
 fn a_record_of_100_bytes_goes_in_two_buffers(rt: HostRuntime) -> Result<(), Fail> {
     let mut queue = Subpartition::new(rt.alloc(), 64, 4)?;
-    let (pool, passes, mut pass) = open(rt.alloc())?;
+    let (pool, passes, mut pass) = open_pool(rt.alloc(), 2)?;
     let first = claim(&rt, &pool, &mut pass);
     let second = claim(&rt, &pool, &mut pass);
     let (first, second) = send_record(&rt, &mut queue, first, second);
     give(&rt, &pool, &mut pass, first);
     give(&rt, &pool, &mut pass, second);
-    close(&rt, pool, passes, pass);
+    close(&rt, pool, passes, pass, 2);
     Ok(())
 }
 
 #[test]
 fn a_buffer_goes_from_thread_to_thread(rt: HostRuntime) -> Result<(), Fail> {
     let queue = Subpartition::new(rt.alloc(), 64, 1)?;
-    let (pool, passes, mut pass) = open(rt.alloc())?;
+    let (pool, passes, mut pass) = open_pool(rt.alloc(), 2)?;
     let sent = send_buffer(&rt, rt.alloc(), queue, &pool, &mut pass);
-    close(&rt, pool, passes, pass);
+    close(&rt, pool, passes, pass, 2);
     sent?;
     Ok(())
 }
@@ -160,36 +162,6 @@ fn send_buffer<R: Threads + Wait + Abort + Sync>(
     Ok(())
 }
 
-// A pool of two segments of 64 bytes, with its one pass and the list that had it.
-fn open(alloc: Global) -> Result<(Pool, ListOf<PoolPass>, PoolPass), AllocError>
-    ensures pass { IfOk result (λ r. IsPassOf r.0 r.2 × (number r.2 ≡ 0) × (passes_of r.0 ≡ 1)) }
-    ensures pool { IfOk result (λ r. (limits_of r.0 ≡ []) × (size_of r.0 ≡ 64)) }
-    ensures passes { IfOk result (λ r. (r.1.items ≡ []) × (0 < r.1.room)) }
-{
-    let (pool, passes) = Pool::new(alloc, 2, 64, 1)?;
-    let mut passes = passes;
-    let pass = deal(&mut passes);
-    Ok((pool, passes, pass))
-}
-
-// Takes the last of these passes.
-fn deal(passes: &mut ListOf<PoolPass>) -> PoolPass
-    requires { 0 < length passes.old.items }
-    ensures { (passes.old.items ≡ passes.new.items ++ result ∷ []) × (passes.new.room ≡ passes.old.room + 1) }
-{
-    passes.pop().unwrap()
-}
-
-// Claims a segment, which is there.
-fn claim<R: Wait + Abort>(rt: &R, pool: &Pool, pass: &mut PoolPass) -> Segment
-    requires { IsPassOf pool.now pass.old × (limits_of pool.now ≡ []) }
-    ensures pass { IsPassOf pool.now pass.new × (number pass.new ≡ number pass.old) }
-    ensures out { out pass.new ≡ out pass.old + 1 }
-    ensures size { length result ≡ size_of pool.now }
-{
-    pool.claim(rt, pass).expect(rt, "a segment is free")
-}
-
 // Gives a segment back.
 fn give<R: Wait>(rt: &R, pool: &Pool, pass: &mut PoolPass, segment: Segment)
     requires pass { IsPassOf pool.now pass.old }
@@ -199,17 +171,4 @@ fn give<R: Wait>(rt: &R, pool: &Pool, pass: &mut PoolPass, segment: Segment)
     ensures out { out pass.old ≡ out pass.new + 1 }
 {
     pool.give(rt, pass, segment);
-}
-
-// Closes a pool of two segments and one pass.
-fn close<R: Abort>(rt: &R, pool: Pool, passes: ListOf<PoolPass>, pass: PoolPass)
-    requires pass { IsPassOf pool pass × (number pass ≡ 0) × (passes_of pool ≡ 1) }
-    requires passes { (passes.items ≡ []) × (0 < passes.room) }
-{
-    let mut passes = passes;
-    assert!(rt; passes.push(pass).is_ok());
-    match pool.close(passes) {
-        Ok(total) => assert_eq!(rt; total, 2),
-        Err(_) => panic!(rt; "a segment is lent"),
-    }
 }

@@ -1,99 +1,20 @@
-// Turns of a task and of a sender at a subpartition, as tests take them.
-ghost use Rattle.std.specs.Prelude.{◌≡◌, ◌+◌, ◌<◌, ◌≤◌, [], ◌∷◌, ◌++◌, false, length, map, option_to_list, OnOk, IfOk, IfErr};
+// A task and a sender at a subpartition, each in a thread of its own.
+ghost use Rattle.std.specs.Prelude.{◌≡◌, [], ◌∷◌, ◌++◌, length, map, option_to_list, OnOk, IfOk, IfErr};
 ghost use Rattle.flow_defs.specs.Parcels.{data_of};
-ghost use Rattle.turn_cell.specs.History.{StartsWith};
 ghost use Rattle.turn_cell.specs.Closing.{AreFresh};
-ghost use Rattle.turn_cell.specs.Passes.{IsPassOf, IsTurnOf, HasEntered, opened_with, passes_of, mine, number, seen};
-ghost use Rattle.subpartition.specs.declared.entry.SendEntry.TheVariants.{Put};
 ghost use Rattle.turn_cell.specs.History.{entries_of};
-ghost use Rattle.subpartition.specs.Sending.{taken, is_finished};
-ghost use Rattle.subpartition.specs.Queues.{bytes_of, last_bytes, parcel_of};
-ghost use Rattle.subpartition.specs.Standing.{QueueStandsFor};
+ghost use Rattle.turn_cell.specs.Passes.{IsPassOf, opened_with, passes_of, mine, number, seen};
+ghost use Rattle.subpartition.specs.declared.entry.SendEntry.TheVariants.{Put};
+ghost use Rattle.subpartition.specs.Sending.{taken};
+ghost use Rattle.subpartition.specs.Queues.{bytes_of, parcel_of};
 
+use fixtures::{give_back, put_in_turn, take_in_turn};
 use flow_defs::ListOf;
-use std::marker::Brand;
 use std::sync::Wait;
 use std::thread::{Threads, join};
-use subpartition::laws::{calls_add_entries, calls_tell, histories_keep_order, passes_tell};
-use subpartition::{Filled, Item, SendEntry, Subpartition};
-use turn_cell::{Named, Pass, Turn, TurnCell};
-
-// Ends the turn in which the last item was put, a buffer.
-fn leave_put<E: Named<SendEntry>>(turn: Turn<Subpartition>)
-    requires entry { E.entry ≡ Put (last_bytes turn.state.items) }
-    requires turn { IsTurnOf turn.cell.now turn.pass.now }
-    requires state { QueueStandsFor turn.state (seen turn.pass.now ++ (number turn.pass.now, Put (last_bytes turn.state.items)) ∷ []) }
-    requires size { turn.state.size ≡ (opened_with turn.cell.now).size }
-    ensures pass { IsPassOf turn.entry.cell.now turn.exit.1.0.now }
-    ensures entered { HasEntered (Put (last_bytes turn.entry.state.items)) turn.entry.pass.now turn.exit.1.0.now }
-{
-    turn.leave::<E>();
-}
-
-// Puts a buffer in a turn of the task, or hands it back where there is no room.
-pub(crate) fn put_in_turn<R: Wait>(
-    rt: &R,
-    cell: &TurnCell<Subpartition>,
-    pass: &mut Pass<Subpartition>,
-    filled: Filled,
-) -> Result<(), Filled>
-    requires pass { IsPassOf cell.now pass.old }
-    requires task { number pass.old ≡ 0 }
-    requires open_end { is_finished (mine pass.old) ≡ false }
-    requires size { length filled.segment ≡ (opened_with cell.now).size }
-    ensures pass { IsPassOf cell.now pass.new × (number pass.new ≡ 0) }
-    ensures entered { OnOk result (mine pass.new ≡ mine pass.old ++ Put (bytes_of filled) ∷ []) }
-    ensures refused { IfErr result (λ back. (back ≡ filled) × (mine pass.new ≡ mine pass.old)) }
-{
-    let mut turn = cell.enter(rt, pass);
-    calls_add_entries();
-    calls_tell();
-    if turn.state().spare() == 0 {
-        turn.leave_as_is();
-        return Err(filled);
-    }
-    turn.state().put(filled);
-    leave_put::<Brand>(turn);
-    Ok(())
-}
-
-// Takes the first item in a turn of the sender.
-pub(crate) fn take_in_turn<R: Wait>(
-    rt: &R,
-    cell: &TurnCell<Subpartition>,
-    pass: &mut Pass<Subpartition>,
-) -> Option<Item>
-    requires pass { IsPassOf cell.now pass.old }
-    requires sender { number pass.old ≡ 1 }
-    ensures pass { IsPassOf cell.now pass.new × (number pass.new ≡ 1) }
-    ensures taken { taken (entries_of (seen pass.new)) ≡ taken (entries_of (seen pass.old)) ++ map parcel_of (option_to_list result) }
-{
-    let mut turn = cell.enter(rt, pass);
-    calls_add_entries();
-    calls_tell();
-    passes_tell();
-    let item = turn.state().take();
-    turn.leave::<Brand>();
-    item
-}
-
-// Takes the last of these passes.
-fn deal(passes: &mut ListOf<Pass<Subpartition>>) -> Pass<Subpartition>
-    requires { 0 < length passes.old.items }
-    ensures { (passes.old.items ≡ passes.new.items ++ result ∷ []) × (passes.new.room ≡ passes.old.room + 1) }
-{
-    passes.pop().unwrap()
-}
-
-// Puts a pass back, behind the others.
-fn give_back(passes: &mut ListOf<Pass<Subpartition>>, pass: Pass<Subpartition>)
-    requires { 0 < passes.old.room }
-    ensures { (passes.new.items ≡ passes.old.items ++ pass ∷ []) × (passes.old.room ≤ passes.new.room + 1) }
-{
-    let Ok(()) = passes.push(pass) else {
-        unreachable!()
-    };
-}
+use subpartition::laws::{histories_keep_order, passes_tell};
+use subpartition::{Filled, Item, Subpartition};
+use turn_cell::{Pass, TurnCell};
 
 // A new pass of the task puts a buffer.
 fn put_first<R: Wait>(
@@ -146,8 +67,8 @@ pub(crate) fn send_in_threads<R: Threads + Wait + Sync>(
     ensures back { IfErr result (λ back. back ≡ filled) }
 {
     let mut passes = passes;
-    let sender = deal(&mut passes);
-    let task = deal(&mut passes);
+    let sender = passes.take_last();
+    let task = passes.take_last();
     let ((task, put), (sender, item)) = join(
         rt,
         || -> (Pass<Subpartition>, Result<(), Filled>)

@@ -1,21 +1,12 @@
 -- The job of the tests: one source, and one task that counts.
-use Rattle.std.proofs.Common.{Option, ◌≡◌, ℕ, ◌≤◌, true, false, List, [], ◌∷◌, refl, sym, ap, ◌∙◌, subst, arith}
-use Rattle.std.specs.Prelude.{All}
+use Rattle.std.proofs.Common.{Option, ◌≡◌, ℕ, true, List, [], ◌∷◌, refl, sym, subst, arith}
 use Rattle.std.specs.List.{AllByRecursion}
-use Rattle.std.specs.FinMap.{empty}
-use Rattle.std.proofs.lemmas.List.Elements.{All-nil}
 use Rattle.flow_defs.specs.declared.job.Job.{Job}
 use Rattle.flow_defs.specs.declared.image.TakeRun.{TakeRun}
 use Rattle.flow_defs.specs.Jobs.{tasks, is_channel}
-use Rattle.flow_defs.specs.Records.{IsShort}
-use Rattle.flow_defs.specs.Tables.{Values}
-use Rattle.plain_machine.proofs.KeySums.{entries-empty}
 use Rattle.flow_defs.specs.declared.image.Snapshot.{Snapshot}
 use Rattle.collector.specs.Collecting.{and_one}
-use Rattle.plain_machine.specs.Images.{AreRuns, HasShortKeys}
-
-pub no_keys : (table : Values) → table ≡ empty → HasShortKeys table
-no_keys table is = subst HasShortKeys (sym is) (subst (All (λ (row : List ℕ × ℕ). IsShort row.0)) (sym entries-empty) (All-nil (λ (row : List ℕ × ℕ). IsShort row.0)))
+use Rattle.plain_machine.specs.Images.{AreRuns}
 
 pub none : {X : Type 0} (P : X → Type 0) (xs : List X) → xs ≡ [] → AllByRecursion P xs
 none P xs is = subst (AllByRecursion P) (sym is) tt

@@ -1,3 +1,4 @@
 mod CountingJob
+mod NoState
 mod SnapshotChannelCountingJob
 mod TestJob

@@ -1,53 +1,17 @@
--- The job of the tests, with two sources and one task that counts, what its tasks send, and the passes of their cells.
-use Rattle.std.proofs.Common.{◌≡◌, ℕ, zero, suc, Bool, true, false, Option, Some, None, List, [], ◌∷◌, ◌++◌, map, length, refl, sym, ap, ◌∙◌, subst, arith}
+-- The job of the tests, with two sources and one task that counts, what its tasks send, and their passes.
+use Rattle.std.proofs.Common.{◌≡◌, ℕ, Bool, true, false, Option, Some, None, List, [], ◌∷◌, ◌++◌, map, length, refl, sym, ap, ◌∙◌}
 use Rattle.std.specs.Prelude.{All, is_some, not, ◌||◌}
-use Rattle.std.specs.FinMap.{empty}
 use Rattle.std.specs.List.{list_any}
-use Rattle.std.proofs.lemmas.List.Elements.{All-nil, All-pop}
-use lib.ListN.{get_elem?}
-use Rattle.turn_cell.specs.declared.cell.TurnCell.{TurnCell}
-use Rattle.turn_cell.specs.declared.pass.Pass.{Pass}
-use Rattle.turn_cell.specs.Closing as closing
-use Rattle.turn_cell.specs.Passes as cells
+use Rattle.std.proofs.lemmas.List.Elements.{All-pop}
 use Rattle.flow_defs.specs.declared.job.Job.{Job}
 use Rattle.flow_defs.specs.declared.task.TaskId.{TaskId}
-use Rattle.flow_defs.specs.declared.image.Saved.{Saved}
 use Rattle.flow_defs.specs.declared.image.Snapshot.{Snapshot}
-use Rattle.flow_defs.specs.declared.image.TakeRun.{TakeRun}
-use Rattle.flow_defs.specs.Records.{IsShort}
-use Rattle.flow_defs.specs.Tables.{Values}
-use Rattle.plain_machine.specs.Images.{AreRuns, HasShortKeys}
-use Rattle.plain_machine.proofs.KeySums.{entries-empty}
 use Rattle.snapshot_channel.specs.declared.opened.SnapshotChannel.{SnapshotChannel}
 use Rattle.snapshot_channel.specs.declared.opened.TaskPass.{TaskPass}
-use Rattle.snapshot_channel.specs.Snapshots.{task, all_tasks, AreTakesAt, FitsTask, HaveOwnChannels, IsAtEnd, LeadsTo, ComesFrom}
+use Rattle.snapshot_channel.specs.Snapshots.{task, all_tasks, IsAtEnd}
 use Rattle.snapshot_channel.specs.Passes.{IsFresh, task_of}
 
 -- ---- what is sent
-
-no_keys : (table : Values) → table ≡ empty → HasShortKeys table
-no_keys table is = subst HasShortKeys (sym is) (subst (All (λ (row : List ℕ × ℕ). IsShort row.0)) (sym entries-empty) (All-nil (λ (row : List ℕ × ℕ). IsShort row.0)))
-
-no_takes : (job : Job) (stage index : ℕ) (runs : List TakeRun) → runs ≡ [] → AreTakesAt job stage index runs
-no_takes job zero index runs is = is
-no_takes job (suc e) index runs is = subst (AreRuns job e index) (sym is) tt
-
-none : {X : Type 0} (P : X → Type 0) (xs : List X) → xs ≡ [] → All P xs
-none P xs is = subst (All P) (sym is) (All-nil P)
-
-none_twice : (pieces : List Saved) → pieces ≡ [] → HaveOwnChannels pieces
-none_twice pieces is = subst HaveOwnChannels (sym is) (λ i j d low high same. absurd (omega (arith, high)))
-
--- a snapshot with nothing in it fits each task
-pub fits_any : (job : Job) (x : Snapshot) → x.table ≡ empty → x.takes.items ≡ [] → x.saved_in.items ≡ [] → x.saved_out.items ≡ [] → FitsTask job x
-fits_any job x table takes came_in goes_out = record {
-  keys = no_keys x.table table;
-  runs = no_takes job x.task.stage x.task.index x.takes.items takes;
-  came_in = none (λ (p : Saved). LeadsTo job x.task p.channel) x.saved_in.items came_in;
-  came_in_once = none_twice x.saved_in.items came_in;
-  goes_out = none (λ (p : Saved). ComesFrom job x.task p.channel) x.saved_out.items goes_out;
-  goes_out_once = none_twice x.saved_out.items goes_out;
-}
 
 by_head : (b all some e : Bool) → (b || all) ≡ true → ((b || some) ≡ true → e ≡ true) → (all ≡ true → (some ≡ true → e ≡ true) → e ≡ true) → e ≡ true
 by_head true all some e is before rest = before refl
@@ -99,9 +63,3 @@ ends_are channel job passes two one rest p q r stages sources counts fresh tasks
     ap (λ l. map task_of ((l ++ q ∷ []) ++ p ∷ [])) (sym third) ∙ ap (λ l. map task_of (l ++ p ∷ [])) (sym second) ∙ ap (map task_of) (sym first) ∙ tasks ∙ its_tasks job stages sources counts in
     let are = last_three rest p q r whole in
     ((head.1, are.0), (mid.1, are.1), (last.1, are.2))
-
--- ---- the passes of a cell
-
-pub two_fresh : {S E F : Type 0} (cell : TurnCell S E F) (ps : List (Pass S E F)) (a b : Pass S E F) → closing.AreFresh cell ps → ps ≡ a ∷ b ∷ [] →
-    (cells.IsPassOf cell a × closing.IsFresh 0 a) × (cells.IsPassOf cell b × closing.IsFresh 1 b)
-two_fresh cell ps a b fresh e = (fresh 0 a (ap (λ l. get_elem? l 0) e), fresh 1 b (ap (λ l. get_elem? l 1) e))

@@ -1,30 +1,28 @@
 // The worker of a job with two sources and one task that counts, whose snapshots are all sent before it
 // runs, in one thread.
-ghost use Rattle.std.specs.Prelude.{◌≡◌, ◌<◌, ◌≤◌, [], ◌∷◌, ◌++◌, length, map, true, All, IfOk, IfSome};
+ghost use Rattle.std.specs.Prelude.{◌≡◌, ◌≤◌, [], length, map, All, IfOk, IfSome};
 ghost use Rattle.turn_cell.specs.Passes as turns;
-ghost use Rattle.turn_cell.specs.Passes.{mine, number};
-ghost use Rattle.flow_defs.specs.declared.job.Job.{Job as AnyJob};
-ghost use Rattle.snapshot_channel.specs.Snapshots.{FitsTask, all_tasks};
+ghost use Rattle.snapshot_channel.specs.Snapshots.{all_tasks};
 ghost use Rattle.snapshot_channel.specs.Passes.{IsFresh, opening_of, task_of};
 ghost use Rattle.outside.specs.MemoryKeepers.{KeeperState};
 ghost use Rattle.collecting_worker.specs.Accounts.{HasText, IsLent};
 
+use crate::snapshots::told;
 use collecting_worker::{CollectEnd, CollectWorld, collect_images};
-use flow_defs::{Cause, Job, ListOf, Snapshot, Table, TaskId};
+use fixtures::{open_last_image, open_stop};
+use flow_defs::{Cause, Job, ListOf, TaskId};
 use job_text::read_grammar;
-use outside::{
-    LastImage, MemoryKeeper, StopState, Stored, look_for_stop, look_for_stored, tell_stop,
-};
+use outside::{MemoryKeeper, Stored, look_for_stop, look_for_stored, tell_stop};
 use snapshot_channel::{Opened, SnapshotChannel, TaskPass};
 use std::alloc::{AllocError, Global};
 use std::process::Abort;
 use std::sync::Wait;
 use std::test::Fail;
-use turn_cell::{Pass, TurnCell};
 
 const TEXT: &[u8] = b"source a\nsource b\naggregate count 1\n";
 
-fn counting_job(alloc: Global) -> Result<Job, Fail>
+// The job of the text.
+fn job_of_text(alloc: Global) -> Result<Job, Fail>
     ensures text { IfOk result HasText }
     ensures tasks { IfOk result (λ job. (job.stages.items ≡ []) × (length job.sources.items ≡ 2) × (job.agg_tasks ≡ 1)) }
 {
@@ -35,26 +33,6 @@ fn counting_job(alloc: Global) -> Result<Job, Fail>
         return Err("it has other tasks".into());
     }
     Ok(job)
-}
-
-// What a task with nothing in its state tells of a checkpoint.
-fn told(alloc: Global, task: TaskId, number: u64, ended: bool) -> Snapshot
-    ensures task { result.task ≡ task }
-    ensures number { result.number ≡ number }
-    ensures ended { result.ended ≡ ended }
-    ensures fits { (job : AnyJob) → FitsTask job result }
-{
-    Snapshot {
-        task,
-        number,
-        offset: 0,
-        ended,
-        emitted: 0,
-        table: Table::new(alloc),
-        takes: ListOf::new(alloc),
-        saved_in: ListOf::new(alloc),
-        saved_out: ListOf::new(alloc),
-    }
 }
 
 // Sends the snapshots of a task, one for each of these flags, and stays at its end.
@@ -123,50 +101,6 @@ fn send_each<R: Wait>(
     send_all(rt, alloc, channel, second, task, every, of_second)
 }
 
-// Takes the last of these passes.
-fn deal<T: Drop>(passes: &mut ListOf<T>) -> T
-    requires { 0 < length passes.old.items }
-    ensures { passes.old.items ≡ passes.new.items ++ result ∷ [] }
-{
-    passes.pop().unwrap()
-}
-
-// A stop cell, the pass of the collecting worker, and that of another worker, which has met a fault or not.
-fn shared_stop<R: Wait + Abort>(
-    rt: &R,
-    alloc: Global,
-    met: bool,
-) -> (TurnCell<StopState>, Pass<StopState>, Pass<StopState>)
-    ensures collecting { turns.IsPassOf result.0 result.1 × (mine result.1 ≡ []) }
-    ensures other { turns.IsPassOf result.0 result.2 }
-{
-    let Ok((cell, mut passes)) = TurnCell::new(alloc, StopState::new(), 2) else {
-        panic!(rt; "no cell")
-    };
-    let mut other = deal(&mut passes);
-    let collecting = deal(&mut passes);
-    if met {
-        tell_stop(rt, &cell, &mut other, Cause::Link);
-    }
-    (cell, collecting, other)
-}
-
-// The cell of the last image, the pass of the collecting worker, and that of a source.
-fn shared_last<R: Abort>(
-    rt: &R,
-    alloc: Global,
-) -> (TurnCell<LastImage>, Pass<LastImage>, Pass<LastImage>)
-    ensures collecting { turns.IsPassOf result.0 result.1 × (number result.1 ≡ 0) × (mine result.1 ≡ []) }
-    ensures reading { turns.IsPassOf result.0 result.2 }
-{
-    let Ok((cell, mut passes)) = TurnCell::new(alloc, LastImage::new(), 2) else {
-        panic!(rt; "no cell")
-    };
-    let reading = deal(&mut passes);
-    let collecting = deal(&mut passes);
-    (cell, collecting, reading)
-}
-
 // An empty keeper, of which these calls fail.
 fn keeper_of(alloc: Global, puts: &[u64]) -> Result<MemoryKeeper, AllocError>
     ensures { IfOk result (λ (keeper : KeeperState). keeper.images ≡ []) }
@@ -219,15 +153,18 @@ fn collects<R: Wait + Abort>(
     requires keeper { keeper.old.images ≡ [] }
     requires interval { IfSome case.every (λ n. 1 ≤ n) }
 {
-    let job = counting_job(alloc)?;
+    let job = job_of_text(alloc)?;
     let Opened {
         channel,
         collecting,
         passes,
     } = SnapshotChannel::open(alloc, &job, 0, case.every)?;
     send_each(rt, alloc, &channel, passes, case.every, case.ends)?;
-    let (stop, stop_pass, mut other) = shared_stop(rt, alloc, case.met);
-    let (last_image, last_pass, mut reading) = shared_last(rt, alloc);
+    let (stop, stop_pass, mut other) = open_stop(alloc)?;
+    if case.met {
+        tell_stop(rt, &stop, &mut other, Cause::Link);
+    }
+    let (last_image, last_pass, mut reading) = open_last_image(alloc)?;
     let world = CollectWorld {
         job: &job,
         snapshots: &channel,

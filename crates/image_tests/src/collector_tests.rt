@@ -1,31 +1,16 @@
 // Checkpoints of a job with one source and one task that counts.
 ghost use Rattle.std.specs.Prelude.{◌≡◌, None, [], false, IfOk, IfSome};
 ghost use Rattle.std.specs.List.{AllByRecursion};
-ghost use Rattle.flow_defs.specs.Jobs.{IsJob, tasks};
+ghost use Rattle.flow_defs.specs.Jobs.{tasks};
 ghost use Rattle.collector.specs.Pieces.{IsInto, IsOutOf};
 ghost use Rattle.collector.specs.Fitting.{FitsTask};
 ghost use Rattle.collector.specs.Collecting.{IsCollector};
 
 use collector::Collector;
-use flow_defs::{
-    AggKind, Bytes, ChannelId, Image, Job, ListOf, Saved, Snapshot, Table, TakeRun, TaskId,
-};
+use fixtures::counting_job;
+use flow_defs::{Bytes, ChannelId, Image, Job, ListOf, Saved, Snapshot, Table, TakeRun, TaskId};
 use std::alloc::{AllocError, Global};
 use std::test::Fail;
-
-fn counting_job(alloc: Global) -> Result<Job, AllocError>
-    ensures { IfOk result (λ job. IsJob job × (job.stages.items ≡ []) × (tasks job 0 ≡ 1) × (tasks job 1 ≡ 1)) }
-{
-    let mut sources = ListOf::new(alloc);
-    sources.push(Bytes::of(alloc, b"in")?)?;
-    Ok(Job {
-        sources,
-        stages: ListOf::new(alloc),
-        agg: AggKind::Count,
-        agg_tasks: 1,
-        text: Bytes::of(alloc, b"source in\naggregate count 1\n")?,
-    })
-}
 
 // A saved piece of the only channel.
 fn piece(alloc: Global, job: &Job, bytes: &[u8]) -> Result<ListOf<Saved>, AllocError>

@@ -1,50 +1,27 @@
 // The image of a job with one source and one task that counts.
-ghost use Rattle.std.specs.Prelude.{◌≡◌, [], ◌∷◌, IfOk};
-ghost use Rattle.flow_defs.specs.Jobs.{IsJob};
-
-use flow_defs::{AggKind, Bytes, Image, Job, ListOf, Table, TakeRun};
+use fixtures::{counting_job, list_of_one};
+use flow_defs::{Bytes, Image, Table, TakeRun};
 use image_lines::image_lines;
 use std::alloc::{AllocError, Global};
 use std::test::Fail;
-
-fn counting_job(alloc: Global) -> Result<Job, AllocError>
-    ensures { IfOk result IsJob }
-{
-    Ok(Job {
-        sources: one(alloc, Bytes::of(alloc, b"in")?)?,
-        stages: ListOf::new(alloc),
-        agg: AggKind::Count,
-        agg_tasks: 1,
-        text: Bytes::new(alloc),
-    })
-}
-
-// A list of one item.
-fn one<T: Drop>(alloc: Global, item: T) -> Result<ListOf<T>, AllocError>
-    ensures { IfOk result (λ list. list.items ≡ item ∷ []) }
-{
-    let mut list = ListOf::new(alloc);
-    list.push(item)?;
-    Ok(list)
-}
 
 // Three records of two keys were read, sent and counted.
 fn counted_image(alloc: Global) -> Result<Image, AllocError> {
     let mut table = Table::new(alloc);
     table.set(b"a", 2)?;
     table.set(b"b", 1)?;
-    let takes = one(alloc, TakeRun { from: 0, count: 3 })?;
+    let takes = list_of_one(alloc, TakeRun { from: 0, count: 3 })?;
     Ok(Image {
         number: 1,
         final_one: true,
         text: Bytes::new(alloc),
-        offsets: one(alloc, 3)?,
-        ended: one(alloc, true)?,
-        emitted: one(alloc, 3)?,
-        tables: one(alloc, table)?,
-        takes: one(alloc, takes)?,
-        saved_in: one(alloc, Bytes::new(alloc))?,
-        saved_out: one(alloc, Bytes::new(alloc))?,
+        offsets: list_of_one(alloc, 3)?,
+        ended: list_of_one(alloc, true)?,
+        emitted: list_of_one(alloc, 3)?,
+        tables: list_of_one(alloc, table)?,
+        takes: list_of_one(alloc, takes)?,
+        saved_in: list_of_one(alloc, Bytes::new(alloc))?,
+        saved_out: list_of_one(alloc, Bytes::new(alloc))?,
     })
 }
 

@@ -12,3 +12,5 @@ mod collector_tests;
 mod image_lines_tests;
 #[cfg(test)]
 mod snapshot_channel_tests;
+#[cfg(test)]
+mod snapshots;

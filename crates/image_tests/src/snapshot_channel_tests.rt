@@ -1,29 +1,16 @@
 // A channel of a job with one source and one task that counts.
-ghost use Rattle.std.specs.Prelude.{◌≡◌, ◌+◌, None, [], ◌∷◌, length, true, IfOk, OnOk};
+ghost use Rattle.std.specs.Prelude.{◌≡◌, ◌+◌, None, [], length, IfOk, OnOk};
 ghost use Rattle.flow_defs.specs.Jobs.{IsJob};
-ghost use Rattle.flow_defs.specs.declared.job.Job.{Job as AnyJob};
-ghost use Rattle.snapshot_channel.specs.Snapshots.{FitsTask, task};
+ghost use Rattle.snapshot_channel.specs.Snapshots.{task};
 ghost use Rattle.snapshot_channel.specs.Passes.{IsCollecting, IsFresh, IsPassOf, opening_of, sent_by, task_of};
 
-use flow_defs::{AggKind, Bytes, Job, ListOf, Snapshot, Table, TaskId};
+use crate::snapshots::told;
+use fixtures::counting_job;
+use flow_defs::{Job, ListOf, TaskId};
 use snapshot_channel::{CollectingPass, Opened, SnapshotChannel, TaskPass};
-use std::alloc::{AllocError, Global};
+use std::alloc::Global;
 use std::sync::Wait;
 use std::test::Fail;
-
-fn counting_job(alloc: Global) -> Result<Job, AllocError>
-    ensures { IfOk result (λ job. IsJob job × (job.stages.items ≡ []) × (length job.sources.items ≡ 1) × (job.agg_tasks ≡ 1)) }
-{
-    let mut sources = ListOf::new(alloc);
-    sources.push(Bytes::of(alloc, b"in")?)?;
-    Ok(Job {
-        sources,
-        stages: ListOf::new(alloc),
-        agg: AggKind::Count,
-        agg_tasks: 1,
-        text: Bytes::new(alloc),
-    })
-}
 
 // A channel behind checkpoint 6, and its passes.
 #[derive(Drop)]
@@ -61,27 +48,7 @@ fn open_ends(alloc: Global, job: &Job) -> Result<Ends, Fail>
     })
 }
 
-// What a task at its end tells of a checkpoint.
-fn told(alloc: Global, task: TaskId, number: u64) -> Snapshot
-    ensures task { result.task ≡ task }
-    ensures number { result.number ≡ number }
-    ensures ended { result.ended ≡ true }
-    ensures fits { (job : AnyJob) → FitsTask job result }
-{
-    Snapshot {
-        task,
-        number,
-        offset: 0,
-        ended: true,
-        emitted: 0,
-        table: Table::new(alloc),
-        takes: ListOf::new(alloc),
-        saved_in: ListOf::new(alloc),
-        saved_out: ListOf::new(alloc),
-    }
-}
-
-// Sends the next snapshot of a task.
+// Sends the next snapshot of a task, which is at its end.
 fn send_next<R: Wait>(
     rt: &R,
     alloc: Global,
@@ -96,7 +63,7 @@ fn send_next<R: Wait>(
     ensures pass { IsPassOf channel.now pass.new × (task_of pass.new ≡ task) }
     ensures sent { OnOk result (length (sent_by pass.new) ≡ length (sent_by pass.old) + 1) }
 {
-    match channel.send(rt, pass, told(alloc, task, number)) {
+    match channel.send(rt, pass, told(alloc, task, number, true)) {
         Ok(()) => Ok(()),
         Err(_) => Err("there is no room".into()),
     }

@@ -1,12 +1,10 @@
 // Workers that double numbers, in places of their own.
-ghost use Rattle.std.specs.Prelude.{◌≡◌, ◌*◌, ◌<◌, ◌^◌, [], IfOk};
-ghost use Rattle.flow_defs.specs.declared.job.AggKind.TheVariants.{Count};
-ghost use Rattle.flow_defs.specs.Jobs.{IsJob};
+ghost use Rattle.std.specs.Prelude.{◌≡◌, ◌*◌, ◌<◌, ◌^◌};
 
-use flow_defs::{AggKind, Bytes, Job, ListOf};
+use fixtures::counting_job;
+use flow_defs::{AggKind, Job, ListOf};
 use job_workers::{Place, Worker, run_rows};
 use stage_fns::{AggFn, FnTable, count};
-use std::alloc::{AllocError, Global};
 use std::process::Abort;
 use std::sync::Wait;
 use std::test::Fail;
@@ -27,21 +25,6 @@ impl Worker for Doubler {
     fn run<R: Wait>(self, _rt: &R, _job: &Job, _functions: &FnTable) -> u32 {
         2 * self.number
     }
-}
-
-// A job of one source and one task that counts.
-fn counting_job(alloc: Global) -> Result<Job, AllocError>
-    ensures { IfOk result (λ job. IsJob job × (job.stages.items ≡ []) × (job.agg ≡ Count)) }
-{
-    let mut sources = ListOf::new(alloc);
-    sources.push(Bytes::new(alloc))?;
-    Ok(Job {
-        sources,
-        stages: ListOf::new(alloc),
-        agg: AggKind::Count,
-        agg_tasks: 1,
-        text: Bytes::new(alloc),
-    })
 }
 
 // The worker of a place left this.

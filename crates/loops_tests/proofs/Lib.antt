@@ -1,3 +1,2 @@
-mod Dealt
-mod LastDealt
+mod Alone
 mod ReceiveEntries

@@ -1,5 +1,5 @@
 // The loop over links in memory: what it writes, and why it ends.
-ghost use Rattle.std.specs.Prelude.{◌≡◌, ◌+◌, ◌<◌, ◌++◌, [], ◌∷◌, length, Some, true, false, IfSome, IfOk};
+ghost use Rattle.std.specs.Prelude.{◌≡◌, ◌++◌, [], ◌∷◌, length, true, false, IfSome};
 ghost use Rattle.turn_cell.specs.Passes.{IsPassOf, IsTurnOf, HasEntered, opened_with, number, seen};
 ghost use Rattle.flow_defs.specs.declared.parcel.Parcel.TheVariants as parcels;
 ghost use Rattle.segment_pool.specs.Pools as pools;
@@ -10,10 +10,10 @@ ghost use Rattle.credit_reader.specs.Senders.{AreDistinct};
 ghost use Rattle.conn_parts.specs.Shares.{AreOwn};
 ghost use Rattle.outside.specs.Stops.{is_fault};
 
-use crate::lent::{CLOSING, deal, deal_place, open_stop};
-use crate::slow_links::SlowOut;
+use crate::slow_links::{CLOSING, SlowOut};
 use conn_parts::{ConnShare, LoopEnd, SharePasses};
 use conn_send_control::send_control;
+use fixtures::{deal, list_of_two, open_pool, open_stop};
 use flow_defs::{Cause, ChannelId, ListOf};
 use input_channel::laws::{answers_tell, channels_stand_for_histories};
 use input_channel::{Arrival, ArrivalKind, InputChannel, ReceiveEntry};
@@ -25,7 +25,7 @@ use std::marker::Brand;
 use std::process::Abort;
 use std::sync::Wait;
 use std::test::Fail;
-use turn_cell::{Named, Pass, Turn, TurnCell, Turned};
+use turn_cell::{Named, Pass, Turn, TurnCell};
 
 fn link(alloc: Global, most: usize, fails_from: u64) -> SlowOut
     ensures { result.finished ≡ false }
@@ -192,7 +192,7 @@ fn run_with<R: Wait + Abort>(
     let Ok((readers, _)) = TurnCell::new(alloc, ReaderState::new(alloc, channels)?, 1) else {
         panic!(rt; "no readers")
     };
-    let (stop, own, mut other) = open_stop(rt, alloc);
+    let (stop, own, mut other) = open_stop(alloc)?;
     if let Some(cause) = met {
         tell_stop(rt, &stop, &mut other, cause);
     }
@@ -224,20 +224,6 @@ fn run_with<R: Wait + Abort>(
     })
 }
 
-// Puts two passes into a list.
-fn list_of_two<S: Turned>(
-    alloc: Global,
-    first: Pass<S>,
-    second: Pass<S>,
-) -> Result<ListOf<Pass<S>>, AllocError>
-    ensures { IfOk result (λ list. list.items ≡ first ∷ second ∷ []) }
-{
-    let mut list = ListOf::new(alloc);
-    list.push(first)?;
-    list.push(second)?;
-    Ok(list)
-}
-
 // Runs the loop for two channels that have ended, of which the first has one credit to tell.
 fn run<R: Wait + Abort>(
     rt: &R,
@@ -248,10 +234,7 @@ fn run<R: Wait + Abort>(
     requires unfinished { out.finished ≡ false }
     requires met { IfSome met (λ cause. is_fault cause ≡ true) }
 {
-    let Ok((pool, mut places)) = Pool::new(alloc, 5, 64, 1) else {
-        panic!(rt; "no pool")
-    };
-    let mut place = deal_place(&mut places);
+    let (pool, _places, mut place) = open_pool(alloc, 5)?;
     let (first, mut first_reader, first_writer) = open_channel(rt, alloc, &pool, &mut place);
     let (second, mut second_reader, second_writer) = open_channel(rt, alloc, &pool, &mut place);
     let floating = claim(rt, &pool, &mut place);

@@ -1,17 +1,15 @@
 // The loop over links in memory: what it gives to the readers and the subpartitions, and why it ends.
-ghost use Rattle.std.specs.Prelude.{◌≡◌, ◌+◌, ◌<◌, [], IfSome, true};
-ghost use Rattle.turn_cell.specs.Passes.{IsPassOf, opened_with, number, mine};
-ghost use Rattle.credit_reader.specs.Senders.{AreDistinct};
-ghost use Rattle.reader_state.specs.Turning.{channels_in, IsReaderPass};
+ghost use Rattle.std.specs.Prelude.{◌≡◌, IfSome, true};
+ghost use Rattle.turn_cell.specs.Passes.{IsPassOf, opened_with, number};
 ghost use Rattle.outside.specs.Stops.{is_fault};
 
-use crate::lent::{CLOSING, deal, open_stop};
-use crate::slow_links::SlowIn;
+use crate::slow_links::{CLOSING, SlowIn};
 use conn_parts::{ConnShare, LoopEnd, SharePasses};
 use conn_read_control::read_control;
+use fixtures::{deal, open_readers, open_stop};
 use flow_defs::{Cause, ChannelId, Head, ListOf, PeerFault};
 use outside::{look_for_stop, tell_stop};
-use reader_state::{ReaderState, next_to_send, tell_ready};
+use reader_state::{next_to_send, tell_ready};
 use std::alloc::{AllocError, Global};
 use std::process::Abort;
 use std::sync::Wait;
@@ -73,28 +71,6 @@ const CHANNEL: ChannelId = ChannelId {
     to: 0,
 };
 
-// Readers of these channels, with the passes of the writer and of the reader of control frames.
-pub(crate) fn open_readers<R: Abort>(
-    rt: &R,
-    alloc: Global,
-    channels: &[ChannelId],
-) -> (TurnCell<ReaderState>, Pass<ReaderState>, Pass<ReaderState>)
-    requires { AreDistinct channels.now }
-    ensures channels { channels_in result.0 ≡ channels.now }
-    ensures writer { IsReaderPass result.0 0 result.1 }
-    ensures reader { IsReaderPass result.0 1 result.2 × (mine result.2 ≡ []) }
-{
-    let Ok(state) = ReaderState::new(alloc, channels) else {
-        panic!(rt; "no readers")
-    };
-    let Ok((cell, mut passes)) = TurnCell::new(alloc, state, 2) else {
-        panic!(rt; "no cell of readers")
-    };
-    let reader = deal(&cell, &mut passes);
-    let writer = deal(&cell, &mut passes);
-    (cell, writer, reader)
-}
-
 // A subpartition for segments of 128 bytes, with the passes of the sender and of the reader of control
 // frames.
 fn open_subpartition<R: Abort>(
@@ -152,9 +128,9 @@ fn run<R: Wait + Abort>(
     requires { IfSome met (λ cause. is_fault cause ≡ true) }
 {
     let channels = [CHANNEL];
-    let (readers, mut writer, control) = open_readers(rt, alloc, &channels);
+    let (readers, mut writer, control) = open_readers(alloc, &channels)?;
     let (subpartition, mut sender, sizes) = open_subpartition(rt, alloc);
-    let (stop, mut other, own) = open_stop(rt, alloc);
+    let (stop, own, mut other) = open_stop(alloc)?;
     if let Some(cause) = met {
         tell_stop(rt, &stop, &mut other, cause);
     }

@@ -1,19 +1,14 @@
 // Bytes that are written and read back over a link in memory, and segments that are asked for and given.
-ghost use Rattle.std.specs.Prelude.{◌≡◌, ◌<◌, ◌≤◌, ◌++◌, [], ◌∷◌, ⊤, length, take, Some, false, refl};
-ghost use Rattle.turn_cell.specs.Passes.{IsPassOf, opened_with};
-ghost use Rattle.segment_pool.specs.Passes.{out};
-ghost use Rattle.segment_pool.specs.Pools as pools;
-ghost use Rattle.segment_pool.specs.Pools.{limits_of, size_of};
-ghost use Rattle.local_pool.specs.Helds.{pool_of};
+ghost use Rattle.std.specs.Prelude.{◌≡◌, ◌<◌, ◌≤◌, ⊤, length, take, Some, false, refl};
 ghost use Rattle.conn_parts.specs.Shares.{AreOf, HavePoolSize};
 
 use crate::slow_links::SlowOut;
 use conn_parts::{Incoming, Outgoing, close_link, drain, give_segment, place_of, request_segment};
+use fixtures::{list_of_two, open_local, open_pool_for_two};
 use flow_defs::{ChannelId, ListOf};
-use local_pool::{HeldPool, LocalPool};
+use local_pool::HeldPool;
 use net_frames::{ArrivalKind2, Frame, FrameFault, decode};
 use outside::{Failed, LinkIn};
-use segment_pool::{Pool, PoolPass};
 use std::alloc::Global;
 use std::process::Abort;
 use std::sync::Wait;
@@ -190,37 +185,6 @@ fn a_channel_has_a_place(rt: HostRuntime) {
     assert_eq!(rt; place_of(&[other], CHANNEL), None);
 }
 
-fn deal(passes: &mut ListOf<PoolPass>) -> PoolPass
-    requires { 0 < length passes.old.items }
-    ensures { passes.old.items ≡ passes.new.items ++ result ∷ [] }
-{
-    passes.pop().unwrap()
-}
-
-// A local pool that keeps one segment, in a cell with one pass.
-fn shared_pool<'p, R: Wait + Abort>(
-    rt: &R,
-    alloc: Global,
-    pool: &'p Pool,
-    pass: PoolPass,
-) -> (TurnCell<HeldPool<'p>>, Pass<HeldPool<'p>>)
-    requires pass { pools.IsPassOf pool.now pass × (out pass ≡ 0) }
-    requires limits { limits_of pool.now ≡ [] }
-    ensures pass { IsPassOf result.0 result.1 }
-    ensures size { size_of (pool_of (opened_with result.0)) ≡ size_of pool.now }
-{
-    let Ok(local) = LocalPool::new(rt, alloc, pool, pass, 1, 1) else {
-        panic!(rt; "no local pool")
-    };
-    let Ok((cell, mut passes)) = TurnCell::new(alloc, HeldPool::new(pool, local), 1) else {
-        panic!(rt; "no cell")
-    };
-    let Some(pass) = passes.pop() else {
-        panic!(rt; "no pass")
-    };
-    (cell, pass)
-}
-
 fn ask_and_give<'p, R: Wait + Abort>(
     rt: &R,
     cells: &[TurnCell<HeldPool<'p>>],
@@ -246,16 +210,10 @@ fn ask_and_give<'p, R: Wait + Abort>(
 
 #[test]
 fn a_segment_goes_back_to_the_pool_at_its_place(rt: HostRuntime) -> Result<(), Fail> {
-    let Ok((pool, mut places)) = Pool::new(rt.alloc(), 2, 64, 2) else {
-        panic!(rt; "no memory")
-    };
-    let second = deal(&mut places);
-    let first = deal(&mut places);
-    let (first_cell, first_pass) = shared_pool(&rt, rt.alloc(), &pool, first);
-    let (second_cell, second_pass) = shared_pool(&rt, rt.alloc(), &pool, second);
-    let mut passes = ListOf::new(rt.alloc());
-    passes.push(first_pass)?;
-    passes.push(second_pass)?;
+    let (pool, first, second) = open_pool_for_two(rt.alloc(), 2)?;
+    let (first_cell, first_pass) = open_local(&rt, rt.alloc(), &pool, first, 1)?;
+    let (second_cell, second_pass) = open_local(&rt, rt.alloc(), &pool, second, 1)?;
+    let mut passes = list_of_two(rt.alloc(), first_pass, second_pass)?;
     ask_and_give(&rt, &[first_cell, second_cell], &mut passes);
     Ok(())
 }

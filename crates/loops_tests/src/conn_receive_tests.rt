@@ -1,10 +1,8 @@
 // The loop over links in memory: what it gives to a channel, and why it ends.
-ghost use Rattle.std.specs.Prelude.{◌≡◌, ◌+◌, ◌<◌, ◌++◌, [], ◌∷◌, length, All, IfSome, IfOk, true, false};
+ghost use Rattle.std.specs.Prelude.{◌≡◌, ◌<◌, ◌++◌, [], ◌∷◌, length, All, IfSome, true, false};
 ghost use Rattle.turn_cell.specs.Passes.{IsPassOf, IsTurnOf, HasEntered, opened_with, number, seen};
-ghost use Rattle.segment_pool.specs.Passes.{out};
 ghost use Rattle.segment_pool.specs.Pools as pools;
 ghost use Rattle.segment_pool.specs.Pools.{limits_of, size_of};
-ghost use Rattle.local_pool.specs.Helds.{pool_of};
 ghost use Rattle.input_channel.specs.declared.entry.ReceiveEntry.TheVariants as entries;
 ghost use Rattle.input_channel.specs.Answers.{gave_of};
 ghost use Rattle.input_channel.specs.States.{ChannelState, ChannelStandsFor};
@@ -13,14 +11,14 @@ ghost use Rattle.outside.specs.Stops.{is_fault};
 ghost use Rattle.conn_parts.specs.Shares.{AreOf, AreOwn, HavePoolSize};
 ghost use Rattle.conn_read_items.specs.Receiving.{MayReadItems};
 
-use crate::lent::{CLOSING, deal, deal_place, open_stop};
-use crate::slow_links::SlowIn;
+use crate::slow_links::{CLOSING, SlowIn};
 use conn_parts::{ConnShare, LoopEnd, SharePasses};
 use conn_read_items::read_items;
+use fixtures::{deal, list_of_one, open_local, open_pool_for_two, open_stop};
 use flow_defs::{BarrierKind, Cause, ChannelId, ListOf, PeerFault};
 use input_channel::laws::{answers_tell, channels_stand_for_histories};
 use input_channel::{InputChannel, Polled, ReceiveEntry};
-use local_pool::{HeldPool, LocalPool};
+use local_pool::HeldPool;
 use outside::{StopState, look_for_stop, tell_stop};
 use reader_state::ReaderState;
 use segment_pool::{Pool, PoolPass};
@@ -136,28 +134,6 @@ fn open_inbox<R: Wait + Abort>(rt: &R, alloc: Global, pool: &Pool, pass: PoolPas
         reader,
         writer,
     }
-}
-
-// A local pool that lends two segments, in a cell with one pass.
-fn open_local<'p, R: Wait + Abort>(
-    rt: &R,
-    alloc: Global,
-    pool: &'p Pool,
-    pass: PoolPass,
-) -> (TurnCell<HeldPool<'p>>, Pass<HeldPool<'p>>)
-    requires pass { pools.IsPassOf pool.now pass × (out pass ≡ 0) }
-    requires limits { limits_of pool.now ≡ [] }
-    ensures pass { IsPassOf result.0 result.1 }
-    ensures size { size_of (pool_of (opened_with result.0)) ≡ size_of pool.now }
-{
-    let Ok(local) = LocalPool::new(rt, alloc, pool, pass, 2, 2) else {
-        panic!(rt; "no local pool")
-    };
-    let Ok((cell, mut passes)) = TurnCell::new(alloc, HeldPool::new(pool, local), 1) else {
-        panic!(rt; "no cell of a pool")
-    };
-    let pass = deal(&cell, &mut passes);
-    (cell, pass)
 }
 
 // What a poll gave: of a buffer its first byte and how many there are.
@@ -338,7 +314,7 @@ fn run_with<'a, 'p, R: Wait + Abort>(
     let Ok((readers, _)) = TurnCell::new(alloc, ReaderState::new(alloc, &channels)?, 1) else {
         panic!(rt; "no readers")
     };
-    let (stop, own, mut other) = open_stop(rt, alloc);
+    let (stop, own, mut other) = open_stop(alloc)?;
     if let Some(cause) = met {
         tell_stop(rt, &stop, &mut other, cause);
     }
@@ -353,15 +329,6 @@ fn run_with<'a, 'p, R: Wait + Abort>(
         cause,
         told: look_for_stop(rt, &stop, &mut other),
     })
-}
-
-// A list of one item.
-fn one<T: Drop>(alloc: Global, item: T) -> Result<ListOf<T>, AllocError>
-    ensures { IfOk result (λ list. list.items ≡ item ∷ []) }
-{
-    let mut list = ListOf::new(alloc);
-    list.push(item)?;
-    Ok(list)
 }
 
 // How the loop ended, and then how many floating segments the channel wants still, how much credit it has
@@ -383,11 +350,7 @@ fn run<R: Wait + Abort>(
 ) -> Result<Ran, Fail>
     requires met { IfSome met (λ cause. is_fault cause ≡ true) }
 {
-    let Ok((pool, mut places)) = Pool::new(alloc, 4, 64, 2) else {
-        panic!(rt; "no pool")
-    };
-    let second = deal_place(&mut places);
-    let first = deal_place(&mut places);
+    let (pool, first, second) = open_pool_for_two(alloc, 4)?;
     let Inbox {
         cell,
         gate,
@@ -395,14 +358,14 @@ fn run<R: Wait + Abort>(
         writer,
     } = open_inbox(rt, alloc, &pool, first);
     let (mut gate, mut writer) = (gate, writer);
-    let (local, lender) = open_local(rt, alloc, &pool, second);
+    let (local, lender) = open_local(rt, alloc, &pool, second, 2)?;
     let inputs = [cell];
     let pools = [local];
     let lent = Lent {
         inputs: &inputs,
-        readers: one(alloc, reader)?,
+        readers: list_of_one(alloc, reader)?,
         pools: &pools,
-        lenders: one(alloc, lender)?,
+        lenders: list_of_one(alloc, lender)?,
     };
     let ended = run_with(rt, alloc, input, met, lent)?;
     let wants = wanted(rt, &inputs[0], &mut gate);

@@ -1,33 +1,29 @@
 // One channel whose items are written to a link of the tests.
-ghost use Rattle.std.specs.Prelude.{◌≡◌, ◌<◌, ◌≤◌, ◌++◌, [], ◌∷◌, length, Some, IfOk, false};
-ghost use Rattle.turn_cell.specs.Passes.{IsPassOf, IsTurnOf, HasEntered, mine, number, opened_with, seen};
+ghost use Rattle.std.specs.Prelude.{◌≡◌, ◌<◌, [], length, Some, false};
+ghost use Rattle.turn_cell.specs.Passes.{IsPassOf, mine, number, opened_with};
 ghost use Rattle.segment_pool.specs.Passes.{out as out_of};
 ghost use Rattle.segment_pool.specs.Pools as pools;
 ghost use Rattle.segment_pool.specs.Pools.{limits_of, size_of};
-ghost use Rattle.local_pool.specs.Helds.{pool_of};
-ghost use Rattle.subpartition.specs.declared.entry.SendEntry.TheVariants.{Put};
 ghost use Rattle.subpartition.specs.Sending.{is_finished};
-ghost use Rattle.subpartition.specs.Queues.{last_bytes};
-ghost use Rattle.subpartition.specs.Standing.{QueueStandsFor};
-ghost use Rattle.reader_state.specs.Turning.{channels_in, IsReaderPass};
 ghost use Rattle.conn_parts.specs.Shares.{AreOf, HavePoolSize};
-ghost use Rattle.loops_tests.specs.declared.conn_send_tests.TheConstants.{CHANNEL};
 
 use conn_parts::{ConnShare, LoopEnd, SharePasses, request_segment};
 use conn_send_items::send_items;
+use fixtures::{
+    finish_in_turn, list_of_one, open_local, open_pool, open_readers, open_stop, open_subpartition,
+    put_in_turn,
+};
 use flow_defs::{Cause, ChannelId, ListOf};
-use local_pool::{HeldPool, LocalPool};
-use outside::{Failed, LinkOut, StopState, tell_stop};
-use reader_state::{ReaderState, take_request};
+use local_pool::HeldPool;
+use outside::{Failed, LinkOut, tell_stop};
+use reader_state::take_request;
 use segment_pool::{Pool, PoolPass, Segment};
-use std::alloc::{AllocError, Global};
-use std::marker::Brand;
+use std::alloc::Global;
 use std::process::Abort;
 use std::sync::Wait;
 use std::test::Fail;
-use subpartition::laws::{calls_add_entries, calls_tell};
-use subpartition::{Filled, SendEntry, Subpartition};
-use turn_cell::{Named, Pass, Turn, TurnCell};
+use subpartition::{Filled, Subpartition};
+use turn_cell::{Pass, TurnCell};
 
 const CHANNEL: ChannelId = ChannelId {
     edge: 3,
@@ -75,18 +71,6 @@ impl LinkOut for FaultyOut {
     }
 }
 
-// Ends the turn in which the last item was put, a buffer.
-fn leave_put<E: Named<SendEntry>>(turn: Turn<Subpartition>)
-    requires entry { E.entry ≡ Put (last_bytes turn.state.items) }
-    requires turn { IsTurnOf turn.cell.now turn.pass.now }
-    requires state { QueueStandsFor turn.state (seen turn.pass.now ++ (number turn.pass.now, Put (last_bytes turn.state.items)) ∷ []) }
-    requires size { turn.state.size ≡ (opened_with turn.cell.now).size }
-    ensures pass { IsPassOf turn.entry.cell.now turn.exit.1.0.now }
-    ensures entered { HasEntered (Put (last_bytes turn.entry.state.items)) turn.entry.pass.now turn.exit.1.0.now }
-{
-    turn.leave::<E>();
-}
-
 // The segment with these bytes at its front.
 fn written(segment: Segment, bytes: &[u8; 5]) -> Segment
     ensures { length result ≡ length segment }
@@ -113,13 +97,9 @@ fn put<R: Wait + Abort>(
 {
     let segment = written(segment, bytes);
     assert!(rt; segment.bytes().len() >= 5);
-    let filled = Filled { segment, len: 5 };
-    let mut turn = cell.enter(rt, pass);
-    calls_add_entries();
-    calls_tell();
-    assert!(rt; turn.state().spare() > 0);
-    turn.state().put(filled);
-    leave_put::<Brand>(turn);
+    let Ok(()) = put_in_turn(rt, cell, pass, Filled { segment, len: 5 }) else {
+        panic!(rt; "there is no room")
+    };
 }
 
 // A task puts the end.
@@ -129,111 +109,7 @@ fn end<R: Wait + Abort>(rt: &R, cell: &TurnCell<Subpartition>, pass: &mut Pass<S
     requires open_end { is_finished (mine pass.old) ≡ false }
     ensures pass { IsPassOf cell.now pass.new }
 {
-    let mut turn = cell.enter(rt, pass);
-    calls_add_entries();
-    calls_tell();
-    assert!(rt; turn.state().spare() > 0);
-    turn.state().finish();
-    turn.leave::<Brand>();
-}
-
-fn deal<T: Drop>(passes: &mut ListOf<T>) -> T
-    requires { 0 < length passes.old.items }
-    ensures { passes.old.items ≡ passes.new.items ++ result ∷ [] }
-{
-    passes.pop().unwrap()
-}
-
-// A list of one item.
-fn one<T: Drop>(alloc: Global, item: T) -> Result<ListOf<T>, AllocError>
-    ensures { IfOk result (λ list. list.items ≡ item ∷ []) }
-{
-    let mut list = ListOf::new(alloc);
-    list.push(item)?;
-    Ok(list)
-}
-
-// A local pool of two segments, in a cell with one pass.
-fn shared_pool<'p, R: Wait + Abort>(
-    rt: &R,
-    alloc: Global,
-    pool: &'p Pool,
-    pass: PoolPass,
-) -> (TurnCell<HeldPool<'p>>, Pass<HeldPool<'p>>)
-    requires pass { pools.IsPassOf pool.now pass × (out_of pass ≡ 0) }
-    requires limits { limits_of pool.now ≡ [] }
-    ensures pass { IsPassOf result.0 result.1 }
-    ensures size { size_of (pool_of (opened_with result.0)) ≡ size_of pool.now }
-{
-    let Ok(local) = LocalPool::new(rt, alloc, pool, pass, 2, 2) else {
-        panic!(rt; "no local pool")
-    };
-    let Ok((cell, mut passes)) = TurnCell::new(alloc, HeldPool::new(pool, local), 1) else {
-        panic!(rt; "no cell")
-    };
-    let pass = deal(&mut passes);
-    (cell, pass)
-}
-
-// A subpartition in a cell, and the passes of the task and of the sender.
-fn shared_subpartition<R: Abort>(
-    rt: &R,
-    alloc: Global,
-) -> (
-    TurnCell<Subpartition>,
-    Pass<Subpartition>,
-    Pass<Subpartition>,
-)
-    ensures task { IsPassOf result.0 result.1 × (number result.1 ≡ 0) × (mine result.1 ≡ []) }
-    ensures sender { IsPassOf result.0 result.2 × (number result.2 ≡ 1) }
-    ensures size { (opened_with result.0).size ≡ 64 }
-{
-    calls_add_entries();
-    let Ok(queue) = Subpartition::new(alloc, 64, 4) else {
-        panic!(rt; "no subpartition")
-    };
-    let Ok((cell, mut passes)) = TurnCell::new(alloc, queue, 2) else {
-        panic!(rt; "no cell")
-    };
-    let sender = deal(&mut passes);
-    let task = deal(&mut passes);
-    (cell, task, sender)
-}
-
-// The readers of the channel in a cell, and the passes of the writer of items and of the reader of control
-// frames.
-fn shared_readers<R: Abort>(
-    rt: &R,
-    alloc: Global,
-) -> (TurnCell<ReaderState>, Pass<ReaderState>, Pass<ReaderState>)
-    ensures channels { channels_in result.0 ≡ CHANNEL ∷ [] }
-    ensures writer { IsReaderPass result.0 0 result.1 × (mine result.1 ≡ []) }
-    ensures control { IsReaderPass result.0 1 result.2 }
-{
-    let Ok(state) = ReaderState::new(alloc, &[CHANNEL]) else {
-        panic!(rt; "no readers")
-    };
-    let Ok((cell, mut passes)) = TurnCell::new(alloc, state, 2) else {
-        panic!(rt; "no cell")
-    };
-    let control = deal(&mut passes);
-    let writer = deal(&mut passes);
-    (cell, writer, control)
-}
-
-// A stop cell, and two passes of it.
-fn shared_stop<R: Abort>(
-    rt: &R,
-    alloc: Global,
-) -> (TurnCell<StopState>, Pass<StopState>, Pass<StopState>)
-    ensures { IsPassOf result.0 result.1 × IsPassOf result.0 result.2 }
-{
-    let Ok((cell, mut passes)) = TurnCell::new(alloc, StopState::new(), 2) else {
-        panic!(rt; "no cell")
-    };
-    let other = deal(&mut passes);
-    let own = deal(&mut passes);
-    (cell, own, other)
+    assert!(rt; finish_in_turn(rt, cell, pass), "there is no room");
 }
 
 // A task puts two buffers and the end.
@@ -276,18 +152,18 @@ fn run<'p, R: Wait + Abort>(
     requires pool { (limits_of pool.now ≡ []) × (size_of pool.now ≡ 64) }
     requires unfinished { out.finished ≡ false }
 {
-    let (pool_cell, giver) = shared_pool(rt, alloc, pool, place);
-    let (cell, task, sender) = shared_subpartition(rt, alloc);
-    let (readers, writer, mut control) = shared_readers(rt, alloc);
-    let (stop, stop_pass, mut other) = shared_stop(rt, alloc);
+    let (pool_cell, giver) = open_local(rt, alloc, pool, place, 2)?;
+    let (cell, task, sender) = open_subpartition(alloc)?;
+    let (readers, writer, mut control) = open_readers(alloc, &[CHANNEL])?;
+    let (stop, stop_pass, mut other) = open_stop(alloc)?;
     let pools = [pool_cell];
-    let mut givers = one(alloc, giver)?;
+    let mut givers = list_of_one(alloc, giver)?;
     fill(rt, &pools, &mut givers, &cell, task);
     assert!(rt; take_request(rt, &readers, &mut control, CHANNEL, 2).is_ok());
     if stopped {
         tell_stop(rt, &stop, &mut other, Cause::Memory);
     }
-    let takers = one(alloc, sender)?;
+    let takers = list_of_one(alloc, sender)?;
     let share = ConnShare {
         channels: &[CHANNEL],
         size: 64,
@@ -334,10 +210,7 @@ fn a_channel_is_written_to_its_end(rt: HostRuntime) -> Result<(), Fail> {
         (u64::MAX, true, &FRAMES[127..], Cause::Stopped),
     ];
     for (fails_from, stopped, bytes, cause) in rows {
-        let Ok((pool, mut places)) = Pool::new(rt.alloc(), 2, 64, 1) else {
-            panic!(rt; "no memory")
-        };
-        let place = deal(&mut places);
+        let (pool, _places, place) = open_pool(rt.alloc(), 2)?;
         let out = FaultyOut {
             bytes: Vec::new(rt.alloc()),
             fails_from,

@@ -16,8 +16,6 @@ mod conn_send_tests;
 #[cfg(test)]
 mod connection_tests;
 #[cfg(test)]
-mod lent;
-#[cfg(test)]
 mod reader_state_tests;
 #[cfg(test)]
 mod slow_links;

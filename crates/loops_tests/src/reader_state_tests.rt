@@ -1,5 +1,5 @@
 // The readers of two channels, turn by turn.
-ghost use Rattle.std.specs.Prelude.{◌≡◌, ◌+◌, ◌<◌, ◌≤◌, [], ◌∷◌, ◌++◌, length, IsTrue};
+ghost use Rattle.std.specs.Prelude.{◌≡◌, ◌+◌, ◌<◌, ◌≤◌, [], ◌∷◌, length, IsTrue};
 ghost use Rattle.credit_reader.specs.Readers.{cost};
 ghost use Rattle.flow_defs.specs.Limits.{credit_max};
 ghost use Rattle.turn_cell.specs.Passes.{passes_of};
@@ -7,9 +7,9 @@ ghost use Rattle.turn_cell.specs.Closing.{AreFresh};
 ghost use Rattle.reader_state.specs.Turning.{channels_in, IsOneOf, IsReaderPass};
 ghost use Rattle.loops_tests.specs.declared.reader_state_tests.TheConstants.{A, B};
 
-use crate::conn_grant_tests::open_readers;
 use credit_reader::SentKind::{Buffer, End, Front, Inline};
 use credit_reader::{CREDIT_MAX, SentKind, Told};
+use fixtures::{give_back, open_readers};
 use flow_defs::{ChannelId, Head, ListOf, PeerFault};
 use reader_state::{
     ReaderState, look_for_overdue, next_to_announce, next_to_send, take_credit, take_request,
@@ -121,7 +121,9 @@ struct Ends {
 }
 
 fn open<R: Abort>(rt: &R, alloc: Global) -> Ends {
-    let (cell, writer, reader) = open_readers(rt, alloc, &[A, B]);
+    let Ok((cell, writer, reader)) = open_readers(alloc, &[A, B]) else {
+        panic!(rt; "no readers")
+    };
     Ends {
         cell,
         writer,
@@ -317,24 +319,6 @@ fn what_comes_too_early_is_kept_and_given_when_it_fits(rt: HostRuntime) -> Resul
     Ok(())
 }
 
-// Takes the last of these passes.
-fn deal(passes: &mut ListOf<Pass<ReaderState>>) -> Pass<ReaderState>
-    requires { 0 < length passes.old.items }
-    ensures { (passes.old.items ≡ passes.new.items ++ result ∷ []) × (passes.new.room ≡ passes.old.room + 1) }
-{
-    passes.pop().unwrap()
-}
-
-// Puts a pass back, behind the others.
-fn give_back(passes: &mut ListOf<Pass<ReaderState>>, pass: Pass<ReaderState>)
-    requires { 0 < passes.old.room }
-    ensures { (passes.new.items ≡ passes.old.items ++ pass ∷ []) × (passes.old.room ≤ passes.new.room + 1) }
-{
-    let Ok(()) = passes.push(pass) else {
-        unreachable!()
-    };
-}
-
 // Messages before the first item, of which one resumption or one credit comes too early.
 fn ask<R: Wait + Abort>(
     rt: &R,
@@ -400,8 +384,8 @@ fn take_turns<R: Wait + Abort>(
     requires known { IsOneOf A (channels_in cell) }
 {
     let mut passes = passes;
-    let mut reader = deal(&mut passes);
-    let mut writer = deal(&mut passes);
+    let mut reader = passes.take_last();
+    let mut writer = passes.take_last();
     ask(rt, &cell, &mut reader, too_much);
     send_end(rt, &cell, &mut writer);
     let fault = if too_much {

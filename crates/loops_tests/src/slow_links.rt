@@ -1,8 +1,10 @@
-// Links that give little in a read, or fail.
+// Links that give little in a read, or fail, and the frame that closes one.
 ghost use Rattle.std.specs.Prelude.{◌≤◌, length, take, Some};
 
 use outside::{Failed, LinkIn, LinkOut};
 use std::sync::Wait;
+
+pub const CLOSING: [u8; 9] = [0, 0, 0, 9, 0xBA, 0xDC, 0x0F, 0xFE, 5];
 
 /// A link of these bytes that gives at most `most` in a read, and fails from one read on.
 #[derive(Drop)]

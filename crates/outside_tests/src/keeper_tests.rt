@@ -1,9 +1,10 @@
 // A keeper in memory at the calls that are to fail, and turns of the cell with the last image.
-ghost use Rattle.std.specs.Prelude.{◌≡◌, ◌<◌, ◌++◌, [], ◌∷◌, ℕ, length, IfOk};
+ghost use Rattle.std.specs.Prelude.{◌≡◌, ◌<◌, ℕ, IfOk};
 ghost use Rattle.turn_cell.specs.Passes.{IsPassOf, number};
 ghost use Rattle.outside.specs.Keepers.{IsAboveLast};
 
 use crate::forms_tests::numbers;
+use fixtures::open_last_image;
 use flow_defs::{Bytes, ListOf};
 use outside::{
     KeepFault, Keeper, Kept, LastImage, MemoryKeeper, Stored, look_for_stored, tell_stored,
@@ -100,14 +101,6 @@ fn an_empty_memory_keeper_gives_none(rt: HostRuntime) -> Result<(), Fail> {
     Ok(())
 }
 
-// Takes the last of these passes.
-fn deal(passes: &mut ListOf<Pass<LastImage>>) -> Pass<LastImage>
-    requires { 0 < length passes.old.items }
-    ensures { passes.old.items ≡ passes.new.items ++ result ∷ [] }
-{
-    passes.pop().unwrap()
-}
-
 // The cell, the pass of the collecting worker, and that of another worker.
 #[derive(Drop)]
 struct Workers {
@@ -119,11 +112,7 @@ struct Workers {
 }
 
 fn new_workers(alloc: Global) -> Result<Workers, AllocError> {
-    let Ok((cell, mut passes)) = TurnCell::new(alloc, LastImage::new(), 2) else {
-        return Err(AllocError);
-    };
-    let reading = deal(&mut passes);
-    let collecting = deal(&mut passes);
+    let (cell, collecting, reading) = open_last_image(alloc)?;
     Ok(Workers {
         cell,
         collecting,

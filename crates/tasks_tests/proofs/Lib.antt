@@ -1,7 +1,5 @@
-mod Dealt
 mod TestLaws
 mod Samples
 mod CountingJob
 mod OneChannel
-mod StageTaskOneChannel
 mod RaisingJob

@@ -1,6 +1,5 @@
 // A task of the aggregate over a gate of the tests.
-ghost use Rattle.std.specs.Prelude.{◌≡◌, ◌<◌, ◌≤◌, true, false, [], IfOk, IfSome};
-ghost use Rattle.turn_cell.specs.Passes.{IsPassOf, mine};
+ghost use Rattle.std.specs.Prelude.{◌≡◌, ◌≤◌, false, [], IfOk, IfSome};
 ghost use Rattle.flow_defs.specs.declared.job.AggKind.TheVariants.{Count};
 ghost use Rattle.flow_defs.specs.Jobs.{IsJob, tasks};
 ghost use Rattle.checkpoint_laws.specs.Chapters.{task_at};
@@ -9,36 +8,20 @@ ghost use Rattle.stage_fns.specs.Kinds.{kinds};
 ghost use Rattle.snapshot_channel.specs.Passes.{IsCollecting, IsFresh, opening, opening_of, task_of};
 ghost use Rattle.aggregate_task.specs.Aggregates.{IsLent};
 
-use crate::lent::{deal, shared_last};
+use crate::lent::shared_last;
 use crate::list_gate::Piece::{Stop, Text};
 use crate::list_gate::{ListGate, Piece, gate_of};
 use crate::two_sources::counting_job;
 use aggregate_task::{AggregateTaskEnd, AggregateWorld, run_aggregate};
+use fixtures::open_stop;
 use flow_defs::{AggKind, Cause, Job, ListOf, PeerFault, Snapshot, TakeRun, TaskId};
-use outside::{StopState, Stored, look_for_stop, tell_cause};
+use outside::{Stored, look_for_stop, tell_cause};
 use snapshot_channel::{CollectingPass, Opened, SnapshotChannel, TaskPass};
 use stage_fns::{AggFn, FnTable, count};
 use std::alloc::{AllocError, Global};
 use std::process::Abort;
 use std::sync::Wait;
 use std::test::Fail;
-use turn_cell::{Pass, TurnCell};
-
-// A stop cell, and the passes of the task and of another worker.
-fn shared_stop<R: Abort>(
-    rt: &R,
-    alloc: Global,
-) -> (TurnCell<StopState>, Pass<StopState>, Pass<StopState>)
-    ensures task { IsPassOf result.0 result.1 × (mine result.1 ≡ []) }
-    ensures other { IsPassOf result.0 result.2 }
-{
-    let Ok((cell, mut passes)) = TurnCell::new(alloc, StopState::new(), 2) else {
-        panic!(rt; "no cell")
-    };
-    let other = deal(&mut passes);
-    let own = deal(&mut passes);
-    (cell, own, other)
-}
 
 // A channel of snapshots, and the passes of the collecting worker and of the task.
 #[derive(Drop)]
@@ -145,11 +128,11 @@ fn run<R: Wait + Abort>(rt: &R, alloc: Global, case: Case<'_>) -> Result<Ran, Fa
         collecting,
         of_count,
     } = open_ends(alloc, &job, case.every)?;
-    let (stop, stop_pass, mut other) = shared_stop(rt, alloc);
+    let (stop, stop_pass, mut other) = open_stop(alloc)?;
     if let Some(cause) = case.met {
         tell_cause(rt, &stop, &mut other, cause);
     }
-    let (last_image, last_pass) = shared_last(rt, alloc, case.stored);
+    let (last_image, last_pass) = shared_last(rt, alloc, case.stored)?;
     let gate = gate_of(alloc, case.pieces)?;
     let world = AggregateWorld {
         job: &job,

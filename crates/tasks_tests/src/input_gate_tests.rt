@@ -1,8 +1,6 @@
 // Gates of two channels, in one thread: what comes on the channels, and what the gate gives.
 ghost use Rattle.std.specs.Prelude.{◌≡◌, ◌+◌, ◌<◌, ◌≤◌, ◌++◌, suc, [], ◌∷◌, length, Some, All, IfOk, IfSome, true, false};
-ghost use Rattle.turn_cell.specs.Closing.{AreFresh, IsFresh};
 ghost use Rattle.turn_cell.specs.Passes.{IsPassOf, IsTurnOf, HasEntered, opened_with, number, seen, mine};
-ghost use Rattle.segment_pool.specs.Passes.{out};
 ghost use Rattle.segment_pool.specs.Pools as pools;
 ghost use Rattle.segment_pool.specs.Pools.{limits_of, size_of};
 ghost use Rattle.local_pool.specs.Helds.{pool_of};
@@ -15,11 +13,12 @@ ghost use Rattle.input_gate.specs.States.{account_in};
 ghost use Rattle.input_gate.specs.Making.{AreTwo, IsFirstPass};
 ghost use Rattle.input_gate.specs.Turning.{InputCell};
 
+use fixtures::{deal, list_of_two, open_local, open_pool_for_two, open_stop};
 use flow_defs::{BarrierKind, Bytes, Cause, ListOf};
 use input_channel::laws::{answers_tell, channels_stand_for_histories};
 use input_channel::{Arrival, ArrivalKind, InputChannel, ReceiveEntry};
 use input_gate::{CellGate, Gate, GateEnd, GateItem, InputCell, InputPass};
-use local_pool::{HeldPool, LocalPool};
+use local_pool::HeldPool;
 use outside::{StopState, tell_stop};
 use segment_pool::{Pool, PoolPass};
 use std::alloc::{AllocError, Global};
@@ -27,7 +26,7 @@ use std::marker::Brand;
 use std::process::Abort;
 use std::sync::Wait;
 use std::test::Fail;
-use turn_cell::{Named, Pass, Turn, TurnCell, Turned};
+use turn_cell::{Named, Pass, Turn, TurnCell};
 
 // What happens: data, a barrier or the end arrives on a channel, a fault is met elsewhere, the gate is
 // asked for the next item, or a channel wants so many floating segments.
@@ -110,18 +109,6 @@ static TOO_LONG: [Step; 2] = [
 
 static STOPPED: [Step; 2] = [Step::Stops, Step::Gives(Got::Ends(GateEnd::Stopped))];
 
-// Takes the last of these passes.
-fn deal<S: Turned>(cell: &TurnCell<S>, passes: &mut ListOf<Pass<S>>) -> Pass<S>
-    requires fresh { AreFresh cell.now passes.old.items }
-    requires some { 0 < length passes.old.items }
-    ensures fresh { AreFresh cell.now passes.new.items }
-    ensures many { length passes.old.items ≡ length passes.new.items + 1 }
-    ensures last { IsPassOf cell.now result × IsFresh (length passes.new.items) result }
-{
-    let _cell = cell;
-    passes.pop().unwrap()
-}
-
 // An input channel in a cell, with the passes of the gate and of the reader of frames.
 #[derive(Drop)]
 struct Inbox {
@@ -150,44 +137,6 @@ fn open_inbox<R: Wait + Abort>(rt: &R, alloc: Global, pool: &Pool, pass: &mut Po
     let reader = deal(&cell, &mut passes);
     let gate = deal(&cell, &mut passes);
     Inbox { cell, gate, reader }
-}
-
-// A local pool that lends four segments, in a cell with one pass.
-fn open_local<'p, R: Wait + Abort>(
-    rt: &R,
-    alloc: Global,
-    pool: &'p Pool,
-    pass: PoolPass,
-) -> (TurnCell<HeldPool<'p>>, Pass<HeldPool<'p>>)
-    requires pass { pools.IsPassOf pool.now pass × (out pass ≡ 0) }
-    requires limits { limits_of pool.now ≡ [] }
-    ensures pass { IsPassOf result.0 result.1 }
-    ensures size { size_of (pool_of (opened_with result.0)) ≡ size_of pool.now }
-{
-    let Ok(local) = LocalPool::new(rt, alloc, pool, pass, 4, 4) else {
-        panic!(rt; "no local pool")
-    };
-    let Ok((cell, mut passes)) = TurnCell::new(alloc, HeldPool::new(pool, local), 1) else {
-        panic!(rt; "no cell of a pool")
-    };
-    let pass = deal(&cell, &mut passes);
-    (cell, pass)
-}
-
-// A stop cell with two passes.
-fn open_stop<R: Abort>(
-    rt: &R,
-    alloc: Global,
-) -> (TurnCell<StopState>, Pass<StopState>, Pass<StopState>)
-    ensures first { IsPassOf result.0 result.1 × (mine result.1 ≡ []) }
-    ensures second { IsPassOf result.0 result.2 }
-{
-    let Ok((cell, mut passes)) = TurnCell::new(alloc, StopState::new(), 2) else {
-        panic!(rt; "no stop cell")
-    };
-    let second = deal(&cell, &mut passes);
-    let first = deal(&cell, &mut passes);
-    (cell, first, second)
 }
 
 // Ends the turn in which this arrived.
@@ -385,24 +334,6 @@ fn take_step<'a, 'p, R: Wait + Abort>(rt: &R, bench: Bench<'a, 'p>, step: &Step)
     }
 }
 
-// Takes the last of these passes.
-fn deal_place(places: &mut ListOf<PoolPass>) -> PoolPass
-    requires { 0 < length places.old.items }
-    ensures { places.old.items ≡ places.new.items ++ result ∷ [] }
-{
-    places.pop().unwrap()
-}
-
-// A list of two items.
-fn two_of<T: Drop>(alloc: Global, first: T, second: T) -> Result<ListOf<T>, AllocError>
-    ensures { IfOk result (λ list. list.items ≡ first ∷ second ∷ []) }
-{
-    let mut list = ListOf::new(alloc);
-    list.push(first)?;
-    list.push(second)?;
-    Ok(list)
-}
-
 // A gate of two channels.
 fn gate_of<'a, 'p, R: Abort>(
     rt: &R,
@@ -419,7 +350,7 @@ fn gate_of<'a, 'p, R: Abort>(
     requires stop { IsPassOf stop.now own × (mine own ≡ []) }
     requires sizes { All (λ (cell : InputCell). (opened_with cell).size ≡ size_of (pool_of (opened_with local.now))) cells.now }
 {
-    let flights = two_of(alloc, Bytes::new(alloc), Bytes::new(alloc))?;
+    let flights = list_of_two(alloc, Bytes::new(alloc), Bytes::new(alloc))?;
     match CellGate::new(alloc, cells, passes, flights, local, lender, stop, own) {
         Ok(gate) => Ok(gate),
         Err(_) => panic!(rt; "no memory for a gate"),
@@ -502,16 +433,12 @@ fn run<R: Wait + Abort>(
     resumes: bool,
     more: &[Step],
 ) -> Result<(), Fail> {
-    let Ok((pool, mut places)) = Pool::new(alloc, 8, 64, 2) else {
-        panic!(rt; "no pool")
-    };
-    let second = deal_place(&mut places);
-    let mut first = deal_place(&mut places);
+    let (pool, mut first, second) = open_pool_for_two(alloc, 8)?;
     let one = open_inbox(rt, alloc, &pool, &mut first);
     let two = open_inbox(rt, alloc, &pool, &mut first);
-    let (local, lender) = open_local(rt, alloc, &pool, second);
-    let (stop, own, other) = open_stop(rt, alloc);
-    let passes = two_of(alloc, one.gate, two.gate)?;
+    let (local, lender) = open_local(rt, alloc, &pool, second, 4)?;
+    let (stop, own, other) = open_stop(alloc)?;
+    let passes = list_of_two(alloc, one.gate, two.gate)?;
     let cells = [one.cell, two.cell];
     let gate = gate_of(rt, alloc, &cells, passes, &local, lender, &stop, own)?;
     let bench = Bench {

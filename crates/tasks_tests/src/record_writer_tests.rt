@@ -1,21 +1,21 @@
 // Writers over cells and a small pool, with one thread.
-ghost use Rattle.std.specs.Prelude.{◌≡◌, ℕ, ◌<◌, ◌≤◌, [], ◌∷◌, IfOk, OnOk};
-ghost use Rattle.std.specs.Option.{option_to_list};
-ghost use Rattle.turn_cell.specs.Passes.{IsPassOf, number, opened_with};
+ghost use Rattle.std.specs.Prelude.{◌≡◌, ℕ, ◌≤◌, [], IfOk, OnOk};
+ghost use Rattle.turn_cell.specs.Passes.{IsPassOf, number};
 ghost use Rattle.flow_defs.specs.declared.job.Exchange.TheVariants.{Hash};
 ghost use Rattle.flow_defs.specs.Jobs.{IsJob, last_edge, tasks, exchange as exchange_on};
 ghost use Rattle.segment_pool.specs.Passes.{out};
 ghost use Rattle.segment_pool.specs.Pools as pools;
 ghost use Rattle.segment_pool.specs.Pools.{limits_of, size_of};
-ghost use Rattle.local_pool.specs.Helds.{pool_of};
 ghost use Rattle.record_writer.specs.Partitions.{IsPartitionOf};
 ghost use Rattle.record_writer.specs.Writers.{IsOpen, IsSame, IsNextBarrier};
 
-use crate::lent::{deal, shared_subpartition, take};
+use fixtures::{
+    list_of_one, list_of_two, open_local, open_pool, open_stop, open_subpartition, take_in_turn,
+};
 use flow_defs::{
     AggKind, BarrierKind, Bytes, Cause, Exchange, Job, ListOf, RECORD_MAX, Stage, StageKind,
 };
-use local_pool::{HeldPool, LocalPool};
+use local_pool::HeldPool;
 use outside::{StopState, tell_stop};
 use record_writer::{Partition, PartitionPasses, RecordWriter, WriterStopped};
 use segment_pool::{Pool, PoolPass};
@@ -60,60 +60,6 @@ fn job_of(alloc: Global, exchange: Exchange) -> Result<Job, AllocError>
     })
 }
 
-// A local pool of so many segments, in a cell with one pass.
-fn shared_pool<'p, R: Wait + Abort>(
-    rt: &R,
-    alloc: Global,
-    pool: &'p Pool,
-    place: PoolPass,
-    need: u32,
-) -> (TurnCell<HeldPool<'p>>, Pass<HeldPool<'p>>)
-    requires place { pools.IsPassOf pool.now place × (out place ≡ 0) }
-    requires limits { limits_of pool.now ≡ [] }
-    ensures pass { IsPassOf result.0 result.1 }
-    ensures size { size_of (pool_of (opened_with result.0)) ≡ size_of pool.now }
-{
-    let Ok(local) = LocalPool::new(rt, alloc, pool, place, need, need) else {
-        panic!(rt; "no local pool")
-    };
-    let Ok((cell, mut passes)) = TurnCell::new(alloc, HeldPool::new(pool, local), 1) else {
-        panic!(rt; "no cell")
-    };
-    let pass = deal(&mut passes);
-    (cell, pass)
-}
-
-// A stop cell, and two passes of it.
-fn shared_stop<R: Abort>(
-    rt: &R,
-    alloc: Global,
-) -> (TurnCell<StopState>, Pass<StopState>, Pass<StopState>)
-    ensures { IsPassOf result.0 result.1 × IsPassOf result.0 result.2 }
-{
-    let Ok((cell, mut passes)) = TurnCell::new(alloc, StopState::new(), 2) else {
-        panic!(rt; "no cell")
-    };
-    let other = deal(&mut passes);
-    let own = deal(&mut passes);
-    (cell, own, other)
-}
-
-// The passes of one channel or of two.
-fn list_of(
-    alloc: Global,
-    first: Pass<Subpartition>,
-    second: Option<Pass<Subpartition>>,
-) -> Result<ListOf<Pass<Subpartition>>, AllocError>
-    ensures { IfOk result (λ list. list.items ≡ first ∷ option_to_list second) }
-{
-    let mut list = ListOf::new(alloc);
-    list.push(first)?;
-    if let Some(second) = second {
-        list.push(second)?;
-    }
-    Ok(list)
-}
-
 // Takes these buffers out of a subpartition.
 fn take_buffers<R: Wait + Abort>(
     rt: &R,
@@ -125,7 +71,7 @@ fn take_buffers<R: Wait + Abort>(
     ensures { IsPassOf cell.now sender.new × (number sender.new ≡ 1) }
 {
     for bytes in buffers {
-        match take(rt, cell, sender) {
+        match take_in_turn(rt, cell, sender) {
             Some(Item::Buffer(filled)) => assert_eq!(rt; filled.bytes(), *bytes),
             _ => panic!(rt; "no buffer"),
         }
@@ -147,7 +93,7 @@ fn takes<R: Wait + Abort>(
     let mut sender = sender;
     take_buffers(rt, cell, &mut sender, stretches[0]);
     for number in 1..stretches.len() {
-        match take(rt, cell, &mut sender) {
+        match take_in_turn(rt, cell, &mut sender) {
             Some(
                 Item::Barrier {
                     k,
@@ -159,9 +105,9 @@ fn takes<R: Wait + Abort>(
         take_buffers(rt, cell, &mut sender, stretches[number]);
     }
     if ended {
-        assert!(rt; matches!(take(rt, cell, &mut sender), Some(Item::End)));
+        assert!(rt; matches!(take_in_turn(rt, cell, &mut sender), Some(Item::End)));
     }
-    assert!(rt; take(rt, cell, &mut sender).is_none());
+    assert!(rt; take_in_turn(rt, cell, &mut sender).is_none());
 }
 
 // How many segments a pool has lent.
@@ -292,11 +238,11 @@ fn write_over_two<R: Wait + Abort>(
     requires edge { edge ≤ 1 }
 {
     let job = job_of(alloc, Exchange::Rebalance)?;
-    let (pool_cell, lender) = shared_pool(rt, alloc, pool, place, 6);
-    let (one, one_task, one_sender) = shared_subpartition(rt, alloc);
-    let (two, two_task, two_sender) = shared_subpartition(rt, alloc);
-    let (stop, stop_pass, _other) = shared_stop(rt, alloc);
-    let subpartitions = list_of(alloc, one_task, Some(two_task))?;
+    let (pool_cell, lender) = open_local(rt, alloc, pool, place, 6)?;
+    let (one, one_task, one_sender) = open_subpartition(alloc)?;
+    let (two, two_task, two_sender) = open_subpartition(alloc)?;
+    let (stop, stop_pass, _other) = open_stop(alloc)?;
+    let subpartitions = list_of_two(alloc, one_task, two_task)?;
     let cells = [one, two];
     let partition = Partition {
         subpartitions: &cells,
@@ -339,12 +285,12 @@ fn write_over_one<R: Wait + Abort>(
     requires pool { (limits_of pool.now ≡ []) × (size_of pool.now ≡ 64) }
 {
     let job = job_of(alloc, Exchange::Forward)?;
-    let (pool_cell, lender) = shared_pool(rt, alloc, pool, place, segments);
-    let (one, _one_task, _one_sender) = shared_subpartition(rt, alloc);
-    let (two, two_task, two_sender) = shared_subpartition(rt, alloc);
-    let (stop, stop_pass, mut other) = shared_stop(rt, alloc);
+    let (pool_cell, lender) = open_local(rt, alloc, pool, place, segments)?;
+    let (one, _one_task, _one_sender) = open_subpartition(alloc)?;
+    let (two, two_task, two_sender) = open_subpartition(alloc)?;
+    let (stop, stop_pass, mut other) = open_stop(alloc)?;
     tell_stop(rt, &stop, &mut other, Cause::Memory);
-    let subpartitions = list_of(alloc, two_task, None)?;
+    let subpartitions = list_of_one(alloc, two_task)?;
     let cells = [one, two];
     let partition = Partition {
         subpartitions: &cells,
@@ -370,21 +316,9 @@ fn write_over_one<R: Wait + Abort>(
     Ok(written)
 }
 
-// A pool of eight segments of 64 bytes, and a pass of it with nothing out.
-fn pool_of_eight<R: Abort>(rt: &R, alloc: Global) -> (Pool, PoolPass)
-    ensures place { pools.IsPassOf result.0 result.1 × (out result.1 ≡ 0) }
-    ensures pool { (limits_of result.0 ≡ []) × (size_of result.0 ≡ 64) }
-{
-    let Ok((pool, mut places)) = Pool::new(alloc, 8, 64, 1) else {
-        panic!(rt; "no memory")
-    };
-    let place = deal(&mut places);
-    (pool, place)
-}
-
 #[test]
 fn records_go_over_two_channels_in_turn(rt: HostRuntime) -> Result<(), Fail> {
-    let (pool, place) = pool_of_eight(&rt, rt.alloc());
+    let (pool, _passes, place) = open_pool(rt.alloc(), 8)?;
     let first: [&[u8]; 4] = [
         b"\0\0\0\x64To be, or not to be, that is the question: whether 'tis nobl",
         b"er in the mind to suffer the slings and \0\0\0\x5aof outrageous fortun",
@@ -409,7 +343,7 @@ fn records_go_over_two_channels_in_turn(rt: HostRuntime) -> Result<(), Fail> {
 
 #[test]
 fn records_go_to_the_aggregate_by_the_hash_of_their_key(rt: HostRuntime) -> Result<(), Fail> {
-    let (pool, place) = pool_of_eight(&rt, rt.alloc());
+    let (pool, _passes, place) = open_pool(rt.alloc(), 8)?;
     // FNV-1a of "cherry" and of "a" is even, that of "pear" odd.
     let lent = write_over_two(
         &rt,
@@ -428,7 +362,7 @@ fn records_go_to_the_aggregate_by_the_hash_of_their_key(rt: HostRuntime) -> Resu
 
 #[test]
 fn segments_that_are_being_filled_go_back(rt: HostRuntime) -> Result<(), Fail> {
-    let (pool, place) = pool_of_eight(&rt, rt.alloc());
+    let (pool, _passes, place) = open_pool(rt.alloc(), 8)?;
     let first: [&[u8]; 1] = [
         b"\0\0\0\x64To be, or not to be, that is the question: whether 'tis nobl",
     ];
@@ -449,7 +383,7 @@ fn segments_that_are_being_filled_go_back(rt: HostRuntime) -> Result<(), Fail> {
 
 #[test]
 fn a_barrier_goes_behind_what_was_emitted_before(rt: HostRuntime) -> Result<(), Fail> {
-    let (pool, place) = pool_of_eight(&rt, rt.alloc());
+    let (pool, _passes, place) = open_pool(rt.alloc(), 8)?;
     let one: [&[u8]; 2] = [
         b"\0\0\0\x64To be, or not to be, that is the question: whether 'tis nobl",
         b"er in the mind to suffer the slings and ",
@@ -475,7 +409,7 @@ fn a_barrier_goes_behind_what_was_emitted_before(rt: HostRuntime) -> Result<(), 
 
 #[test]
 fn forward_has_one_channel(rt: HostRuntime) -> Result<(), Fail> {
-    let (pool, place) = pool_of_eight(&rt, rt.alloc());
+    let (pool, _passes, place) = open_pool(rt.alloc(), 8)?;
     let written = write_over_one(&rt, rt.alloc(), &pool, place, 2, &[&[b"\0\0\0\x06arrows"]])?;
     assert_eq!(rt; written, Ok(()));
     Ok(())
@@ -483,7 +417,7 @@ fn forward_has_one_channel(rt: HostRuntime) -> Result<(), Fail> {
 
 #[test]
 fn a_writer_that_waits_is_stopped(rt: HostRuntime) -> Result<(), Fail> {
-    let (pool, place) = pool_of_eight(&rt, rt.alloc());
+    let (pool, _passes, place) = open_pool(rt.alloc(), 8)?;
     let written = write_over_one(&rt, rt.alloc(), &pool, place, 0, &[&[]])?;
     assert_eq!(rt; written, Err(WriterStopped));
     Ok(())

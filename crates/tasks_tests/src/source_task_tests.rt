@@ -1,9 +1,8 @@
 // A source of a job with one source and one task that counts, over a partition of one channel and a small
 // pool, with one thread.
-ghost use Rattle.std.specs.Prelude.{◌≡◌, ◌<◌, ◌≤◌, [], length, IfOk, IfSome};
-ghost use Rattle.turn_cell.specs.Passes.{IsPassOf, mine, number};
-ghost use Rattle.flow_defs.specs.declared.job.Exchange.TheVariants.{Hash};
-ghost use Rattle.flow_defs.specs.Jobs.{IsJob, tasks, exchange};
+ghost use Rattle.std.specs.Prelude.{◌≡◌, ◌≤◌, [], length, IfOk, IfSome};
+ghost use Rattle.turn_cell.specs.Passes.{IsPassOf, number};
+ghost use Rattle.flow_defs.specs.Jobs.{IsJob};
 ghost use Rattle.checkpoint_laws.specs.Chapters.{task_at};
 ghost use Rattle.segment_pool.specs.Passes.{out};
 ghost use Rattle.segment_pool.specs.Pools as pools;
@@ -11,47 +10,22 @@ ghost use Rattle.segment_pool.specs.Pools.{limits_of, size_of};
 ghost use Rattle.snapshot_channel.specs.Passes.{IsCollecting, IsFresh, opening_of, task_of};
 ghost use Rattle.source_task.specs.Sources.{IsLent};
 
-use crate::lent::{
-    deal, list_of, pool_of_four, shared_last, shared_pool, shared_subpartition, take,
+use crate::lent::shared_last;
+use fixtures::{
+    counting_job, list_of_one, open_local, open_pool, open_stop, open_subpartition, take_in_turn,
 };
-use flow_defs::{AggKind, BarrierKind, Bytes, Cause, Job, ListOf, TaskId};
-use outside::{MemorySource, StopState, Stored};
+use flow_defs::{BarrierKind, Bytes, Cause, Job, ListOf, TaskId};
+use outside::{MemorySource, Stored};
 use record_writer::{Partition, PartitionPasses};
 use segment_pool::{Pool, PoolPass};
 use snapshot_channel::{CollectingPass, Opened, SnapshotChannel, TaskPass};
 use source_task::{SourceWorld, run_source};
-use std::alloc::{AllocError, Global};
+use std::alloc::Global;
 use std::process::Abort;
 use std::sync::Wait;
 use std::test::Fail;
 use subpartition::{Item, Subpartition};
 use turn_cell::{Pass, TurnCell};
-
-fn counting_job(alloc: Global) -> Result<Job, AllocError>
-    ensures job { IfOk result (λ job. IsJob job × (job.stages.items ≡ []) × (length job.sources.items ≡ 1) × (job.agg_tasks ≡ 1)) }
-    ensures ways { IfOk result (λ job. (exchange job 0 ≡ Hash) × (tasks job 0 ≡ 1) × (tasks job 1 ≡ 1)) }
-{
-    let mut sources = ListOf::new(alloc);
-    sources.push(Bytes::new(alloc))?;
-    Ok(Job {
-        sources,
-        stages: ListOf::new(alloc),
-        agg: AggKind::Count,
-        agg_tasks: 1,
-        text: Bytes::new(alloc),
-    })
-}
-
-// A stop cell with one pass.
-fn shared_stop<R: Abort>(rt: &R, alloc: Global) -> (TurnCell<StopState>, Pass<StopState>)
-    ensures { IsPassOf result.0 result.1 × (mine result.1 ≡ []) }
-{
-    let Ok((cell, mut passes)) = TurnCell::new(alloc, StopState::new(), 1) else {
-        panic!(rt; "no cell")
-    };
-    let pass = deal(&mut passes);
-    (cell, pass)
-}
 
 // A channel of snapshots, and the passes of the collecting worker and the source.
 #[derive(Drop)]
@@ -107,20 +81,20 @@ fn has_sent<R: Wait + Abort>(
     requires { IsPassOf cell.now sender × (number sender ≡ 1) }
 {
     let mut sender = sender;
-    match take(rt, cell, &mut sender) {
+    match take_in_turn(rt, cell, &mut sender) {
         Some(Item::Buffer(filled)) => assert_eq!(rt; filled.bytes(), bytes),
         _ => panic!(rt; "no buffer"),
     }
     'barriers: for number in 1..=barriers {
-        match take(rt, cell, &mut sender) {
+        match take_in_turn(rt, cell, &mut sender) {
             Some(Item::Barrier { k, kind }) => {
                 assert_eq!(rt; (k, kind), (number, BarrierKind::Inline));
             }
             _ => panic!(rt; "no barrier"),
         }
     }
-    assert!(rt; matches!(take(rt, cell, &mut sender), Some(Item::End)));
-    assert!(rt; take(rt, cell, &mut sender).is_none());
+    assert!(rt; matches!(take_in_turn(rt, cell, &mut sender), Some(Item::End)));
+    assert!(rt; take_in_turn(rt, cell, &mut sender).is_none());
 }
 
 // The snapshots on the channel are those up to this number, each at the source's end, behind so many lines.
@@ -180,11 +154,11 @@ fn source_sends<R: Wait + Abort>(
         collecting,
         of_source,
     } = open_ends(alloc, &job, case.every)?;
-    let (pool_cell, lender) = shared_pool(rt, alloc, pool, place);
-    let (cell, task, sender) = shared_subpartition(rt, alloc);
-    let (stop, stop_pass) = shared_stop(rt, alloc);
-    let (last_image, last_pass) = shared_last(rt, alloc, case.stored);
-    let subpartitions = list_of(alloc, task)?;
+    let (pool_cell, lender) = open_local(rt, alloc, pool, place, 4)?;
+    let (cell, task, sender) = open_subpartition(alloc)?;
+    let (stop, stop_pass, _other) = open_stop(alloc)?;
+    let (last_image, last_pass) = shared_last(rt, alloc, case.stored)?;
+    let subpartitions = list_of_one(alloc, task)?;
     let cells = [cell];
     let partition = Partition {
         subpartitions: &cells,
@@ -216,7 +190,7 @@ fn source_sends<R: Wait + Abort>(
 
 #[test]
 fn a_source_without_an_interval_sends_one_snapshot(rt: HostRuntime) -> Result<(), Fail> {
-    let (pool, place) = pool_of_four(&rt, rt.alloc());
+    let (pool, _passes, place) = open_pool(rt.alloc(), 4)?;
     let case = Case {
         input: b"a\nb\na\n",
         every: None,
@@ -231,7 +205,7 @@ fn a_source_without_an_interval_sends_one_snapshot(rt: HostRuntime) -> Result<()
 
 #[test]
 fn a_source_with_an_interval_waits_for_each_image(rt: HostRuntime) -> Result<(), Fail> {
-    let (pool, place) = pool_of_four(&rt, rt.alloc());
+    let (pool, _passes, place) = open_pool(rt.alloc(), 4)?;
     let case = Case {
         input: b"a\n",
         every: Some(2),

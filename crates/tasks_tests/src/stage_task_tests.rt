@@ -1,5 +1,5 @@
 // The task of a stage behind two sources, over a partition of one channel and a small pool, with one thread.
-ghost use Rattle.std.specs.Prelude.{◌≡◌, ◌<◌, ◌≤◌, [], false, IfOk, IfSome};
+ghost use Rattle.std.specs.Prelude.{◌≡◌, ◌≤◌, [], IfOk, IfSome};
 ghost use Rattle.turn_cell.specs.Passes.{IsPassOf, mine, number};
 ghost use Rattle.flow_defs.specs.declared.job.AggKind.TheVariants.{Count};
 ghost use Rattle.flow_defs.specs.declared.job.Exchange.TheVariants.{Hash};
@@ -16,15 +16,14 @@ ghost use Rattle.snapshot_channel.specs.Passes.{IsCollecting, IsFresh, opening, 
 ghost use Rattle.task_taking.specs.Samples.{account_of};
 ghost use Rattle.stage_task.specs.Stages.{IsStageTask, IsLent};
 
-use crate::lent::{
-    deal, list_of, pool_of_four, shared_last, shared_pool, shared_subpartition, take,
-};
+use crate::lent::shared_last;
 use crate::list_gate::{ListGate, Piece, gate_of};
+use fixtures::{list_of_one, open_local, open_pool, open_stop, open_subpartition, take_in_turn};
 use flow_defs::{
     AggKind, BarrierKind, Bytes, Cause, Exchange, Job, ListOf, PeerFault, Stage, StageKind,
     TakeRun, TaskId,
 };
-use outside::{StopState, Stored, tell_stop};
+use outside::{Stored, tell_stop};
 use record_writer::{Partition, PartitionPasses};
 use segment_pool::{Pool, PoolPass};
 use snapshot_channel::{CollectingPass, Opened, SnapshotChannel, TaskPass};
@@ -61,25 +60,6 @@ fn raising_job(alloc: Global) -> Result<Job, AllocError>
         agg_tasks: 1,
         text: Bytes::new(alloc),
     })
-}
-
-// A stop cell, in which a fault was told or not, and the pass of a task.
-fn shared_stop<R: Wait + Abort>(
-    rt: &R,
-    alloc: Global,
-    stopped: bool,
-) -> (TurnCell<StopState>, Pass<StopState>)
-    ensures { IsPassOf result.0 result.1 × (mine result.1 ≡ []) }
-{
-    let Ok((cell, mut passes)) = TurnCell::new(alloc, StopState::new(), 2) else {
-        panic!(rt; "no cell")
-    };
-    let mut other = deal(&mut passes);
-    let own = deal(&mut passes);
-    if stopped {
-        tell_stop(rt, &cell, &mut other, Cause::Memory);
-    }
-    (cell, own)
 }
 
 // A channel of snapshots, and the passes of the collecting worker and the stage's task.
@@ -140,13 +120,13 @@ fn has_sent<R: Wait + Abort>(
 {
     let mut sender = sender;
     if !case.buffer.is_empty() {
-        match take(rt, cell, &mut sender) {
+        match take_in_turn(rt, cell, &mut sender) {
             Some(Item::Buffer(filled)) => assert_eq!(rt; filled.bytes(), case.buffer),
             _ => panic!(rt; "no buffer"),
         }
     }
     'barriers: for number in 1..=case.barriers {
-        match take(rt, cell, &mut sender) {
+        match take_in_turn(rt, cell, &mut sender) {
             Some(Item::Barrier { k, kind }) => {
                 assert_eq!(rt; (k, kind), (number, BarrierKind::Inline));
             }
@@ -154,9 +134,9 @@ fn has_sent<R: Wait + Abort>(
         }
     }
     if case.ended {
-        assert!(rt; matches!(take(rt, cell, &mut sender), Some(Item::End)));
+        assert!(rt; matches!(take_in_turn(rt, cell, &mut sender), Some(Item::End)));
     }
-    assert!(rt; take(rt, cell, &mut sender).is_none());
+    assert!(rt; take_in_turn(rt, cell, &mut sender).is_none());
 }
 
 // The snapshots on the channel are those up to this number, of a stage that took two records before the first
@@ -241,11 +221,14 @@ fn stage_sends<R: Wait + Abort>(
         of_stage,
     } = open_ends(alloc, &job, case.every)?;
     let gate = gate_of(alloc, case.pieces)?;
-    let (pool_cell, lender) = shared_pool(rt, alloc, pool, place);
-    let (cell, task, sender) = shared_subpartition(rt, alloc);
-    let (stop, stop_pass) = shared_stop(rt, alloc, case.stopped);
-    let (last_image, last_pass) = shared_last(rt, alloc, case.stored);
-    let subpartitions = list_of(alloc, task)?;
+    let (pool_cell, lender) = open_local(rt, alloc, pool, place, 4)?;
+    let (cell, task, sender) = open_subpartition(alloc)?;
+    let (stop, stop_pass, mut other) = open_stop(alloc)?;
+    if case.stopped {
+        tell_stop(rt, &stop, &mut other, Cause::Memory);
+    }
+    let (last_image, last_pass) = shared_last(rt, alloc, case.stored)?;
+    let subpartitions = list_of_one(alloc, task)?;
     let cells = [cell];
     let partition = Partition {
         subpartitions: &cells,
@@ -308,7 +291,7 @@ const BUFFER: &[u8] = b"\0\0\0\x04PEAR\0\0\0\x03FIG";
 
 #[test]
 fn a_stage_without_an_interval_sends_one_snapshot(rt: HostRuntime) -> Result<(), Fail> {
-    let (pool, place) = pool_of_four(&rt, rt.alloc());
+    let (pool, _passes, place) = open_pool(rt.alloc(), 4)?;
     let case = Case {
         pieces: &RECORDS,
         every: None,
@@ -325,7 +308,7 @@ fn a_stage_without_an_interval_sends_one_snapshot(rt: HostRuntime) -> Result<(),
 
 #[test]
 fn the_checkpoint_behind_an_image_with_all_ended_is_the_last(rt: HostRuntime) -> Result<(), Fail> {
-    let (pool, place) = pool_of_four(&rt, rt.alloc());
+    let (pool, _passes, place) = open_pool(rt.alloc(), 4)?;
     let case = Case {
         pieces: &TWO_BARRIERS,
         every: Some(1),
@@ -345,7 +328,7 @@ fn the_checkpoint_behind_an_image_with_all_ended_is_the_last(rt: HostRuntime) ->
 
 #[test]
 fn ends_before_the_last_checkpoint_are_a_fault(rt: HostRuntime) -> Result<(), Fail> {
-    let (pool, place) = pool_of_four(&rt, rt.alloc());
+    let (pool, _passes, place) = open_pool(rt.alloc(), 4)?;
     let case = Case {
         pieces: &[],
         every: None,
@@ -362,7 +345,7 @@ fn ends_before_the_last_checkpoint_are_a_fault(rt: HostRuntime) -> Result<(), Fa
 
 #[test]
 fn a_line_behind_the_last_checkpoint_is_a_fault(rt: HostRuntime) -> Result<(), Fail> {
-    let (pool, place) = pool_of_four(&rt, rt.alloc());
+    let (pool, _passes, place) = open_pool(rt.alloc(), 4)?;
     let case = Case {
         pieces: &LINE_BEHIND,
         every: None,
@@ -379,7 +362,7 @@ fn a_line_behind_the_last_checkpoint_is_a_fault(rt: HostRuntime) -> Result<(), F
 
 #[test]
 fn a_task_that_was_done_is_stopped_by_a_fault_before(rt: HostRuntime) -> Result<(), Fail> {
-    let (pool, place) = pool_of_four(&rt, rt.alloc());
+    let (pool, _passes, place) = open_pool(rt.alloc(), 4)?;
     let case = Case {
         pieces: &RECORDS,
         every: None,

@@ -3,8 +3,8 @@ ghost use Rattle.std.specs.Prelude.{◌≡◌, ◌<◌, ◌≤◌};
 ghost use Rattle.turn_cell.specs.Passes.{IsPassOf, number};
 ghost use Rattle.turn_tests.specs.Crowds.{ArePassesOf, AreBack};
 
-use crate::dealing::{deal, give_back};
 use crate::sum::{Sum, add_one, end};
+use fixtures::give_back;
 use flow_defs::ListOf;
 use std::alloc::Global;
 use std::sync::Wait;
@@ -25,7 +25,7 @@ fn work<R: Wait>(
     let Ok((own, mut passes)) = TurnCell::new(alloc, Sum { value: 0 }, 1) else {
         return pass;
     };
-    let mut own_pass = deal(&mut passes);
+    let mut own_pass = passes.take_last();
     let mut pass = pass;
     for _round in 0..times {
         add_one(rt, &own, &mut own_pass);

@@ -4,7 +4,7 @@ ghost use Rattle.std.specs.List.{list_any};
 ghost use Rattle.turn_cell.specs.Passes.{IsPassOf, IsTurnOf, HasEntered, mine, number, seen};
 ghost use Rattle.turn_tests.specs.Journals.{values};
 
-use crate::dealing::{deal, give_back};
+use fixtures::give_back;
 use flow_defs::ListOf;
 use std::alloc::{AllocError, Global};
 use std::marker::Brand;
@@ -139,7 +139,7 @@ pub fn write_and_read<R: Wait>(rt: &R, alloc: Global) -> Option<bool>
     let Ok((cell, mut passes)) = TurnCell::new(alloc, journal, 1) else {
         return None;
     };
-    let mut pass = deal(&mut passes);
+    let mut pass = passes.take_last();
     let shown = write_then_read(rt, &cell, &mut pass, 5);
     give_back(&mut passes, pass);
     let _ = cell.close(passes);
@@ -156,8 +156,8 @@ pub fn write_and_meet<R: Wait>(rt: &R, alloc: Global) -> Option<bool>
     let Ok((cell, mut passes)) = TurnCell::new(alloc, journal, 2) else {
         return None;
     };
-    let mut reader = deal(&mut passes);
-    let mut writer = deal(&mut passes);
+    let mut reader = passes.take_last();
+    let mut writer = passes.take_last();
     let shown = write_then_meet(rt, &cell, &mut writer, &mut reader, 5);
     give_back(&mut passes, writer);
     give_back(&mut passes, reader);

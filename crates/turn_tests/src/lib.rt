@@ -1,10 +1,9 @@
 //! Callers of turn cells: what several threads do to one state, and what is known of it afterwards.
 //!
-//! It stands on turn_cell and flow_defs, and nothing stands on it. turn_cell's CALLING.md quotes `sum.rt`.
+//! It stands on turn_cell, flow_defs and fixtures, and nothing stands on it. turn_cell's CALLING.md quotes `sum.rt`.
 #![tactic(auto)]
 
 mod crowd;
-mod dealing;
 mod held;
 mod journal;
 mod looking;

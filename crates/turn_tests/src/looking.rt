@@ -1,8 +1,8 @@
 // Looks, and turns with no entry: what they answer, and loops of them for bench/turns.
 ghost use Rattle.turn_cell.specs.Passes.{IsPassOf};
 
-use crate::dealing::deal;
 use crate::sum::{Sum, add_one};
+use fixtures::deal;
 use std::alloc::Global;
 use std::sync::Wait;
 use turn_cell::{Pass, TurnCell};
@@ -31,8 +31,8 @@ pub fn looks_tell<R: Wait>(rt: &R, alloc: Global) -> Option<bool> {
     let Ok((cell, mut passes)) = TurnCell::new(alloc, Sum { value: 0 }, 2) else {
         return None;
     };
-    let mut b = deal(&mut passes);
-    let mut a = deal(&mut passes);
+    let mut b = deal(&cell, &mut passes);
+    let mut a = deal(&cell, &mut passes);
     let answers = look_four_times(rt, &cell, &mut a, &mut b);
     Some(answers == [true, false, true, false])
 }
@@ -56,7 +56,7 @@ pub fn look_alone(alloc: Global, times: u64) -> Option<u64> {
     let Ok((cell, mut passes)) = TurnCell::new(alloc, Sum { value: 0 }, 1) else {
         return None;
     };
-    let mut pass = deal(&mut passes);
+    let mut pass = deal(&cell, &mut passes);
     Some(look_often(&cell, &mut pass, times))
 }
 
@@ -79,6 +79,6 @@ pub fn rest_alone<R: Wait>(rt: &R, alloc: Global, times: u64) -> Option<u64> {
     let Ok((cell, mut passes)) = TurnCell::new(alloc, Sum { value: 0 }, 1) else {
         return None;
     };
-    let mut pass = deal(&mut passes);
+    let mut pass = deal(&cell, &mut passes);
     Some(rest_often(rt, &cell, &mut pass, times))
 }

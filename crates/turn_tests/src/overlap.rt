@@ -2,7 +2,7 @@
 ghost use Rattle.std.specs.Prelude.{◌≡◌, []};
 ghost use Rattle.turn_cell.specs.Passes.{IsPassOf, number};
 
-use crate::dealing::{deal, give_back};
+use fixtures::give_back;
 use std::alloc::Global;
 use std::hint::spin_loop;
 use std::sync::Wait;
@@ -65,8 +65,8 @@ pub fn turns_overlap<R: Threads + Wait + Sync>(rt: &R, alloc: Global) -> Option<
         let _ = one.close(ones);
         return None;
     };
-    let a = deal(&mut ones);
-    let b = deal(&mut twos);
+    let a = ones.take_last();
+    let b = twos.take_last();
     let first = AtomicU64::new(0);
     let second = AtomicU64::new(0);
     let ((a, saw_second), (b, saw_first)) = join(

@@ -3,8 +3,8 @@ ghost use Rattle.std.specs.Prelude.{◌≡◌, ◌*◌, ◌%◌, ◌^◌, IfSome
 ghost use Rattle.turn_cell.specs.Passes.{IsPassOf};
 ghost use Rattle.turn_tests.specs.Sums.{HasAdded};
 
-use crate::dealing::{deal, give_back};
 use crate::sum::{Sum, add_one, end};
+use fixtures::give_back;
 use std::alloc::Global;
 use std::sync::Wait;
 use std::thread::{Threads, join};
@@ -52,8 +52,8 @@ pub fn add_by_two<R: Threads + Wait + Sync>(rt: &R, alloc: Global, times: u64) -
     let Ok((cell, mut passes)) = TurnCell::new(alloc, Sum { value: 0 }, 2) else {
         return None;
     };
-    let b = deal(&mut passes);
-    let a = deal(&mut passes);
+    let b = passes.take_last();
+    let a = passes.take_last();
     let (a, b) = add_in_two(rt, &cell, a, b, times);
     give_back(&mut passes, a);
     give_back(&mut passes, b);
@@ -67,10 +67,10 @@ pub fn add_by_four<R: Threads + Wait + Sync>(rt: &R, alloc: Global, times: u64) 
     let Ok((cell, mut passes)) = TurnCell::new(alloc, Sum { value: 0 }, 4) else {
         return None;
     };
-    let d = deal(&mut passes);
-    let c = deal(&mut passes);
-    let b = deal(&mut passes);
-    let a = deal(&mut passes);
+    let d = passes.take_last();
+    let c = passes.take_last();
+    let b = passes.take_last();
+    let a = passes.take_last();
     let ((a, b), (c, d)) = join(
         rt,
         || -> (Pass<Sum>, Pass<Sum>)
@@ -96,7 +96,7 @@ pub fn add_by_one<R: Wait>(rt: &R, alloc: Global, times: u64) -> Option<u64>
     let Ok((cell, mut passes)) = TurnCell::new(alloc, Sum { value: 0 }, 1) else {
         return None;
     };
-    let pass = deal(&mut passes);
+    let pass = passes.take_last();
     let pass = add_many(rt, &cell, pass, times);
     give_back(&mut passes, pass);
     Some(end(cell, passes))

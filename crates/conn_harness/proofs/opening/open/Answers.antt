@@ -11,8 +11,8 @@ use Rattle.conn_harness.proofs.IdLaws.{ids_apart, ids_many, senders_within, rece
 use Rattle.conn_harness.proofs.TaskLaws.{new_tasks, of_front, of_last}
 use Rattle.conn_harness.proofs.opening.open.Goals as goal
 
-pub readers_of-requires : goal.readers_of-requires
-readers_of-requires g c = ids_apart c.args.channels c.as_slice.result.now (c.as_slice.ensures ∙ c.in_ok-ids.ensures)
+pub open_readers-requires : goal.open_readers-requires
+open_readers-requires g c = ids_apart c.args.channels c.as_slice.result.now (c.as_slice.ensures ∙ c.in_ok-ids.ensures)
 
 pub partitions_of-requires-clause-passes : goal.partitions_of-requires-clause-passes
 partitions_of-requires-clause-passes g c = of_front (IsPassReady c.args.pool.now) c.args.passes.items c.pop.new.self.items c.in-Some.gate_pass c.in-Some.ensures.items c.requires.passes

@@ -1,7 +1,7 @@
 use Rattle.std.proofs.Common.{[], ◌∷◌, refl, arith}
 use Rattle.segment_pool.specs.Passes.{number, out}
 use Rattle.segment_pool.specs.Pools.{limits_of}
-use Rattle.exchange_tests.proofs.Dealt.{sum_none}
+use Rattle.exchange_tests.proofs.PoolsClosed.{sum_none}
 use Rattle.exchange_tests.proofs.InOrder.{below}
 use Rattle.exchange_tests.proofs.segment_pool_tests.claim_limits.Goals as goal
 

@@ -5,7 +5,7 @@ use Rattle.segment_pool.specs.declared.pool.Pool.{Pool}
 use Rattle.segment_pool.specs.declared.pass.PoolPass.{PoolPass}
 use Rattle.segment_pool.specs.Passes.{out}
 use Rattle.segment_pool.specs.Pools.{AreInOrder}
-use Rattle.exchange_tests.proofs.Dealt.{sum_none}
+use Rattle.exchange_tests.proofs.PoolsClosed.{sum_none}
 use Rattle.exchange_tests.proofs.segment_pool_tests.claim_thrice.Goals as goal
 
 pub deal-pass-requires-2 : goal.deal-pass-requires-2

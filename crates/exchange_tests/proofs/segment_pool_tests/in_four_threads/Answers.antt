@@ -1,6 +1,6 @@
 use Rattle.std.proofs.Common.{rules, arith}
 use Rattle.segment_pool.specs.Passes.{out}
-use Rattle.exchange_tests.proofs.Dealt.{sum_none}
+use Rattle.exchange_tests.proofs.PoolsClosed.{sum_none}
 use Rattle.exchange_tests.proofs.segment_pool_tests.in_four_threads.Goals as goal
 
 pub join-a-requires-after_bounds : goal.join-a-requires-after_bounds

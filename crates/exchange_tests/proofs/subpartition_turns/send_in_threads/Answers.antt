@@ -1,4 +1,4 @@
-use Rattle.std.proofs.Common.{rules, ◌≡◌, [], ◌∷◌, ◌++◌, sym, ap, ◌∙◌, append-nil}
+use Rattle.std.proofs.Common.{rules, ◌≡◌, [], ◌∷◌, ◌++◌, refl, sym, ap, ◌∙◌, append-nil}
 use Rattle.std.specs.Prelude.{map, option_to_list}
 use Rattle.flow_defs.specs.Parcels.{data_of}
 use lib.ListN.{get_elem?}
@@ -8,26 +8,28 @@ use Rattle.subpartition.specs.declared.entry.SendEntry.TheVariants.{Put}
 use Rattle.turn_cell.specs.History.{entries_of}
 use Rattle.subpartition.specs.Sending.{outbox, put}
 use Rattle.subpartition.specs.Queues.{bytes_of, parcel_of}
-use Rattle.exchange_tests.proofs.SubpartitionDealt.{two_dealt, two_back, two_made, all_two}
+use Rattle.fixtures.proofs.Dealt.{two_dealt, two_back, made_at, all_two}
 use Rattle.exchange_tests.proofs.subpartition_turns.send_in_threads.Goals as goal
 
 pub join-task-requires-after_bounds : goal.join-task-requires-after_bounds
 join-task-requires-after_bounds g c κs within =
-    let made = two_made c.args.cell c.args.passes.items c.deal-sender.new.passes.items c.deal-task.new.passes.items c.deal-task.result c.deal-sender.result c.requires.passes.0 c.deal-sender.ensures.0 c.deal-task.ensures.0 c.requires.passes.1 in
-    ((made.0.0, made.0.1.0, made.0.1.2, c.requires.size), (made.1.0, made.1.1.0, made.1.1.1))
+    let dealt = two_dealt c.args.passes.items c.take_last-sender.new.self.items c.take_last-task.new.self.items c.take_last-task.result c.take_last-sender.result c.take_last-sender.ensures.items c.take_last-task.ensures.items c.requires.passes.1 in
+    let made = made_at c.args.cell c.args.passes.items _ c.requires.passes.0 dealt.1 in
+    let task = made 0 c.take_last-task.result refl in let sender = made 1 c.take_last-sender.result refl in
+    ((task.0, task.1.0, task.1.2, c.requires.size), (sender.0, sender.1.0, sender.1.1))
 
 pub close-left-requires : goal.close-left-requires
 close-left-requires g c =
-    let dealt = two_dealt c.args.passes.items c.deal-sender.new.passes.items c.deal-task.new.passes.items c.deal-task.result c.deal-sender.result c.deal-sender.ensures.0 c.deal-task.ensures.0 c.requires.passes.1 in
+    let dealt = two_dealt c.args.passes.items c.take_last-sender.new.self.items c.take_last-task.new.self.items c.take_last-task.result c.take_last-sender.result c.take_last-sender.ensures.items c.take_last-task.ensures.items c.requires.passes.1 in
     let told = c.join-task.ensures in let task = c.join-task.result.0.0 in let sender = c.join-task.result.1.0 in
-    let back = two_back c.deal-task.new.passes.items c.give_back.new.passes.items c.give_back-2.new.passes.items task sender dealt.0 c.give_back.ensures.0 c.give_back-2.ensures.0 in
+    let back = two_back c.take_last-task.new.self.items c.give_back.new.passes.items c.give_back-2.new.passes.items task sender dealt.0 c.give_back.ensures.items c.give_back-2.ensures.items in
     all_two c.args.cell c.give_back-2.new.passes.items task sender back c.requires.passes.2 (told.first.0, told.first.1) (told.second.0, told.second.1)
 
 pub returns-in-Ok-clause-sent : goal.returns-in-Ok-clause-sent
 returns-in-Ok-clause-sent g c =
-    let dealt = two_dealt c.args.passes.items c.deal-sender.new.passes.items c.deal-task.new.passes.items c.deal-task.result c.deal-sender.result c.deal-sender.ensures.0 c.deal-task.ensures.0 c.requires.passes.1 in
+    let dealt = two_dealt c.args.passes.items c.take_last-sender.new.self.items c.take_last-task.new.self.items c.take_last-task.result c.take_last-sender.result c.take_last-sender.ensures.items c.take_last-task.ensures.items c.requires.passes.1 in
     let told = c.join-task.ensures in let task = c.join-task.result.0.0 in let sender = c.join-task.result.1.0 in
-    let back = two_back c.deal-task.new.passes.items c.give_back.new.passes.items c.give_back-2.new.passes.items task sender dealt.0 c.give_back.ensures.0 c.give_back-2.ensures.0 in
+    let back = two_back c.take_last-task.new.self.items c.give_back.new.passes.items c.give_back-2.new.passes.items task sender dealt.0 c.give_back.ensures.items c.give_back-2.ensures.items in
     let bytes = bytes_of c.args.filled in
     let whole = c.close-left.ensures in let h = whole.history in let stands = whole.stands_for.0 in let size = c.close-left.result.size in
     let own_task : by 0 h ≡ mine task = whole.whole.own 0 task (ap (λ l. get_elem? l 0) back) in

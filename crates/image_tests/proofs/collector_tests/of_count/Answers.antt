@@ -1,6 +1,7 @@
 use Rattle.std.proofs.Common.{[], ◌∷◌, ◌++◌, ap, ◌∙◌, arith}
 use Rattle.collector.specs.Pieces.{IsOutOf}
-use Rattle.image_tests.proofs.CountingJob.{no_keys, none, one_channel, one_run}
+use Rattle.image_tests.proofs.CountingJob.{none, one_channel, one_run}
+use Rattle.image_tests.proofs.NoState.{no_keys}
 use Rattle.image_tests.proofs.collector_tests.of_count.Goals as goal
 
 pub returns-clause-fits : goal.returns-clause-fits

@@ -1,6 +1,7 @@
 use Rattle.std.proofs.Common.{arith}
 use Rattle.collector.specs.Pieces.{IsInto}
-use Rattle.image_tests.proofs.CountingJob.{no_keys, none}
+use Rattle.image_tests.proofs.CountingJob.{none}
+use Rattle.image_tests.proofs.NoState.{no_keys}
 use Rattle.image_tests.proofs.collector_tests.of_source.Goals as goal
 
 pub returns-clause-fits : goal.returns-clause-fits

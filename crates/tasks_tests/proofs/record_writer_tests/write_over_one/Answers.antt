@@ -6,9 +6,9 @@ use Rattle.tasks_tests.proofs.record_writer_tests.write_over_one.Goals as goal
 
 pub run-written-requires-clause-partition : goal.run-written-requires-clause-partition
 run-written-requires-clause-partition g c =
-    let job = c.in_ok-job.job in let made = c.in_ok-job.ensures in let pool = c.shared_pool-pool_cell in
-    let one = c.shared_subpartition-one in let two = c.shared_subpartition-two in let is = sym c.in_ok-subpartitions.ensures in
-    let cells = one.result.0 ∷ two.result.0 ∷ [] in
+    let job = c.in_ok-job.job in let made = c.in_ok-job.ensures in let pool = c.in_ok-pool_cell in
+    let one = c.in_ok-one in let two = c.in_ok-two in let is = sym c.in_ok-subpartitions.ensures in
+    let cells = one.one ∷ two.two ∷ [] in
     let ways = sym (one_way job _ made.edges made.tasks refl) in
     let tasks = two_tasks job _ made.edges made.tasks 0 (omega arith) in record {
       is_job = made.job.0;
@@ -17,11 +17,11 @@ run-written-requires-clause-partition g c =
       passes = record {
         own =
             subst (λ n. AreOwnAt cells 1 2 n c.in_ok-subpartitions.subpartitions.items) ways
-            (subst (AreOwnAt cells 1 2 1) is (second_own one.result.0 two.result.0 one.result.1 two.result.1 two.ensures.task));
+            (subst (AreOwnAt cells 1 2 1) is (second_own one.one two.two one._one_task two.two_task two.ensures.task));
         pool = pool.ensures.pass;
       };
-      new = subst AreNew is (second_new one.result.0 two.result.0 one.result.1 two.result.1 two.ensures.task);
-      sizes = subst (λ n. HaveSizeAt cells 1 2 n 64) ways (second_size one.result.0 two.result.0 one.result.1 two.result.1 one.ensures.size two.ensures.size);
+      new = subst AreNew is (second_new one.one two.two one._one_task two.two_task two.ensures.task);
+      sizes = subst (λ n. HaveSizeAt cells 1 2 n 64) ways (second_size one.one two.two one._one_task two.two_task one.ensures.size two.ensures.size);
       pool_size = pool.ensures.size ∙ c.requires.pool.1;
       few = omega arith;
     }

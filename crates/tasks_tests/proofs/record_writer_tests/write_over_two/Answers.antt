@@ -6,9 +6,9 @@ use Rattle.tasks_tests.proofs.record_writer_tests.write_over_two.Goals as goal
 
 pub run-written-requires-clause-partition : goal.run-written-requires-clause-partition
 run-written-requires-clause-partition g c =
-    let job = c.in_ok-job.job in let made = c.in_ok-job.ensures in let pool = c.shared_pool-pool_cell in
-    let one = c.shared_subpartition-one in let two = c.shared_subpartition-two in let is = sym c.in_ok-subpartitions.ensures in
-    let cells = one.result.0 ∷ two.result.0 ∷ [] in
+    let job = c.in_ok-job.job in let made = c.in_ok-job.ensures in let pool = c.in_ok-pool_cell in
+    let one = c.in_ok-one in let two = c.in_ok-two in let is = sym c.in_ok-subpartitions.ensures in
+    let cells = one.one ∷ two.two ∷ [] in
     let ways = sym (two_ways job _ made.edges made.tasks refl c.args.edge c.requires.edge) in
     let tasks = two_tasks job _ made.edges made.tasks c.args.edge c.requires.edge in record {
       is_job = made.job.0;
@@ -17,11 +17,11 @@ run-written-requires-clause-partition g c =
       passes = record {
         own =
             subst (λ n. AreOwnAt cells 0 1 n c.in_ok-subpartitions.subpartitions.items) ways
-            (subst (AreOwnAt cells 0 1 2) is (both_own one.result.0 two.result.0 one.result.1 two.result.1 one.ensures.task two.ensures.task));
+            (subst (AreOwnAt cells 0 1 2) is (both_own one.one two.two one.one_task two.two_task one.ensures.task two.ensures.task));
         pool = pool.ensures.pass;
       };
-      new = subst AreNew is (both_new one.result.0 two.result.0 one.result.1 two.result.1 one.ensures.task two.ensures.task);
-      sizes = subst (λ n. HaveSizeAt cells 0 1 n 64) ways (both_sizes one.result.0 two.result.0 one.result.1 two.result.1 one.ensures.size two.ensures.size);
+      new = subst AreNew is (both_new one.one two.two one.one_task two.two_task one.ensures.task two.ensures.task);
+      sizes = subst (λ n. HaveSizeAt cells 0 1 n 64) ways (both_sizes one.one two.two one.one_task two.two_task one.ensures.size two.ensures.size);
       pool_size = pool.ensures.size ∙ c.requires.pool.1;
       few = omega arith;
     }

@@ -4,15 +4,15 @@ use Rattle.flow_defs.specs.declared.job.StageKind.TheVariants.{Upper}
 use Rattle.stage_fns.specs.Functions.{Functions, HasStage, HasAgg, with_stage, with_agg}
 use Rattle.conn_parts.specs.Shares.{AreNew}
 use Rattle.record_writer.specs.Writers.{AreOwnAt, HaveSizeAt}
-use Rattle.tasks_tests.proofs.StageTaskOneChannel.{one_own, one_new, one_size, one_way}
+use Rattle.tasks_tests.proofs.OneChannel.{one_own, one_new, one_size, one_way}
 use Rattle.tasks_tests.proofs.stage_task_tests.stage_sends.Goals as goal
 
 pub stage-end-requires-clause-lent : goal.stage-end-requires-clause-lent
 stage-end-requires-clause-lent g c =
-    let job = c.in_ok-job.job in let made = c.in_ok-job.ensures in let pool = c.shared_pool-pool_cell in
-    let one = c.shared_subpartition-cell in let is = sym c.in_ok-subpartitions.ensures in
+    let job = c.in_ok-job.job in let made = c.in_ok-job.ensures in let pool = c.in_ok-pool_cell in
+    let one = c.in_ok-cell in let is = sym c.in_ok-subpartitions.ensures in
     let ends = c.in_ok-channel.ensures in
-    let cells = one.result.0 ∷ [] in
+    let cells = one.cell ∷ [] in
     let way = sym (one_way job 1 made.edges.1 made.tasks.2) in record {
       partition_is = record {
         is_job = made.job.0;
@@ -21,11 +21,11 @@ stage-end-requires-clause-lent g c =
         passes = record {
           own =
               subst (λ n. AreOwnAt cells 0 1 n c.in_ok-subpartitions.subpartitions.items) way
-              (subst (AreOwnAt cells 0 1 1) is (one_own one.result.0 one.result.1 one.ensures.task.0 one.ensures.task.1));
+              (subst (AreOwnAt cells 0 1 1) is (one_own one.cell one.task one.ensures.task.0 one.ensures.task.1));
           pool = pool.ensures.pass;
         };
-        new = subst AreNew is (one_new one.result.0 one.result.1 one.ensures.task.2);
-        sizes = subst (λ n. HaveSizeAt cells 0 1 n 64) way (one_size one.result.0 one.result.1 one.ensures.size);
+        new = subst AreNew is (one_new one.cell one.task one.ensures.task.2);
+        sizes = subst (λ n. HaveSizeAt cells 0 1 n 64) way (one_size one.cell one.task one.ensures.size);
         pool_size = pool.ensures.size ∙ c.requires.pool.1;
         few = omega arith;
       };

@@ -8,4 +8,4 @@ join-pass-requires-after_bounds g t c κs within = let is = c.in-Some.ensures.it
     (last_goes c.args.shared.now c.args.passes.items rest c.in-Some.pass is c.requires, ((let d : 2 * length c.args.passes.items ≡ t = c.decreases in let f : 2 * length rest + 1 < t = omega arith in f), (search rules, (rest_goes c.args.shared.now c.args.passes.items rest c.in-Some.pass is c.requires, search rules))))
 
 pub returns-clause-back : goal.returns-clause-back
-returns-clause-back g t c = comes_back c.args.shared.now c.args.passes.items c.pop.new.self.items c.join-pass.result.1.items c.give_back.new.passes.items c.in-Some.pass c.join-pass.result.0 c.in-Some.ensures.items c.give_back.ensures.0 c.join-pass.ensures.second.0 c.join-pass.ensures.first
+returns-clause-back g t c = comes_back c.args.shared.now c.args.passes.items c.pop.new.self.items c.join-pass.result.1.items c.give_back.new.passes.items c.in-Some.pass c.join-pass.result.0 c.in-Some.ensures.items c.give_back.ensures.items c.join-pass.ensures.second.0 c.join-pass.ensures.first

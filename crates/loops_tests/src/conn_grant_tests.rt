@@ -6,7 +6,7 @@ ghost use Rattle.outside.specs.Stops.{is_fault};
 use crate::slow_links::{CLOSING, SlowIn};
 use conn_parts::{ConnShare, LoopEnd, SharePasses};
 use conn_read_control::read_control;
-use fixtures::{deal, open_readers, open_stop};
+use fixtures::{deal, list_of_one, open_readers, open_stop};
 use flow_defs::{Cause, ChannelId, Head, ListOf, PeerFault};
 use outside::{look_for_stop, tell_stop};
 use reader_state::{next_to_send, tell_ready};
@@ -135,8 +135,7 @@ fn run<R: Wait + Abort>(
         tell_stop(rt, &stop, &mut other, cause);
     }
     tell_ready(rt, &readers, &mut writer, CHANNEL, Head::Buffer, 1);
-    let mut size_passes = ListOf::new(alloc);
-    size_passes.push(sizes)?;
+    let size_passes = list_of_one(alloc, sizes)?;
     let subpartitions = [subpartition];
     let share = ConnShare {
         channels: &channels,

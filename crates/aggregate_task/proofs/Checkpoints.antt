@@ -16,7 +16,7 @@ use Rattle.snapshot_channel.specs.Passes.{sent_by}
 use Rattle.task_output.specs.Waiting.{LastIs, KnowsLast, HasWaited, SeenIsWaited, WaitedStays}
 use Rattle.task_taking.specs.Takings.{Taking, HasTaken, IsInStep}
 use Rattle.task_taking.specs.Endings.{ResumedIsGiven, IsTakerEnd}
-use Rattle.aggregate_task.specs.declared.acks.Acks.{Acks}
+use Rattle.aggregate_task.specs.declared.checkpoint.AggregateOutput.{AggregateOutput}
 use Rattle.aggregate_task.specs.Snapshots.{AreSnapshots, SentSnapshot, all_taken}
 use Rattle.aggregate_task.specs.Acknowledging.{IsSame, IsCountUnderWay, IsAtCheckpoint, BreaksFor}
 use Rattle.aggregate_task.specs.Aggregates.{AggregateAccount}
@@ -30,51 +30,51 @@ waited_one law None history earlier (suc before) last not_last knows = absurd (c
 waited_one law (Some n) history earlier (suc before) last not_last knows = law history (suc before) last knows
 
 -- a task breaks off so at any time
-pub broke_end : (every : Option ℕ) (history : List (ℕ × Stored)) (gate : Account) (groups : List (List (ℕ × List ℕ))) (rest : List (ℕ × List ℕ)) (acks : Acks) (cause : Cause) → BreaksFor acks cause → IsTakerEnd every history gate groups rest cause
-broke_end every history gate groups rest acks cause breaks = elim breaks [
+pub broke_end : (every : Option ℕ) (history : List (ℕ × Stored)) (gate : Account) (groups : List (List (ℕ × List ℕ))) (rest : List (ℕ × List ℕ)) (out : AggregateOutput) (cause : Cause) → BreaksFor out cause → IsTakerEnd every history gate groups rest cause
+broke_end every history gate groups rest out cause breaks = elim breaks [
   | inl memory ↦ subst (IsTakerEnd every history gate groups rest) (sym memory) tt
   | inr stopped ↦ subst (IsTakerEnd every history gate groups rest) (sym stopped.0) tt
 ]
 
-pub next_number : (gate : Account) (taking : Taking) (counts : Values) (acks : Acks) (k : ℕ) → IsAtCheckpoint gate taking counts acks k → k ≡ suc (length (sent_by acks.pass))
-next_number gate taking counts acks k at = at.number ∙ ap suc (sym (as_many acks.job.now acks.index 0 empty at.groups (sent_by acks.pass) at.counted.snapshots))
+pub next_number : (gate : Account) (taking : Taking) (counts : Values) (out : AggregateOutput) (k : ℕ) → IsAtCheckpoint gate taking counts out k → k ≡ suc (length (sent_by out.acks.pass))
+next_number gate taking counts out k at = at.number ∙ ap suc (sym (as_many out.job.now out.index 0 empty at.groups (sent_by out.acks.pass) at.counted.snapshots))
 
-module _ (law : ResumedIsGiven) (waits : SeenIsWaited) (stays : WaitedStays) (gate gate' : Account) (taking taking' : Taking) (counts : Values) (acks acks' : Acks) (k : ℕ) (at : IsAtCheckpoint gate taking counts acks k) (same : IsSame acks acks') where
+module _ (law : ResumedIsGiven) (waits : SeenIsWaited) (stays : WaitedStays) (gate gate' : Account) (taking taking' : Taking) (counts : Values) (out out' : AggregateOutput) (k : ℕ) (at : IsAtCheckpoint gate taking counts out k) (same : IsSame out out') where
   -- the channels are resumed, and the runs are those of what was taken
-  module _ (runs : List TakeRun) (takes : RunsTake acks.job.now (last_edge acks.job.now) acks.index runs at.took) (taken : HasTaken acks.job.now (last_edge acks.job.now) acks.index gate' taking' (at.groups ++ at.took ∷ []) []) where
-    pub goes_on : (last : Bool) → IsInStep gate' taking' → SentSnapshot acks.job.now acks.index k counts runs (sent_by acks.pass) (sent_by acks'.pass) → KnowsLast acks.every (seen acks'.last_pass) (length (sent_by acks.pass)) last → IsCountUnderWay gate' taking' counts acks' last
+  module _ (runs : List TakeRun) (takes : RunsTake out.job.now (last_edge out.job.now) out.index runs at.took) (taken : HasTaken out.job.now (last_edge out.job.now) out.index gate' taking' (at.groups ++ at.took ∷ []) []) where
+    pub goes_on : (last : Bool) → IsInStep gate' taking' → SentSnapshot out.job.now out.index k counts runs (sent_by out.acks.pass) (sent_by out'.acks.pass) → KnowsLast out.every (seen out'.acks.last_pass) (length (sent_by out.acks.pass)) last → IsCountUnderWay gate' taking' counts out' last
     goes_on last in_step sent knows =
-        let many = as_many acks.job.now acks.index 0 empty at.groups (sent_by acks.pass) at.counted.snapshots in
+        let many = as_many out.job.now out.index 0 empty at.groups (sent_by out.acks.pass) at.counted.snapshots in
         let longer : length (at.groups ++ at.took ∷ []) ≡ suc (length at.groups) = length-append at.groups (at.took ∷ []) ∙ omega arith in
-        let history = seen acks'.last_pass in
-        let knows_it : KnowsLast acks.every history (length at.groups) last = subst (λ n. KnowsLast acks.every history n last) many knows in
+        let history = seen out'.acks.last_pass in
+        let knows_it : KnowsLast out.every history (length at.groups) last = subst (λ n. KnowsLast out.every history n last) many knows in
         record {
           groups = at.groups ++ at.took ∷ [];
           took = [];
-          taken = moved acks acks' same (λ j b e. HasTaken j (last_edge j) b gate' taking' (at.groups ++ at.took ∷ []) []) taken;
+          taken = moved out out' same (λ j b e. HasTaken j (last_edge j) b gate' taking' (at.groups ++ at.took ∷ []) []) taken;
           in_step = in_step;
           counted = record {
-            counted = moved acks acks' same (λ j b e. counts ≡ table_of j.agg (records (all_taken (at.groups ++ at.took ∷ []) ++ [])))
-                (at.counted.counted ∙ ap (λ l. table_of acks.job.now.agg (records l)) (sym (append-nil (all_taken (at.groups ++ at.took ∷ [])) ∙ all_more at.groups at.took)));
+            counted = moved out out' same (λ j b e. counts ≡ table_of j.agg (records (all_taken (at.groups ++ at.took ∷ []) ++ [])))
+                (at.counted.counted ∙ ap (λ l. table_of out.job.now.agg (records l)) (sym (append-nil (all_taken (at.groups ++ at.took ∷ [])) ∙ all_more at.groups at.took)));
             keys = at.counted.keys;
-            snapshots = moved acks acks' same (λ j b e. AreSnapshots j b 0 empty (at.groups ++ at.took ∷ []) (sent_by acks'.pass))
-                (subst (AreSnapshots acks.job.now acks.index 0 empty (at.groups ++ at.took ∷ [])) (sym sent.sent)
-                (snapshots_more acks.job.now acks.index 0 empty at.groups (sent_by acks.pass) at.took sent.snapshot at.counted.snapshots
-                (with_group acks.job.now acks.index k (suc (0 + length at.groups)) (table_of acks.job.now.agg (records (all_taken at.groups ++ at.took))) counts runs at.took sent.snapshot sent.is_with (at.number ∙ omega arith) at.counted.counted takes)));
-            waited = subst (λ n. HasWaited n history) (sym longer) (waited_one waits acks.every history (seen acks.last_pass) (length at.groups) last at.not_last knows_it);
+            snapshots = moved out out' same (λ j b e. AreSnapshots j b 0 empty (at.groups ++ at.took ∷ []) (sent_by out'.acks.pass))
+                (subst (AreSnapshots out.job.now out.index 0 empty (at.groups ++ at.took ∷ [])) (sym sent.sent)
+                (snapshots_more out.job.now out.index 0 empty at.groups (sent_by out.acks.pass) at.took sent.snapshot at.counted.snapshots
+                (with_group out.job.now out.index k (suc (0 + length at.groups)) (table_of out.job.now.agg (records (all_taken at.groups ++ at.took))) counts runs at.took sent.snapshot sent.is_with (at.number ∙ omega arith) at.counted.counted takes)));
+            waited = subst (λ n. HasWaited n history) (sym longer) (waited_one waits out.every history (seen out.acks.last_pass) (length at.groups) last at.not_last knows_it);
           };
-          last_is = moved acks acks' same (λ j b e. LastIs e history (length (at.groups ++ at.took ∷ [])) last) (subst (λ n. LastIs acks.every history n last) (sym longer) knows_it);
+          last_is = moved out out' same (λ j b e. LastIs e history (length (at.groups ++ at.took ∷ [])) last) (subst (λ n. LastIs out.every history n last) (sym longer) knows_it);
           none_behind = λ is. refl;
         }
 
-    pub breaks_off : (left : List TakeRun) (cause : Cause) → is_open taking'.alignment ≡ false → left ≡ runs → sent_by acks'.pass ≡ sent_by acks.pass → BreaksFor acks' cause → AggregateAccount acks'.job.now acks'.index acks'.every gate' (sent_by acks'.pass) (seen acks'.last_pass) left cause
-    breaks_off left cause closed are unsent breaks = moved acks acks' same (λ j b e. AggregateAccount j b e gate' (sent_by acks'.pass) (seen acks'.last_pass) left cause) (record {
+    pub breaks_off : (left : List TakeRun) (cause : Cause) → is_open taking'.alignment ≡ false → left ≡ runs → sent_by out'.acks.pass ≡ sent_by out.acks.pass → BreaksFor out' cause → AggregateAccount out'.job.now out'.index out'.every gate' (sent_by out'.acks.pass) (seen out'.acks.last_pass) left cause
+    breaks_off left cause closed are unsent breaks = moved out out' same (λ j b e. AggregateAccount j b e gate' (sent_by out'.acks.pass) (seen out'.acks.last_pass) left cause) (record {
       groups = at.groups;
       rest = at.took;
-      given = law acks.job.now (last_edge acks.job.now) acks.index gate' taking' at.groups at.took taken closed;
-      snapshots = subst (AreSnapshots acks.job.now acks.index 0 empty at.groups) (sym unsent) at.counted.snapshots;
-      takes_are = subst (λ l. RunsTake acks.job.now (last_edge acks.job.now) acks.index l at.took) (sym are) takes;
-      waited = stays (length (sent_by acks'.pass)) (seen acks.last_pass) (seen acks'.last_pass) same.later
-          (subst (λ n. HasWaited n (seen acks.last_pass)) (sym (ap length unsent ∙ as_many acks.job.now acks.index 0 empty at.groups (sent_by acks.pass) at.counted.snapshots)) at.counted.waited);
-      cause_is = broke_end acks.every (seen acks'.last_pass) gate' at.groups at.took acks' cause breaks;
+      given = law out.job.now (last_edge out.job.now) out.index gate' taking' at.groups at.took taken closed;
+      snapshots = subst (AreSnapshots out.job.now out.index 0 empty at.groups) (sym unsent) at.counted.snapshots;
+      takes_are = subst (λ l. RunsTake out.job.now (last_edge out.job.now) out.index l at.took) (sym are) takes;
+      waited = stays (length (sent_by out'.acks.pass)) (seen out.acks.last_pass) (seen out'.acks.last_pass) same.acks.later
+          (subst (λ n. HasWaited n (seen out.acks.last_pass)) (sym (ap length unsent ∙ as_many out.job.now out.index 0 empty at.groups (sent_by out.acks.pass) at.counted.snapshots)) at.counted.waited);
+      cause_is = broke_end out.every (seen out'.acks.last_pass) gate' at.groups at.took out' cause breaks;
     })

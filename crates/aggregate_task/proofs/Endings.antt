@@ -1,5 +1,5 @@
 -- How an aggregate task begins and ends.
-use Rattle.std.proofs.Common.{◌≡◌, ◌≢◌, ◌⊎◌, ℕ, false, List, [], ◌∷◌, ◌++◌, Option, refl, sym, ap, subst, ◌∙◌, inl, inr}
+use Rattle.std.proofs.Common.{◌≡◌, ◌≢◌, ◌⊎◌, ℕ, false, List, [], ◌∷◌, ◌++◌, length, Option, refl, sym, ap, subst, ◌∙◌, inl, inr, arith}
 use Rattle.turn_cell.specs.History.{StartsWith}
 use Rattle.turn_cell.specs.Passes.{IsSamePass, seen}
 use Rattle.flow_defs.specs.declared.cause.Cause.{Cause}
@@ -11,9 +11,15 @@ use Rattle.outside.specs.declared.last_image.Stored.{Stored}
 use Rattle.outside.specs.Stops.{told_of}
 use Rattle.conn_parts.specs.Stopping.{StopCell, StopPass}
 use Rattle.input_gate.specs.Gates.{Account, IsNew}
+use Rattle.snapshot_channel.specs.declared.views.Opening.{Opening}
+use Rattle.snapshot_channel.specs.Passes.{sent_by}
 use Rattle.task_output.specs.Ending.{EndsAs, ToldAtEnd}
 use Rattle.task_taking.specs.Endings.{IsTakerEnd, ToldStop}
-use Rattle.aggregate_task.specs.Aggregates.{AggregateAccount}
+use Rattle.aggregate_task.specs.declared.checkpoint.AggregateOutput.{AggregateOutput}
+use Rattle.aggregate_task.specs.declared.checkpoint.Ending.{Ending}
+use Rattle.aggregate_task.specs.Acknowledging.{IsAcking, IsSame}
+use Rattle.aggregate_task.specs.Aggregates.{AggregateAccount, HasAccount}
+use Rattle.aggregate_task.proofs.Acknowledging.{moved_back}
 
 -- it found no memory at its start
 pub account_unsent : (job : Job) (b : ℕ) (every : Option ℕ) (gate : Account) (sent : List Snapshot) (history : List (ℕ × Stored)) (takes : List TakeRun) → IsNew gate → sent ≡ [] → takes ≡ [] → AggregateAccount job b every gate sent history takes causes.Memory
@@ -41,6 +47,20 @@ account_ended job b every gate sent history takes cause told ends was = record {
     | inr stopped ↦ subst (IsTakerEnd every history gate was.groups was.rest) (sym stopped.1) tt
   ];
 }
+
+-- the account of what the task hands back is the same
+pub account_of_same : (out out' : AggregateOutput) (gate gate' : Account) (sent : List Snapshot) (history : List (ℕ × Stored)) (takes : List TakeRun) (end : Ending) → IsSame out out' → gate' ≡ gate → sent ≡ sent_by out'.acks.pass → history ≡ seen out'.acks.last_pass → takes ≡ end.takes.items
+    → HasAccount gate out' end → AggregateAccount out.job.now out.index out.every gate' sent history takes end.cause
+account_of_same out out' gate gate' sent history takes end same gate_is sent_is history_is takes_are was =
+    moved_back out out' same (λ j b e. AggregateAccount j b e gate' sent history takes end.cause)
+    (subst (λ (x : Account). AggregateAccount out'.job.now out'.index out'.every x sent history takes end.cause) (sym gate_is)
+    (subst (λ (l : List Snapshot). AggregateAccount out'.job.now out'.index out'.every gate l history takes end.cause) (sym sent_is)
+    (subst (λ (l : List (ℕ × Stored)). AggregateAccount out'.job.now out'.index out'.every gate (sent_by out'.acks.pass) l takes end.cause) (sym history_is)
+    (subst (λ (l : List TakeRun). AggregateAccount out'.job.now out'.index out'.every gate (sent_by out'.acks.pass) (seen out'.acks.last_pass) l end.cause) (sym takes_are) was))))
+
+-- it has sent as many snapshots as it knows
+pub counts_sent : (out : AggregateOutput) → IsAcking out → out.acks.number ≡ length (sent_by out.acks.pass)
+counts_sent out own = own.passes.number_is ∙ omega (arith, ap (λ (o : Opening). o.base) own.opened)
 
 seen_later : {X : Type 0} (xs ys : List X) → StartsWith xs ys → ys ≢ [] → xs ≢ []
 seen_later xs [] more some = absurd (some refl)

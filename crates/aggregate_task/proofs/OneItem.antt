@@ -24,7 +24,7 @@ use Rattle.task_taking.specs.Takings.{Taking, HasTaken, IsInStep, AllBlocked}
 use Rattle.task_taking.specs.Steps.{TookNext, TakingGoesOn, IsTakerCause}
 use Rattle.task_taking.specs.Endings.{TakenIsGiven, BarrierIsGiven, IsTakerEnd}
 use Rattle.task_taking.proofs.InStep.{all_stopped}
-use Rattle.aggregate_task.specs.declared.acks.Acks.{Acks}
+use Rattle.aggregate_task.specs.declared.checkpoint.AggregateOutput.{AggregateOutput}
 use Rattle.aggregate_task.specs.Snapshots.{all_taken}
 use Rattle.aggregate_task.specs.Acknowledging.{IsCountUnderWay, IsAtCheckpoint}
 use Rattle.aggregate_task.specs.Aggregates.{AggregateAccount}
@@ -39,8 +39,8 @@ some_behind [] x = λ e. cc
 some_behind (y ∷ xs) x = λ e. cc
 
 -- it begins
-pub begins : (gate : Account) (taking : Taking) (acks : Acks) (counts : Values) → counts ≡ empty → sent_by acks.pass ≡ [] → HasTaken acks.job.now (last_edge acks.job.now) acks.index gate taking [] [] → IsInStep gate taking → IsCountUnderWay gate taking counts acks false
-begins gate taking acks counts none unsent taken in_step = record {
+pub begins : (gate : Account) (taking : Taking) (out : AggregateOutput) (counts : Values) → counts ≡ empty → sent_by out.acks.pass ≡ [] → HasTaken out.job.now (last_edge out.job.now) out.index gate taking [] [] → IsInStep gate taking → IsCountUnderWay gate taking counts out false
+begins gate taking out counts none unsent taken in_step = record {
   groups = [];
   took = [];
   taken = taken;
@@ -50,9 +50,9 @@ begins gate taking acks counts none unsent taken in_step = record {
   none_behind = λ is. absurd (cc);
 }
 
-module _ (gate gate' : Account) (taking taking' : Taking) (counts : Values) (acks : Acks) (last : Bool) (way : IsCountUnderWay gate taking counts acks last) where
+module _ (gate gate' : Account) (taking taking' : Taking) (counts : Values) (out : AggregateOutput) (last : Bool) (way : IsCountUnderWay gate taking counts out last) where
   abbrev Took : Taken → Type 0
-  Took t = TookNext acks.job.now (last_edge acks.job.now) acks.index gate' taking' way.groups way.took (Ok t)
+  Took t = TookNext out.job.now (last_edge out.job.now) out.index gate' taking' way.groups way.took (Ok t)
 
   pub took_here : (t t' : Taken) → t ≡ t' → Took t → Took t'
   took_here t t' is next = subst Took is next
@@ -61,16 +61,16 @@ module _ (gate gate' : Account) (taking taking' : Taking) (counts : Values) (ack
   goes_here t t' is goes = subst (λ (t : Taken). TakingGoesOn gate' taking taking' (Ok t)) is goes
 
   -- it took a record
-  pub counts_line : (line : Items ℕ) (counts' : Values) → Took (taken.Line line) → IsInStep gate' taking' → last ≡ false → counts' ≡ add acks.job.now.agg counts line.items → IsCountUnderWay gate' taking' counts' acks last
+  pub counts_line : (line : Items ℕ) (counts' : Values) → Took (taken.Line line) → IsInStep gate' taking' → last ≡ false → counts' ≡ add out.job.now.agg counts line.items → IsCountUnderWay gate' taking' counts' out last
   counts_line line counts' next in_step going counted = record {
     groups = way.groups;
     took = way.took ++ (next.1.0, line.items) ∷ [];
     taken = next.1.1;
     in_step = in_step;
     counted = record {
-      counted = counted ∙ ap (λ t. add acks.job.now.agg t line.items) way.counted.counted ∙ sym (with_more acks.job.now empty (all_taken way.groups ++ way.took) ((next.1.0, line.items) ∷ []))
-          ∙ ap (λ l. table_of acks.job.now.agg (records l)) (append_assoc (all_taken way.groups) way.took ((next.1.0, line.items) ∷ []));
-      keys = subst HasShortKeys (sym counted) (added_keys acks.job.now.agg counts line.items way.counted.keys next.0);
+      counted = counted ∙ ap (λ t. add out.job.now.agg t line.items) way.counted.counted ∙ sym (with_more out.job.now empty (all_taken way.groups ++ way.took) ((next.1.0, line.items) ∷ []))
+          ∙ ap (λ l. table_of out.job.now.agg (records l)) (append_assoc (all_taken way.groups) way.took ((next.1.0, line.items) ∷ []));
+      keys = subst HasShortKeys (sym counted) (added_keys out.job.now.agg counts line.items way.counted.keys next.0);
       snapshots = way.counted.snapshots;
       waited = way.counted.waited;
     };
@@ -79,7 +79,7 @@ module _ (gate gate' : Account) (taking taking' : Taking) (counts : Values) (ack
   }
 
   -- it came to a checkpoint
-  pub comes_to : (k : ℕ) → Took (taken.Checkpoint k) → AllBlocked gate' taking' → last ≡ false → IsAtCheckpoint gate' taking' counts acks k
+  pub comes_to : (k : ℕ) → Took (taken.Checkpoint k) → AllBlocked gate' taking' → last ≡ false → IsAtCheckpoint gate' taking' counts out k
   comes_to k next blocked going = record {
     groups = way.groups;
     took = way.took;
@@ -87,43 +87,43 @@ module _ (gate gate' : Account) (taking taking' : Taking) (counts : Values) (ack
     blocked = blocked;
     counted = way.counted;
     number = next.1;
-    not_last = subst (LastIs acks.every (seen acks.last_pass) (length way.groups)) going way.last_is;
+    not_last = subst (LastIs out.every (seen out.acks.last_pass) (length way.groups)) going way.last_is;
   }
 
   -- ---- it ends
 
   module _ (law : TakenIsGiven) where
-    ended : (took : List (ℕ × List ℕ)) (takes : List TakeRun) (cause : Cause) → takes ≡ taking'.runs → HasTaken acks.job.now (last_edge acks.job.now) acks.index gate' taking' way.groups took → IsTakerEnd acks.every (seen acks.last_pass) gate' way.groups took cause
-        → AggregateAccount acks.job.now acks.index acks.every gate' (sent_by acks.pass) (seen acks.last_pass) takes cause
+    ended : (took : List (ℕ × List ℕ)) (takes : List TakeRun) (cause : Cause) → takes ≡ taking'.runs → HasTaken out.job.now (last_edge out.job.now) out.index gate' taking' way.groups took → IsTakerEnd out.every (seen out.acks.last_pass) gate' way.groups took cause
+        → AggregateAccount out.job.now out.index out.every gate' (sent_by out.acks.pass) (seen out.acks.last_pass) takes cause
     ended took takes cause are has cause_is = record {
       groups = way.groups;
       rest = took;
-      given = law acks.job.now (last_edge acks.job.now) acks.index gate' taking' way.groups took has;
+      given = law out.job.now (last_edge out.job.now) out.index gate' taking' way.groups took has;
       snapshots = way.counted.snapshots;
       takes_are = rw are has.takes;
-      waited = subst (λ n. HasWaited n (seen acks.last_pass)) (sym (as_many acks.job.now acks.index 0 empty way.groups (sent_by acks.pass) way.counted.snapshots)) way.counted.waited;
+      waited = subst (λ n. HasWaited n (seen out.acks.last_pass)) (sym (as_many out.job.now out.index 0 empty way.groups (sent_by out.acks.pass) way.counted.snapshots)) way.counted.waited;
       cause_is = cause_is;
     }
 
-    pub line_ended : (line : Items ℕ) (takes : List TakeRun) (cause : Cause) → takes ≡ taking'.runs → Took (taken.Line line) → (cause ≡ causes.Memory) ⊎ ((last ≡ true) × (cause ≡ causes.Peer peers.Barrier)) → AggregateAccount acks.job.now acks.index acks.every gate' (sent_by acks.pass) (seen acks.last_pass) takes cause
+    pub line_ended : (line : Items ℕ) (takes : List TakeRun) (cause : Cause) → takes ≡ taking'.runs → Took (taken.Line line) → (cause ≡ causes.Memory) ⊎ ((last ≡ true) × (cause ≡ causes.Peer peers.Barrier)) → AggregateAccount out.job.now out.index out.every gate' (sent_by out.acks.pass) (seen out.acks.last_pass) takes cause
     line_ended line takes cause are next why =
         ended (way.took ++ (next.1.0, line.items) ∷ []) takes cause are next.1.1 (elim why [
-          | inl memory ↦ subst (IsTakerEnd acks.every (seen acks.last_pass) gate' way.groups (way.took ++ (next.1.0, line.items) ∷ [])) (sym memory) tt
-          | inr behind ↦ subst (IsTakerEnd acks.every (seen acks.last_pass) gate' way.groups (way.took ++ (next.1.0, line.items) ∷ [])) (sym behind.1)
-              (inr (inr (subst (LastIs acks.every (seen acks.last_pass) (length way.groups)) behind.0 way.last_is, inl (some_behind way.took (next.1.0, line.items)))))
+          | inl memory ↦ subst (IsTakerEnd out.every (seen out.acks.last_pass) gate' way.groups (way.took ++ (next.1.0, line.items) ∷ [])) (sym memory) tt
+          | inr behind ↦ subst (IsTakerEnd out.every (seen out.acks.last_pass) gate' way.groups (way.took ++ (next.1.0, line.items) ∷ [])) (sym behind.1)
+              (inr (inr (subst (LastIs out.every (seen out.acks.last_pass) (length way.groups)) behind.0 way.last_is, inl (some_behind way.took (next.1.0, line.items)))))
         ])
 
     pub all_ended : (takes : List TakeRun) (cause : Cause) → takes ≡ taking'.runs → Took taken.AllEnded
-        → ((last ≡ true) × (cause ≡ causes.Done)) ⊎ ((last ≡ false) × (cause ≡ causes.Peer peers.Barrier)) → AggregateAccount acks.job.now acks.index acks.every gate' (sent_by acks.pass) (seen acks.last_pass) takes cause
+        → ((last ≡ true) × (cause ≡ causes.Done)) ⊎ ((last ≡ false) × (cause ≡ causes.Peer peers.Barrier)) → AggregateAccount out.job.now out.index out.every gate' (sent_by out.acks.pass) (seen out.acks.last_pass) takes cause
     all_ended takes cause are next why =
         ended way.took takes cause are next.0 (elim why [
-          | inl done ↦ subst (IsTakerEnd acks.every (seen acks.last_pass) gate' way.groups way.took) (sym done.1)
-              (next.1, way.none_behind done.0, subst (LastIs acks.every (seen acks.last_pass) (length way.groups)) done.0 way.last_is)
-          | inr early ↦ subst (IsTakerEnd acks.every (seen acks.last_pass) gate' way.groups way.took) (sym early.1)
-              (inr (inl (subst (LastIs acks.every (seen acks.last_pass) (length way.groups)) early.0 way.last_is, next.1)))
+          | inl done ↦ subst (IsTakerEnd out.every (seen out.acks.last_pass) gate' way.groups way.took) (sym done.1)
+              (next.1, way.none_behind done.0, subst (LastIs out.every (seen out.acks.last_pass) (length way.groups)) done.0 way.last_is)
+          | inr early ↦ subst (IsTakerEnd out.every (seen out.acks.last_pass) gate' way.groups way.took) (sym early.1)
+              (inr (inl (subst (LastIs out.every (seen out.acks.last_pass) (length way.groups)) early.0 way.last_is, next.1)))
         ])
 
-    taker_end : (cause : Cause) → IsTakerCause gate' cause → cause ≢ causes.Done → IsTakerEnd acks.every (seen acks.last_pass) gate' way.groups way.took cause
+    taker_end : (cause : Cause) → IsTakerCause gate' cause → cause ≢ causes.Done → IsTakerEnd out.every (seen out.acks.last_pass) gate' way.groups way.took cause
     taker_end causes.Done is other = absurd (other refl)
     taker_end causes.Stopped is other = tt
     taker_end (causes.Peer peers.Left) is other = is
@@ -131,23 +131,23 @@ module _ (gate gate' : Account) (taking taking' : Taking) (counts : Values) (ack
     taker_end causes.Memory is other = tt
     taker_end cause is other = absurd is
 
-    pub gate_ended : (takes : List TakeRun) (cause cause' : Cause) → takes ≡ taking'.runs → cause' ≡ cause → TookNext acks.job.now (last_edge acks.job.now) acks.index gate' taking' way.groups way.took (Err cause) → AggregateAccount acks.job.now acks.index acks.every gate' (sent_by acks.pass) (seen acks.last_pass) takes cause'
-    gate_ended takes cause cause' are same next = ended way.took takes cause' are next.0 (subst (IsTakerEnd acks.every (seen acks.last_pass) gate' way.groups way.took) (sym same) (taker_end cause next.1 next.2))
+    pub gate_ended : (takes : List TakeRun) (cause cause' : Cause) → takes ≡ taking'.runs → cause' ≡ cause → TookNext out.job.now (last_edge out.job.now) out.index gate' taking' way.groups way.took (Err cause) → AggregateAccount out.job.now out.index out.every gate' (sent_by out.acks.pass) (seen out.acks.last_pass) takes cause'
+    gate_ended takes cause cause' are same next = ended way.took takes cause' are next.0 (subst (IsTakerEnd out.every (seen out.acks.last_pass) gate' way.groups way.took) (sym same) (taker_end cause next.1 next.2))
 
   -- behind the last checkpoint
   pub barrier_ended : BarrierIsGiven → (k : ℕ) (takes : List TakeRun) (cause : Cause) → takes ≡ taking'.runs → Took (taken.Checkpoint k) → AllBlocked gate' taking'
-      → last ≡ true → cause ≡ causes.Peer peers.Barrier → AggregateAccount acks.job.now acks.index acks.every gate' (sent_by acks.pass) (seen acks.last_pass) takes cause
+      → last ≡ true → cause ≡ causes.Peer peers.Barrier → AggregateAccount out.job.now out.index out.every gate' (sent_by out.acks.pass) (seen out.acks.last_pass) takes cause
   barrier_ended law k takes cause are next blocked is cause_is =
       let at = next.0 in
       record {
         groups = way.groups;
         rest = way.took;
-        given = law acks.job.now (last_edge acks.job.now) acks.index gate' taking' way.groups way.took at;
+        given = law out.job.now (last_edge out.job.now) out.index gate' taking' way.groups way.took at;
         snapshots = way.counted.snapshots;
         takes_are = rw are at.takes;
-        waited = subst (λ n. HasWaited n (seen acks.last_pass)) (sym (as_many acks.job.now acks.index 0 empty way.groups (sent_by acks.pass) way.counted.snapshots)) way.counted.waited;
-        cause_is = subst (IsTakerEnd acks.every (seen acks.last_pass) gate' way.groups way.took) (sym cause_is) (inr (inr (
-          subst (LastIs acks.every (seen acks.last_pass) (length way.groups)) is way.last_is,
+        waited = subst (λ n. HasWaited n (seen out.acks.last_pass)) (sym (as_many out.job.now out.index 0 empty way.groups (sent_by out.acks.pass) way.counted.snapshots)) way.counted.waited;
+        cause_is = subst (IsTakerEnd out.every (seen out.acks.last_pass) gate' way.groups way.took) (sym cause_is) (inr (inr (
+          subst (LastIs out.every (seen out.acks.last_pass) (length way.groups)) is way.last_is,
           inr (λ c within.
               all_stopped gate' taking' blocked c (subst (λ n. c < n) blocked.counted.channels within)
               ∙ ap suc (at.resumed c (subst (λ n. c < n) at.takes_for.channels within))),

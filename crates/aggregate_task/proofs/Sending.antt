@@ -1,6 +1,6 @@
 -- An aggregate task sends its snapshots.
-use Rattle.std.proofs.Common.{◌≡◌, ℕ, suc, List, [], ◌∷◌, ◌++◌, length, sym, ap, subst, ◌∙◌, arith}
-use Rattle.std.specs.Prelude.{All, Bool, Option}
+use Rattle.std.proofs.Common.{◌≡◌, ℕ, suc, ◌-◌, List, [], ◌∷◌, ◌++◌, length, sym, ap, subst, ◌∙◌, arith}
+use Rattle.std.specs.Prelude.{All, Bool}
 use Rattle.std.specs.Borrow.{Bor}
 use Rattle.std.proofs.lemmas.List.Elements.{All-nil}
 use Rattle.turn_cell.specs.Passes.{seen}
@@ -12,12 +12,17 @@ use Rattle.flow_defs.specs.declared.task.TaskId.{TaskId}
 use Rattle.flow_defs.specs.Jobs.{last_edge}
 use Rattle.flow_defs.specs.Tables.{Values}
 use Rattle.plain_machine.specs.Images.{AreRuns, HasShortKeys}
+use Rattle.outside.specs.declared.last_image.Stored.{Stored}
+use Rattle.snapshot_channel.specs.declared.opened.SnapshotChannel.{SnapshotChannel}
+use Rattle.snapshot_channel.specs.declared.opened.TaskPass.{TaskPass}
 use Rattle.snapshot_channel.specs.declared.views.Opening.{Opening}
 use Rattle.snapshot_channel.specs.Snapshots.{MaySend, FitsTask, AreTakesAt, HaveOwnChannels, LeadsTo, ComesFrom}
 use Rattle.snapshot_channel.specs.Passes.{opening_of, sent_by, task_of}
+use Rattle.task_output.specs.declared.acks.Acks.{Acks}
+use Rattle.task_output.specs.Acking.{IsSameTask}
 use Rattle.task_output.specs.Waiting.{KnowsLast}
-use Rattle.aggregate_task.specs.declared.acks.Acks.{Acks}
-use Rattle.aggregate_task.specs.Acknowledging.{IsAcking, IsSame, LastPass}
+use Rattle.aggregate_task.specs.declared.checkpoint.AggregateOutput.{AggregateOutput}
+use Rattle.aggregate_task.specs.Acknowledging.{IsAcking}
 use Rattle.aggregate_task.specs.Snapshots.{IsSnapshotWith, SentSnapshot}
 
 none : {X : Type 0} (P : X → Type 0) (xs : List X) → xs ≡ [] → All P xs
@@ -37,30 +42,26 @@ fits job b k table runs x is keys are_runs = record {
 }
 
 -- the task has learnt whether the checkpoint is the last one
-module _ (acks mid : Acks) (k : ℕ) (counts table : Values) (runs : List TakeRun) (x : Snapshot) (same : IsSame acks mid) (unsent : mid.pass ≡ acks.pass) (copied : table ≡ counts)
-    (is : IsSnapshotWith mid.job.now mid.index k table runs x) (next : k ≡ suc (length (sent_by acks.pass))) where
-  job_is : mid.job.now ≡ acks.job.now
-  job_is = ap (λ (j : Bor Job). j.now) same.job
+module _ (out : AggregateOutput) (learnt : Acks) (k : ℕ) (counts table : Values) (runs : List TakeRun) (x : Snapshot) (unsent : learnt.pass ≡ out.acks.pass) (copied : table ≡ counts) (is : IsSnapshotWith out.job.now out.index k table runs x) (next : k ≡ suc (length (sent_by out.acks.pass))) where
+  pub may_send : IsAcking out → IsSameTask out.acks learnt → HasShortKeys counts → AreRuns out.job.now (last_edge out.job.now) out.index runs → MaySend (opening_of learnt.snapshots.now) (task_of learnt.pass) (sent_by learnt.pass) x
+  may_send own same keys are_runs =
+      subst (λ (s : Bor SnapshotChannel). MaySend (opening_of s.now) (task_of learnt.pass) (sent_by learnt.pass) x) (sym same.snapshots)
+      (subst (λ (p : TaskPass). MaySend (opening_of out.acks.snapshots.now) (task_of p) (sent_by p) x) (sym unsent) (record {
+        task_is = is.task ∙ sym own.task;
+        number_is = is.number ∙ next ∙ omega (arith, ap (λ (o : Opening). o.base) own.opened);
+        fits = subst (λ (o : Opening). FitsTask o.job x) (sym own.opened) (fits out.job.now out.index k table runs x is (subst HasShortKeys (sym copied) keys) are_runs);
+        at_end = λ first ended. absurd (let z : suc (last_edge out.job.now) ≡ 0 = ap (λ (t : TaskId). t.stage) (sym own.task) ∙ first in omega (arith, z));
+      }))
 
-  pub may_send : IsAcking mid → HasShortKeys counts → AreRuns acks.job.now (last_edge acks.job.now) acks.index runs → MaySend (opening_of mid.snapshots.now) (task_of mid.pass) (sent_by mid.pass) x
-  may_send own keys are_runs = record {
-    task_is = is.task ∙ sym own.task;
-    number_is = is.number ∙ next ∙ omega (arith, ap (λ (o : Opening). o.base) own.opened, ap (λ p. length (sent_by p)) unsent);
-    fits = subst (λ (o : Opening). FitsTask o.job x) (sym own.opened)
-        (fits mid.job.now mid.index k table runs x is (subst HasShortKeys (sym copied) keys)
-        (subst (λ (j : Job). AreRuns j (last_edge j) mid.index runs) (sym job_is) (subst (λ (b : ℕ). AreRuns acks.job.now (last_edge acks.job.now) b runs) (sym same.index) are_runs)));
-    at_end = λ first ended. absurd (let z : suc (last_edge mid.job.now) ≡ 0 = ap (λ (t : TaskId). t.stage) (sym own.task) ∙ first in omega (arith, z));
-  }
+  module _ (sent : Acks) where
+    pub sent_it : sent_by sent.pass ≡ sent_by learnt.pass ++ x ∷ [] → SentSnapshot out.job.now out.index k counts runs (sent_by out.acks.pass) (sent_by sent.pass)
+    sent_it more = record {
+      snapshot = x;
+      sent = more ∙ ap (λ p. sent_by p ++ x ∷ []) unsent;
+      is_with = subst (λ (t : Values). IsSnapshotWith out.job.now out.index k t runs x) copied is;
+    }
 
-  pub sent_it : (end : Acks) → sent_by end.pass ≡ sent_by mid.pass ++ x ∷ [] → SentSnapshot acks.job.now acks.index k counts runs (sent_by acks.pass) (sent_by end.pass)
-  sent_it end sent = record {
-    snapshot = x;
-    sent = sent ∙ ap (λ p. sent_by p ++ x ∷ []) unsent;
-    is_with = subst (λ (j : Job). IsSnapshotWith j acks.index k counts runs x) job_is
-        (subst (λ (b : ℕ). IsSnapshotWith mid.job.now b k counts runs x) same.index (subst (λ (t : Values). IsSnapshotWith mid.job.now mid.index k t runs x) copied is));
-  }
-
-  pub knows : (end : Acks) (last : Bool) → end.last_pass ≡ mid.last_pass → ((before : ℕ) → k ≡ suc before → KnowsLast mid.every (seen mid.last_pass) before last) → KnowsLast acks.every (seen end.last_pass) (length (sent_by acks.pass)) last
-  knows end last unseen knows_it =
-      subst (λ (p : LastPass). KnowsLast acks.every (seen p) (length (sent_by acks.pass)) last) (sym unseen)
-      (subst (λ (e : Option ℕ). KnowsLast e (seen mid.last_pass) (length (sent_by acks.pass)) last) same.every_is (knows_it (length (sent_by acks.pass)) next))
+    pub knows : (last : Bool) → sent.last_pass ≡ learnt.last_pass → KnowsLast out.every (seen learnt.last_pass) (k - 1) last → KnowsLast out.every (seen sent.last_pass) (length (sent_by out.acks.pass)) last
+    knows last unseen knows_it =
+        subst (λ (history : List (ℕ × Stored)). KnowsLast out.every history (length (sent_by out.acks.pass)) last) (sym (ap seen unseen))
+        (subst (λ n. KnowsLast out.every (seen learnt.last_pass) n last) (let before : k - 1 ≡ length (sent_by out.acks.pass) = omega (arith, next) in before) knows_it)

@@ -1,22 +1,20 @@
 -- What an aggregate task did. As in Flink it counts the records that it takes, and its snapshots hold its table. That it tells so whatever
 -- its cause is this project's own choice.
-use Rattle.std.specs.Prelude.{◌≡◌, ℕ, suc, List, [], length, Option}
+use Rattle.std.specs.Prelude.{ℕ, List, length, Option}
 use Rattle.std.specs.FinMap.{empty}
-use Rattle.turn_cell.specs.Passes.{IsPassOf, seen, mine}
+use Rattle.turn_cell.specs.Passes.{seen}
 use Rattle.flow_defs.specs.declared.cause.Cause.{Cause}
 use Rattle.flow_defs.specs.declared.image.Snapshot.{Snapshot}
 use Rattle.flow_defs.specs.declared.image.TakeRun.{TakeRun}
 use Rattle.flow_defs.specs.declared.job.Job.{Job}
 use Rattle.flow_defs.specs.Jobs.{last_edge}
-use Rattle.checkpoint_laws.specs.Chapters.{RunsTake, task_at}
+use Rattle.checkpoint_laws.specs.Chapters.{RunsTake}
 use Rattle.outside.specs.declared.last_image.Stored.{Stored}
 use Rattle.input_gate.specs.Gates.{Account}
-use Rattle.snapshot_channel.specs.Passes as channels
-use Rattle.snapshot_channel.specs.Passes.{opening, opening_of, sent_by, task_of}
+use Rattle.snapshot_channel.specs.Passes.{sent_by}
 use Rattle.task_output.specs.Waiting.{HasWaited}
 use Rattle.task_taking.specs.Endings.{Gave, IsTakerEnd}
-use Rattle.aggregate_task.specs.declared.acks.Acks.{Acks}
-use Rattle.aggregate_task.specs.declared.aggregate.AggregateWorld.{AggregateWorld}
+use Rattle.aggregate_task.specs.declared.checkpoint.AggregateOutput.{AggregateOutput}
 use Rattle.aggregate_task.specs.declared.checkpoint.Ending.{Ending}
 use Rattle.aggregate_task.specs.Snapshots.{AreSnapshots}
 
@@ -32,16 +30,5 @@ pub record AggregateAccount (job : Job) (b : ℕ) (every : Option ℕ) (gate : A
   pub cause_is : IsTakerEnd every history gate groups rest cause
 
 -- So it did by what it acknowledges by, where it ends so.
-abbrev pub HasAccount : Account → Acks → Ending → Type 0
-HasAccount gate acks end = AggregateAccount acks.job.now acks.index acks.every gate (sent_by acks.pass) (seen acks.last_pass) end.takes.items end.cause
-
--- Task b of the aggregate is lent fresh passes: of the channel of snapshots, which is opened for this job from the start on and for this
--- interval, of the cell of the last image, and of the stop cell. What the braces bind is
--- what the functions may be.
-module _ {S A F G f g : _} where
-  pub record IsLent (b : ℕ) (every : Option ℕ) (world : AggregateWorld S A F G f g) : Type 0 where
-    pub pass : channels.IsFresh world.snapshots.now world.snapshot_pass
-    pub task : task_of world.snapshot_pass ≡ task_at (suc (last_edge world.job.now)) b
-    pub opened : opening_of world.snapshots.now ≡ opening world.job.now 0 every
-    pub last_pass : IsPassOf world.last_image.now world.last_pass
-    pub stop : IsPassOf world.stop.now world.stop_pass × (mine world.stop_pass ≡ [])
+abbrev pub HasAccount : Account → AggregateOutput → Ending → Type 0
+HasAccount gate out end = AggregateAccount out.job.now out.index out.every gate (sent_by out.acks.pass) (seen out.acks.last_pass) end.takes.items end.cause

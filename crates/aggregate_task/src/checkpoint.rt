@@ -7,15 +7,28 @@ ghost use Rattle.aggregate_task.specs.Acknowledging.{Acknowledged, BreaksFor, Is
 ghost use Rattle.aggregate_task.specs.Aggregates.{HasAccount};
 ghost use Rattle.aggregate_task.specs.Snapshots.{IsSnapshotWith};
 
-use crate::acks::{Acks, AcksStopped};
 use flow_defs::{Cause, Job, ListOf, Snapshot, Table, TakeRun, TaskId};
 use input_gate::Gate;
 use job_plan::Counts;
 use std::alloc::Global;
 use std::sync::Wait;
 use task_output::laws::what_was_seen_stays;
+use task_output::{Acks, StopLook, TaskStopped};
 use task_taking::TaskTaking;
 use task_taking::laws::what_was_taken_was_given;
+
+/// By what a task of the aggregate acknowledges checkpoints.
+#[derive(Drop)]
+pub struct AggregateOutput<'a> {
+    pub job: &'a Job,
+    /// The index of the task.
+    pub index: u32,
+    /// How many lines a source reads between two barriers. None: the job has one checkpoint.
+    pub every: Option<u64>,
+    pub acks: Acks<'a>,
+    /// How it learns that another worker has met a fault.
+    pub stop: StopLook<'a>,
+}
 
 /// Why a task goes no further, and the runs of what it took behind the last snapshot that it sent.
 #[derive(Drop)]
@@ -32,20 +45,20 @@ pub fn take_checkpoint<G: Gate, R: Wait>(
     gate: &mut G,
     taking: &mut TaskTaking,
     counts: &Counts,
-    acks: &mut Acks<'_>,
+    out: &mut AggregateOutput<'_>,
     k: u64,
 ) -> Result<bool, Ending>
-    requires at { IsAtCheckpoint (G.account gate.old) taking.old counts.now acks.old k }
-    requires own { IsAcking acks.old }
+    requires at { IsAtCheckpoint (G.account gate.old) taking.old counts.now out.old k }
+    requires own { IsAcking out.old }
     ensures gate { (G.ends gate.new ≡ G.ends gate.old) × ((G.account gate.new).channels ≡ (G.account gate.old).channels) }
-    ensures own { IsAcking acks.new × IsSame acks.old acks.new }
-    ensures taken { MatchResult result (λ last. IsCountUnderWay (G.account gate.new) taking.new counts.now acks.new last) (λ end. HasAccount (G.account gate.new) acks.new end) }
-    ensures breaks { IfErr result (λ end. BreaksFor acks.new end.cause) }
+    ensures own { IsAcking out.new × IsSame out.old out.new }
+    ensures taken { MatchResult result (λ last. IsCountUnderWay (G.account gate.new) taking.new counts.now out.new last) (λ end. HasAccount (G.account gate.new) out.new end) }
+    ensures breaks { IfErr result (λ end. BreaksFor out.new end.cause) }
 {
     what_was_taken_was_given();
     what_was_seen_stays();
     let takes = taking.resume_all(rt, gate);
-    match acknowledge(rt, alloc, acks, counts, takes, k) {
+    match acknowledge(rt, alloc, out, counts, takes, k) {
         Ok(last) => Ok(last),
         Err(end) => Err(end),
     }
@@ -56,21 +69,21 @@ pub fn take_checkpoint<G: Gate, R: Wait>(
 fn acknowledge<R: Wait>(
     rt: &R,
     alloc: Global,
-    acks: &mut Acks<'_>,
+    out: &mut AggregateOutput<'_>,
     counts: &Counts,
     takes: ListOf<TakeRun>,
     k: u64,
 ) -> Result<bool, Ending>
-    requires own { IsAcking acks.old }
-    requires next { k ≡ suc (length (sent_by acks.old.pass)) }
+    requires own { IsAcking out.old }
+    requires next { k ≡ suc (length (sent_by out.old.acks.pass)) }
     requires keys { HasShortKeys counts.now }
-    requires runs { AreRuns acks.old.job.now (last_edge acks.old.job.now) acks.old.index takes.items }
-    ensures own { IsAcking acks.new × IsSame acks.old acks.new }
-    ensures sent { Acknowledged acks.old k counts.now takes.items acks.new result }
+    requires runs { AreRuns out.old.job.now (last_edge out.old.job.now) out.old.index takes.items }
+    ensures own { IsAcking out.new × IsSame out.old out.new }
+    ensures sent { Acknowledged out.old k counts.now takes.items out.new result }
 {
-    let last = match acks.learn_last(rt, k) {
+    let last = match out.acks.learn_last(rt, &mut out.stop, out.every, k) {
         Ok(last) => last,
-        Err(AcksStopped) => {
+        Err(TaskStopped) => {
             return Err(Ending {
                 cause: Cause::Stopped,
                 takes,
@@ -83,8 +96,8 @@ fn acknowledge<R: Wait>(
             takes,
         });
     };
-    let snapshot = snapshot_at(alloc, acks.job, acks.index, k, table, takes);
-    match acks.send(rt, snapshot) {
+    let snapshot = snapshot_at(alloc, out.job, out.index, k, table, takes);
+    match out.acks.send(rt, &mut out.stop, snapshot) {
         Ok(()) => Ok(last),
         Err(back) => Err(Ending {
             cause: Cause::Stopped,
@@ -107,7 +120,7 @@ fn snapshot_at(
 {
     Snapshot {
         task: TaskId {
-            stage: job.stages.as_slice().len() as u32 + 1,
+            stage: job.edges() as u32,
             index,
         },
         number: k,

@@ -11,8 +11,7 @@ ghost use Rattle.task_taking.specs.Takings.{HasTaken, IsInStep};
 ghost use Rattle.aggregate_task.specs.Acknowledging.{IsAcking, IsSame};
 ghost use Rattle.aggregate_task.specs.Aggregates.{HasAccount};
 
-use crate::acks::Acks;
-use crate::checkpoint::{Ending, take_checkpoint};
+use crate::checkpoint::{AggregateOutput, Ending, take_checkpoint};
 use flow_defs::{Cause, ListOf, PeerFault};
 use input_gate::Gate;
 use job_plan::Counts;
@@ -29,20 +28,20 @@ pub fn take_all<G: Gate, R: Wait>(
     alloc: Global,
     gate: &mut G,
     f: &AggFn,
-    acks: &mut Acks<'_>,
+    out: &mut AggregateOutput<'_>,
 ) -> Ending
-    requires function { MeetsAgg acks.old.job.now.agg (AggFn.pre f.now) (AggFn.post f.now) }
-    requires own { IsAcking acks.old × (sent_by acks.old.pass ≡ []) }
-    requires task { acks.old.index < tasks acks.old.job.now (suc (last_edge acks.old.job.now)) }
-    requires gate { IsNew (G.account gate.old) × ((G.account gate.old).channels ≡ ways_into acks.old.job.now (last_edge acks.old.job.now)) }
+    requires function { MeetsAgg out.old.job.now.agg (AggFn.pre f.now) (AggFn.post f.now) }
+    requires own { IsAcking out.old × (sent_by out.old.acks.pass ≡ []) }
+    requires task { out.old.index < tasks out.old.job.now (suc (last_edge out.old.job.now)) }
+    requires gate { IsNew (G.account gate.old) × ((G.account gate.old).channels ≡ ways_into out.old.job.now (last_edge out.old.job.now)) }
     ensures gate { (G.ends gate.new ≡ G.ends gate.old) × ((G.account gate.new).channels ≡ (G.account gate.old).channels) }
-    ensures own { IsAcking acks.new × IsSame acks.old acks.new }
-    ensures account { HasAccount (G.account gate.new) acks.new result }
-    ensures stopped { result.cause ≡ Cause.Stopped → G.saw_stop gate.new ⊎ (seen acks.new.stop_pass ≢ []) }
+    ensures own { IsAcking out.new × IsSame out.old out.new }
+    ensures account { HasAccount (G.account gate.new) out.new result }
+    ensures stopped { result.cause ≡ Cause.Stopped → G.saw_stop gate.new ⊎ (seen out.new.stop.pass ≢ []) }
 {
-    let edge = acks.job.stages.as_slice().len() as u32;
-    match TaskTaking::new(alloc, acks.job, edge, acks.index) {
-        Ok(taking) => count_all(rt, alloc, gate, f, taking, acks),
+    let edge = out.job.edges() as u32 - 1;
+    match TaskTaking::new(alloc, out.job, edge, out.index) {
+        Ok(taking) => count_all(rt, alloc, gate, f, taking, out),
         Err(_) => Ending {
             cause: Cause::Memory,
             takes: ListOf::new(alloc),
@@ -57,15 +56,15 @@ fn count_all<G: Gate, R: Wait>(
     gate: &mut G,
     f: &AggFn,
     taking: TaskTaking,
-    acks: &mut Acks<'_>,
+    out: &mut AggregateOutput<'_>,
 ) -> Ending
-    requires function { MeetsAgg acks.old.job.now.agg (AggFn.pre f.now) (AggFn.post f.now) }
-    requires own { IsAcking acks.old × (sent_by acks.old.pass ≡ []) }
-    requires new { HasTaken acks.old.job.now (last_edge acks.old.job.now) acks.old.index (G.account gate.old) taking [] [] × IsInStep (G.account gate.old) taking }
+    requires function { MeetsAgg out.old.job.now.agg (AggFn.pre f.now) (AggFn.post f.now) }
+    requires own { IsAcking out.old × (sent_by out.old.acks.pass ≡ []) }
+    requires new { HasTaken out.old.job.now (last_edge out.old.job.now) out.old.index (G.account gate.old) taking [] [] × IsInStep (G.account gate.old) taking }
     ensures gate { (G.ends gate.new ≡ G.ends gate.old) × ((G.account gate.new).channels ≡ (G.account gate.old).channels) }
-    ensures own { IsAcking acks.new × IsSame acks.old acks.new }
-    ensures account { HasAccount (G.account gate.new) acks.new result }
-    ensures stopped { result.cause ≡ Cause.Stopped → G.saw_stop gate.new ⊎ (seen acks.new.stop_pass ≢ []) }
+    ensures own { IsAcking out.new × IsSame out.old out.new }
+    ensures account { HasAccount (G.account gate.new) out.new result }
+    ensures stopped { result.cause ≡ Cause.Stopped → G.saw_stop gate.new ⊎ (seen out.new.stop.pass ≢ []) }
 {
     what_was_taken_was_given();
     let mut taking = taking;
@@ -77,7 +76,7 @@ fn count_all<G: Gate, R: Wait>(
                 if last {
                     return out_of_order(taking);
                 }
-                match counts.add(acks.job.agg, f, line) {
+                match counts.add(out.job.agg, f, line) {
                     Ok(()) => {}
                     Err(_) => return ending(Cause::Memory, taking),
                 }
@@ -86,7 +85,7 @@ fn count_all<G: Gate, R: Wait>(
                 if last {
                     return out_of_order(taking);
                 }
-                match take_checkpoint(rt, alloc, gate, &mut taking, &counts, acks, k) {
+                match take_checkpoint(rt, alloc, gate, &mut taking, &counts, out, k) {
                     Ok(is_last) => last = is_last,
                     Err(end) => return end,
                 }

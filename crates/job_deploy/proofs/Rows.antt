@@ -12,7 +12,8 @@ use Rattle.job_cells.specs.declared.edge.Edge.{Edge}
 use Rattle.job_workers.specs.declared.task.SourceTask.{SourceTask}
 use Rattle.job_workers.specs.declared.task.StageTask.{StageTask}
 use Rattle.job_workers.specs.declared.task.AggregateTask.{AggregateTask}
-use Rattle.job_workers.specs.Tasks.{MayCheckpoint, IsGateBehind}
+use Rattle.task_output.specs.Acking.{IsLent}
+use Rattle.job_workers.specs.Tasks.{IsGateBehind}
 use Rattle.job_deploy.specs.declared.senders.Senders.{Senders}
 use Rattle.job_deploy.specs.declared.takers.Takers.{Takers}
 use Rattle.job_deploy.specs.declared.tasks.SourceLent.{SourceLent}
@@ -66,8 +67,8 @@ module _ (job : Job) (edges : List Edge) (e k : ℕ) (edge : Edge) (same : k ≡
 
 module _ (job : Job) (size : ℕ) (every : Option ℕ) (snapshots : SnapshotChannel) (edges : List Edge) where
   pub stage_at : (e b : ℕ) (task : StageTask) → task.edge ≡ e → task.index ≡ b → e < last_edge job → b < tasks job (suc e) →
-      IsGateAt job size every snapshots edges e b (cells_in task.gate.lanes) → IsGateBehind job e task.gate → IsPartitionAt job size every snapshots edges (suc e) b task.partition → IsPartitionOf job (suc e) b task.partition →
-      IsLentOf job size every snapshots edges task.lent → MayCheckpoint job (suc e) b task.lent → IsStageAt job size every snapshots edges e b task
+      IsGateAt job size every snapshots edges e b (cells_in task.gate.lanes) → IsGateBehind job e task.gate → IsPartitionAt job size every snapshots edges (suc e) b task.world.partition → IsPartitionOf job (suc e) b task.world.partition →
+      IsLentOf job size every snapshots edges task.every task.world → IsLent job (suc e) b task.every task.world → IsStageAt job size every snapshots edges e b task
   stage_at e b task edge_is index_is low here gate behind partition of lent may = record {
     edge = edge_is;
     index = index_is;
@@ -77,14 +78,14 @@ module _ (job : Job) (size : ℕ) (every : Option ℕ) (snapshots : SnapshotChan
     may = record {
       stage = subst (λ (j : ℕ). (j < last_edge job) × (task.index < tasks job (suc j))) (sym edge_is) (low, subst (λ (i : ℕ). i < tasks job (suc e)) (sym index_is) here);
       gate = subst (λ (j : ℕ). IsGateBehind job j task.gate) (sym edge_is) behind;
-      partition = subst (λ (j : ℕ). IsPartitionOf job (suc j) task.index task.partition) (sym edge_is) (subst (λ (i : ℕ). IsPartitionOf job (suc e) i task.partition) (sym index_is) of);
-      may = subst (λ (j : ℕ). MayCheckpoint job (suc j) task.index task.lent) (sym edge_is) (subst (λ (i : ℕ). MayCheckpoint job (suc e) i task.lent) (sym index_is) may);
+      partition = subst (λ (j : ℕ). IsPartitionOf job (suc j) task.index task.world.partition) (sym edge_is) (subst (λ (i : ℕ). IsPartitionOf job (suc e) i task.world.partition) (sym index_is) of);
+      lent = subst (λ (j : ℕ). IsLent job (suc j) task.index task.every task.world) (sym edge_is) (subst (λ (i : ℕ). IsLent job (suc e) i task.every task.world) (sym index_is) may);
     };
   }
 
   pub aggregate_at : (b : ℕ) (task : AggregateTask) → task.index ≡ b → b < tasks job (suc (last_edge job)) →
       IsGateAt job size every snapshots edges (last_edge job) b (cells_in task.gate.lanes) → IsGateBehind job (last_edge job) task.gate →
-      IsLentOf job size every snapshots edges task.lent → MayCheckpoint job (suc (last_edge job)) b task.lent → IsAggregateAt job size every snapshots edges b task
+      IsLentOf job size every snapshots edges task.every task.world → IsLent job (suc (last_edge job)) b task.every task.world → IsAggregateAt job size every snapshots edges b task
   aggregate_at b task index_is here gate behind lent may = record {
     index = index_is;
     gate = gate;
@@ -92,22 +93,22 @@ module _ (job : Job) (size : ℕ) (every : Option ℕ) (snapshots : SnapshotChan
     may = record {
       index = subst (λ (i : ℕ). i < tasks job (suc (last_edge job))) (sym index_is) here;
       gate = behind;
-      may = subst (λ (i : ℕ). MayCheckpoint job (suc (last_edge job)) i task.lent) (sym index_is) may;
+      lent = subst (λ (i : ℕ). IsLent job (suc (last_edge job)) i task.every task.world) (sym index_is) may;
     };
   }
 
   pub source_at : {S : Type 0} (inputs : List S) (a : ℕ) (task : SourceTask S) (lent : SourceLent) → task.index ≡ a → slice_get inputs a ≡ Some task.input →
-      lent ≡ record { partition = task.partition; lent = task.lent } → IsLentAt job size every snapshots edges a lent → IsSourceAt job size every snapshots edges inputs a task
+      lent ≡ record { every = task.every; world = task.world } → IsLentAt job size every snapshots edges a lent → IsSourceAt job size every snapshots edges inputs a task
   source_at inputs a task lent index_is input same is =
-      let is' : IsLentAt job size every snapshots edges a (record { partition = task.partition; lent = task.lent }) = subst (λ (l : SourceLent). IsLentAt job size every snapshots edges a l) same is in
+      let is' : IsLentAt job size every snapshots edges a (record { every = task.every; world = task.world }) = subst (λ (l : SourceLent). IsLentAt job size every snapshots edges a l) same is in
       record {
         index = index_is;
         input = input;
         partition = is'.at;
         lent = is'.lent;
         may = record {
-          partition = subst (λ (i : ℕ). IsPartitionOf job 0 i task.partition) (sym index_is) is'.partition;
-          may = subst (λ (i : ℕ). MayCheckpoint job 0 i task.lent) (sym index_is) is'.may;
+          partition = subst (λ (i : ℕ). IsPartitionOf job 0 i task.world.partition) (sym index_is) is'.partition;
+          lent = subst (λ (i : ℕ). IsLent job 0 i task.every task.world) (sym index_is) is'.may;
         };
       }
 
@@ -133,6 +134,6 @@ module _ (job : Job) (size : ℕ) (every : Option ℕ) (snapshots : SnapshotChan
     sources_are lents inputs row many lent over = record {
       many = over.many ∙ many;
       each = λ a place at.
-          let found = over.each a place at in let lent_here : SourceLent = record { partition = found.task.partition; lent = found.task.lent } in
+          let found = over.each a place at in let lent_here : SourceLent = record { every = found.task.every; world = found.task.world } in
           (found.task, found.is, source_at inputs a found.task lent_here found.index found.input refl (lent.each a lent_here found.lent));
     }

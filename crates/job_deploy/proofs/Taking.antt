@@ -14,10 +14,11 @@ use Rattle.outside.specs.declared.last_image.Stored.{Stored}
 use Rattle.plain_machine.specs.Worth.{concat_below}
 use Rattle.snapshot_channel.specs.declared.opened.SnapshotChannel.{SnapshotChannel}
 use Rattle.snapshot_channel.specs.declared.opened.TaskPass.{TaskPass}
+use Rattle.snapshot_channel.specs.declared.views.Opening.{Opening}
 use Rattle.snapshot_channel.specs.Passes as channels
 use Rattle.snapshot_channel.specs.Snapshots.{tasks_below, task}
-use Rattle.job_workers.specs.declared.task.Lent.{Lent}
-use Rattle.job_workers.specs.Tasks.{MayCheckpoint}
+use Rattle.task_output.specs.declared.world.World.{World}
+use Rattle.task_output.specs.Acking.{IsLent}
 use Rattle.job_deploy.specs.declared.shared.Shared.{Shared}
 use Rattle.job_deploy.specs.Placing.{AreFewer, AreStops, HasFirst, HasStages, HasStayed, HasTasks, HasTheirs, WereTaken, first_tasks}
 use Rattle.job_deploy.specs.Shared.{AreShared}
@@ -109,17 +110,17 @@ some_left job i n shared some has =
     (omega (arith, long, many, some), omega (arith, long, enough, some))
 
 -- The last passes are those of the last task.
-module _ (job : Job) (i n : ℕ) (before after : Shared) (lent : Lent) (stayed : HasStayed before after) (taken : WereTaken before after lent) (has : HasFirst job i (suc n) before) where
-  whose : (map channels.task_of after.snapshot_passes.items ≡ first_tasks job i n) × (channels.task_of lent.snapshot_pass ≡ task i n)
+module _ {P : Type 0} (job : Job) (i n : ℕ) (before after : Shared) (world : World P) (stayed : HasStayed before after) (taken : WereTaken before after world) (has : HasFirst job i (suc n) before) where
+  whose : (map channels.task_of after.snapshot_passes.items ≡ first_tasks job i n) × (channels.task_of world.acks.pass ≡ task i n)
   whose =
-      same_from_push (map channels.task_of after.snapshot_passes.items) (first_tasks job i n) (channels.task_of lent.snapshot_pass) (task i n)
-      (sym (map_push channels.task_of after.snapshot_passes.items lent.snapshot_pass) ∙ ap (map channels.task_of) (sym taken.snapshot_pass) ∙ has.tasks_are ∙ first_more job i n)
+      same_from_push (map channels.task_of after.snapshot_passes.items) (first_tasks job i n) (channels.task_of world.acks.pass) (task i n)
+      (sym (map_push channels.task_of after.snapshot_passes.items world.acks.pass) ∙ ap (map channels.task_of) (sym taken.snapshot_pass) ∙ has.tasks_are ∙ first_more job i n)
 
-  fresh : All (channels.IsFresh before.snapshots.now) after.snapshot_passes.items × channels.IsFresh before.snapshots.now lent.snapshot_pass
-  fresh = All-pop (channels.IsFresh before.snapshots.now) before.snapshot_passes.items after.snapshot_passes.items (Some lent.snapshot_pass) taken.snapshot_pass has.fresh
+  fresh : All (channels.IsFresh before.snapshots.now) after.snapshot_passes.items × channels.IsFresh before.snapshots.now world.acks.pass
+  fresh = All-pop (channels.IsFresh before.snapshots.now) before.snapshot_passes.items after.snapshot_passes.items (Some world.acks.pass) taken.snapshot_pass has.fresh
 
-  last : All (IsPassOf before.last_image.now) after.last_passes.items × IsPassOf before.last_image.now lent.last_pass
-  last = All-pop (IsPassOf before.last_image.now) before.last_passes.items after.last_passes.items (Some lent.last_pass) taken.last_pass has.last_passes
+  last : All (IsPassOf before.last_image.now) after.last_passes.items × IsPassOf before.last_image.now world.acks.last_pass
+  last = All-pop (IsPassOf before.last_image.now) before.last_passes.items after.last_passes.items (Some world.acks.last_pass) taken.last_pass has.last_passes
 
   pub first_left : HasFirst job i n after
   first_left = record {
@@ -130,17 +131,24 @@ module _ (job : Job) (i n : ℕ) (before after : Shared) (lent : Lent) (stayed :
     last_passes = subst (λ (c : TurnCell LastImage Stored (Unit {0})). All (IsPassOf c) after.last_passes.items) (sym taken.last_image.1) last.0;
     last_enough =
         let enough = has.last_enough in let long = length_first job i n in let longer = length_first job i (suc n) in
-        let l = ap length taken.last_pass ∙ length_push after.last_passes.items lent.last_pass in
+        let l = ap length taken.last_pass ∙ length_push after.last_passes.items world.acks.last_pass in
         omega (arith, enough, long, longer, l);
   }
 
-  pub may_checkpoint : MayCheckpoint job i n lent
+  opening : channels.opening_of world.acks.snapshots.now ≡ channels.opening job 0 after.every
+  opening = ap channels.opening_of taken.channel ∙ has.opening ∙ ap (channels.opening job 0) (sym stayed.every_is)
+
+  pub may_checkpoint : IsLent job i n after.every world
   may_checkpoint = record {
-    interval = subst (λ (e : Option ℕ). IfSome e (λ n. 1 ≤ n)) (sym taken.every_is) has.interval;
-    fresh = subst (λ (c : SnapshotChannel). channels.IsFresh c lent.snapshot_pass) (sym taken.channel) fresh.1;
+    interval = subst (λ (e : Option ℕ). IfSome e (λ n. 1 ≤ n)) (sym stayed.every_is) has.interval;
+    passes = record {
+      snapshots = subst (λ (c : SnapshotChannel). channels.IsPassOf c world.acks.pass) (sym taken.channel) fresh.1.0;
+      last_image = subst (λ (c : TurnCell LastImage Stored (Unit {0})). IsPassOf c world.acks.last_pass) (sym taken.last_image.0) last.1;
+      number_is = let none = taken.number in let base = ap (λ (o : Opening). o.base) opening in let unsent = ap length fresh.1.1 in omega (arith, none, base, unsent);
+    };
+    fresh = fresh.1.1;
     task = whose.1;
-    opening = ap channels.opening_of taken.channel ∙ has.opening ∙ ap (channels.opening job 0) (sym taken.every_is);
-    last_pass = subst (λ (c : TurnCell LastImage Stored (Unit {0})). IsPassOf c lent.last_pass) (sym taken.last_image.0) last.1;
+    opening = opening;
     stop = taken.stop;
   }
 

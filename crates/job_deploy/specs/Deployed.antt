@@ -14,6 +14,7 @@ use Rattle.conn_send_control.specs.Announcing.{MaySendControl}
 use Rattle.record_writer.specs.declared.partition.Partition.{Partition}
 use Rattle.record_writer.specs.Writers.{SendPass, ways_into}
 use Rattle.snapshot_channel.specs.declared.opened.SnapshotChannel.{SnapshotChannel}
+use Rattle.task_output.specs.declared.world.World.{World}
 use Rattle.input_gate.specs.Channels.{cells_in}
 use Rattle.input_gate.specs.Turning.{InputCell}
 use Rattle.job_cells.specs.declared.edge.Edge.{Edge}
@@ -27,7 +28,6 @@ use Rattle.job_workers.specs.declared.place.Place.TheVariants.{Todo}
 use Rattle.job_workers.specs.declared.task.SourceTask.{SourceTask}
 use Rattle.job_workers.specs.declared.task.StageTask.{StageTask}
 use Rattle.job_workers.specs.declared.task.AggregateTask.{AggregateTask}
-use Rattle.job_workers.specs.declared.task.Lent.{Lent}
 use Rattle.job_workers.specs.declared.task.Task.{Task}
 use Rattle.job_workers.specs.declared.task.Task.TheVariants.{Source, Stage, Aggregate}
 use Rattle.job_workers.specs.declared.task.TaskLeft.{TaskLeft}
@@ -53,10 +53,10 @@ module _ (job : Job) (size : ℕ) (every : Option ℕ) (snapshots : SnapshotChan
     pub stride : partition.stride ≡ tasks job e
     pub size_is : partition.size ≡ size
 
-  -- It is lent that channel, and told that interval.
-  pub record IsLentOf (lent : Lent) : Type 0 where
-    pub every_is : lent.every ≡ every
-    pub channel : lent.snapshots.now ≡ snapshots
+  -- It is told that interval, and lent that channel.
+  pub record IsLentOf {P : Type 0} (told : Option ℕ) (world : World P) : Type 0 where
+    pub every_is : told ≡ every
+    pub channel : world.acks.snapshots.now ≡ snapshots
 
   -- The cells of the gate of task b behind edge e, among those of that edge.
   pub record IsGateAt (e b : ℕ) (cells : List InputCell) : Type 0 where
@@ -71,8 +71,8 @@ module _ (job : Job) (size : ℕ) (every : Option ℕ) (snapshots : SnapshotChan
   pub record IsSourceAt {S : Type 0} (inputs : List S) (a : ℕ) (task : SourceTask S) : Type 0 where
     pub index : task.index ≡ a
     pub input : slice_get inputs a ≡ Some task.input
-    pub partition : IsPartitionAt 0 a task.partition
-    pub lent : IsLentOf task.lent
+    pub partition : IsPartitionAt 0 a task.world.partition
+    pub lent : IsLentOf task.every task.world
     pub may : MayRunSource job task
 
   -- Task b behind edge e.
@@ -80,15 +80,15 @@ module _ (job : Job) (size : ℕ) (every : Option ℕ) (snapshots : SnapshotChan
     pub edge : task.edge ≡ e
     pub index : task.index ≡ b
     pub gate : IsGateAt e b (cells_in task.gate.lanes)
-    pub partition : IsPartitionAt (suc e) b task.partition
-    pub lent : IsLentOf task.lent
+    pub partition : IsPartitionAt (suc e) b task.world.partition
+    pub lent : IsLentOf task.every task.world
     pub may : MayRunStage job task
 
   -- Task b of the aggregate.
   pub record IsAggregateAt (b : ℕ) (task : AggregateTask) : Type 0 where
     pub index : task.index ≡ b
     pub gate : IsGateAt (last_edge job) b (cells_in task.gate.lanes)
-    pub lent : IsLentOf task.lent
+    pub lent : IsLentOf task.every task.world
     pub may : MayRunAggregate job task
 
   module _ {S : Type 0} where

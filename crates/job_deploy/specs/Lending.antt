@@ -10,7 +10,7 @@ use Rattle.job_workers.specs.declared.task.SourceTask.{SourceTask}
 use Rattle.job_workers.specs.declared.task.StageTask.{StageTask}
 use Rattle.job_workers.specs.declared.task.AggregateTask.{AggregateTask}
 use Rattle.job_workers.specs.declared.task.Task.TheVariants.{Source, Stage, Aggregate}
-use Rattle.job_workers.specs.Tasks.{MayCheckpoint}
+use Rattle.task_output.specs.Acking.{IsLent}
 use Rattle.job_deploy.specs.declared.senders.Senders.{Senders}
 use Rattle.job_deploy.specs.declared.takers.Takers.{Takers}
 use Rattle.job_deploy.specs.declared.tasks.SourceLent.{SourceLent}
@@ -36,10 +36,10 @@ module _ (job : Job) (edges : List Edge) where
 module _ (job : Job) (size : ℕ) (every : Option ℕ) (snapshots : SnapshotChannel) (edges : List Edge) where
   -- What the source of index a is lent, and each source.
   pub record IsLentAt (a : ℕ) (source : SourceLent) : Type 0 where
-    pub at : IsPartitionAt job size every snapshots edges 0 a source.partition
-    pub partition : IsPartitionOf job 0 a source.partition
-    pub lent : IsLentOf job size every snapshots edges source.lent
-    pub may : MayCheckpoint job 0 a source.lent
+    pub at : IsPartitionAt job size every snapshots edges 0 a source.world.partition
+    pub partition : IsPartitionOf job 0 a source.world.partition
+    pub lent : IsLentOf job size every snapshots edges source.every source.world
+    pub may : IsLent job 0 a source.every source.world
 
   pub record AreLent (lents : List SourceLent) : Type 0 where
     pub many : length lents ≡ tasks job 0
@@ -62,7 +62,7 @@ pub record IsSourceOver {S : Type 0} (lents : List SourceLent) (inputs : List S)
   pub is : place ≡ Todo (Source task)
   pub index : task.index ≡ a
   pub input : slice_get inputs a ≡ Some task.input
-  pub lent : slice_get lents a ≡ Some (record { partition = task.partition; lent = task.lent })
+  pub lent : slice_get lents a ≡ Some (record { every = task.every; world = task.world })
 
 pub record AreSourcesOver {S : Type 0} (lents : List SourceLent) (inputs : List S) (row : List (TaskPlace S)) : Type 0 where
   pub many : length row ≡ length inputs

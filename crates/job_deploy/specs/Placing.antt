@@ -17,7 +17,7 @@ use Rattle.snapshot_channel.specs.Passes as channels
 use Rattle.snapshot_channel.specs.Snapshots as snapshots
 use Rattle.job_cells.specs.declared.edge.Edge.{Edge}
 use Rattle.job_cells.specs.Edges.{InputPass, AreGatesAt, place_into}
-use Rattle.job_workers.specs.declared.task.Lent.{Lent}
+use Rattle.task_output.specs.declared.world.World.{World}
 use Rattle.job_deploy.specs.declared.senders.Senders.{Senders}
 use Rattle.job_deploy.specs.declared.shared.Shared.{Shared}
 use Rattle.job_deploy.specs.declared.takers.Takers.{Takers}
@@ -71,14 +71,14 @@ HasFirst job i n shared = HasTasks job (first_tasks job i n) shared
 abbrev pub HasStages : Job → ℕ → Shared → Type 0
 HasStages job i shared = HasTasks job (snapshots.tasks_below job i) shared
 
--- The last pass of each kind was taken for a task.
-pub record WereTaken (before after : Shared) (lent : Lent) : Type 0 where
-  pub every_is : lent.every ≡ before.every
-  pub channel : lent.snapshots.now ≡ before.snapshots.now
-  pub snapshot_pass : before.snapshot_passes.items ≡ after.snapshot_passes.items ++ lent.snapshot_pass ∷ []
-  pub last_image : (lent.last_image.now ≡ before.last_image.now) × (after.last_image.now ≡ before.last_image.now)
-  pub last_pass : before.last_passes.items ≡ after.last_passes.items ++ lent.last_pass ∷ []
-  pub stop : IsStop lent.stop.now lent.stop_pass
+-- The last pass of each kind was taken for a task, which has acknowledged nothing.
+pub record WereTaken {P : Type 0} (before after : Shared) (world : World P) : Type 0 where
+  pub channel : world.acks.snapshots.now ≡ before.snapshots.now
+  pub snapshot_pass : before.snapshot_passes.items ≡ after.snapshot_passes.items ++ world.acks.pass ∷ []
+  pub last_image : (world.acks.last_image.now ≡ before.last_image.now) × (after.last_image.now ≡ before.last_image.now)
+  pub last_pass : before.last_passes.items ≡ after.last_passes.items ++ world.acks.last_pass ∷ []
+  pub number : world.acks.number ≡ 0
+  pub stop : IsStop world.stop.now world.stop_pass
 
 -- ---- the two ends of an edge
 

@@ -3,9 +3,9 @@ ghost use Rattle.std.specs.Prelude.{◌≡◌, ◌<◌, length};
 ghost use Rattle.job_deploy.specs.Placing.{AreFewer, AreStops, HasTheirs, IsStop, WereTaken};
 
 use flow_defs::ListOf;
-use job_workers::Lent;
 use outside::{LastImage, StopState};
 use snapshot_channel::{SnapshotChannel, TaskPass};
+use task_output::{Acks, World};
 use turn_cell::{Pass, TurnCell};
 
 /// What all tasks of a job share for checkpoints and to stop by, and the passes of it that no task has yet.
@@ -36,23 +36,28 @@ impl<'a> Shared<'a> {
         self.stops.take_last()
     }
 
-    // What the next task is lent.
-    pub(crate) fn lend(&mut self) -> Lent<'a>
+    // What the next task is lent, with this partition.
+    pub(crate) fn lend<P>(&mut self, partition: P) -> World<'a, P>
         requires snapshot_passes { 0 < length self.old.snapshot_passes.items }
         requires last_passes { 0 < length self.old.last_passes.items }
         requires stops { AreStops self.old × (0 < length self.old.stops.items) }
         ensures stops { AreFewer 1 self.old self.new }
         ensures taken { WereTaken self.old self.new result }
+        ensures partition { result.partition ≡ partition }
     {
         let snapshot_pass = self.snapshot_passes.take_last();
         let last_pass = self.last_passes.take_last();
         let stop_pass = self.stops.take_last();
-        Lent {
-            every: self.every,
+        let acks = Acks {
             snapshots: self.snapshots,
-            snapshot_pass,
+            pass: snapshot_pass,
             last_image: self.last_image,
             last_pass,
+            number: 0,
+        };
+        World {
+            partition,
+            acks,
             stop: self.stop,
             stop_pass,
         }

@@ -12,15 +12,16 @@ use crate::shared::Shared;
 use crate::takers::Takers;
 use flow_defs::{Job, ListOf};
 use job_cells::Edge;
-use job_workers::{AggregateTask, Lent, Place, SourceTask, StageTask, Task, TaskRow};
+use job_workers::{AggregateTask, Place, SourceTask, StageTask, Task, TaskRow};
 use record_writer::Partition;
 use std::alloc::{AllocError, Global};
+use task_output::World;
 
-/// What a source is lent: its partition, and what every task is lent.
+/// What a source is lent.
 #[derive(Drop)]
 pub struct SourceLent<'a, 'p> {
-    pub partition: Partition<'a, 'p>,
-    pub lent: Lent<'a>,
+    pub every: Option<u64>,
+    pub world: World<'a, Partition<'a, 'p>>,
 }
 
 // What the last source that is lent nothing yet is lent.
@@ -44,8 +45,11 @@ fn source_lent<'a, 'p>(
 {
     let edge = item_at(edges, 0);
     let partition = senders.next(job, 0, size, edge);
-    let lent = shared.lend();
-    SourceLent { partition, lent }
+    let world = shared.lend(partition);
+    SourceLent {
+        every: shared.every,
+        world,
+    }
 }
 
 /// What the sources are lent, in the order of the sources.
@@ -102,14 +106,14 @@ fn stage_task<'a, 'p>(
     let behind = item_at(edges, next);
     let gate = takers.next(alloc, job, e, size, before, shared)?;
     let partition = senders.next(job, next, size, behind);
-    let lent = shared.lend();
+    let world = shared.lend(partition);
     Ok(StageTask {
         alloc,
         gate,
         edge: e as u32,
         index: takers.own.as_slice().len() as u32,
-        partition,
-        lent,
+        every: shared.every,
+        world,
     })
 }
 
@@ -176,12 +180,13 @@ fn aggregate_task<'a, 'p>(
     let last = job.stages.as_slice().len();
     let edge = item_at(edges, last);
     let gate = takers.next(alloc, job, last, size, edge, shared)?;
-    let lent = shared.lend();
+    let world = shared.lend(());
     Ok(AggregateTask {
         alloc,
         gate,
         index: takers.own.as_slice().len() as u32,
-        lent,
+        every: shared.every,
+        world,
     })
 }
 
@@ -232,13 +237,13 @@ pub fn source_row<'a, 'p, S: Drop>(
     let mut lents = lents;
     let mut row = row;
     'sources: while let Some(input) = inputs.pop() {
-        let SourceLent { partition, lent } = lents.take_last();
+        let SourceLent { every, world } = lents.take_last();
         let task = SourceTask {
             alloc,
             input,
             index: inputs.as_slice().len() as u32,
-            partition,
-            lent,
+            every,
+            world,
         };
         put(&mut row, Place::Todo(Task::Source(task)));
     }

@@ -25,7 +25,7 @@ use Rattle.snapshot_channel.specs.declared.opened.SnapshotChannel.{SnapshotChann
 use Rattle.snapshot_channel.specs.Passes as channels
 use Rattle.job_cells.specs.declared.edge.Edge.{Edge}
 use Rattle.job_cells.specs.Edges.{place_into}
-use Rattle.job_workers.specs.declared.task.Lent.{Lent}
+use Rattle.task_output.specs.declared.world.World.{World}
 use Rattle.job_workers.specs.declared.task.TaskLeft.{TaskLeft}
 use Rattle.job_workers.specs.Tasks.{HasGatePasses, HasPartitionPasses, HasSnapshotPass}
 use Rattle.job_deploy.specs.Deployed.{IsPartitionAt, IsGateAt, IsLentOf}
@@ -43,8 +43,8 @@ own_moved ec ef es own = rw (ec, ef, es) at own
 
 module _ {S : Type 0} {job : Job} {size : ℕ} {every : Option ℕ} {snapshots : SnapshotChannel} {edges : List Edge} where
   -- A task has its pass of the channel of snapshots that it was lent.
-  has_acknowledged : {i a j b : ℕ} {lent : Lent} {end : TaskLeft S} → IsLentOf job size every snapshots edges lent → i ≡ j → a ≡ b →
-      HasSnapshotPass i a lent end.snapshots → HasAcknowledged snapshots j b end
+  has_acknowledged : {P : Type 0} {i a j b : ℕ} {told : Option ℕ} {world : World P} {end : TaskLeft S} → IsLentOf job size every snapshots edges told world → i ≡ j → a ≡ b →
+      HasSnapshotPass i a world.acks.snapshots.now end.snapshots → HasAcknowledged snapshots j b end
   has_acknowledged {a = a} {j = j} of ei ea h = record {
     pass = h.pass;
     is_there = h.is_there;
@@ -157,7 +157,7 @@ module _ {S O I L N : Type 0} {words : WorldWords S O I L N} {run : Run S O I} (
         s.end.left,
         is_left rows (suc e) a s.end,
         has_sent at s.was.partition
-            (subst (λ (k : ℕ). HasPartitionPasses job (suc k) s.task.partition s.end.left.partition) s.was.edge s.by.partition),
+            (subst (λ (k : ℕ). HasPartitionPasses job (suc k) s.task.world.partition s.end.left.partition) s.was.edge s.by.partition),
       )
 
   taken_last : (b : ℕ) (edge : Edge) → b < tasks job (suc (last_edge job)) → slice_get edges (last_edge job) ≡ Some edge → TakenBy (last_edge job) b edge

@@ -27,9 +27,10 @@ use Rattle.input_channel.proofs.channel.InputChannel.TheSendSync as input
 use Rattle.input_gate.proofs.lane.Lane.TheSendSync as lane
 use Rattle.input_gate.proofs.lender.Lender.TheSendSync as lender
 use Rattle.outside.proofs.pause.Pause.TheSendSync as pause
+use Rattle.task_output.specs.contracts.acks.Acks as acks
+use Rattle.task_output.specs.contracts.world.World as world
 use Rattle.input_gate.specs.contracts.cell_gate.CellGate as gate
 use Rattle.input_gate.specs.contracts.cell_gate.CellGate.TheInside as inside
-use Rattle.job_workers.specs.contracts.task.Lent as lent
 use Rattle.job_workers.specs.contracts.task.SourceTask as source
 use Rattle.job_workers.specs.contracts.task.StageTask as stage
 use Rattle.job_workers.specs.contracts.task.AggregateTask as aggregate
@@ -99,27 +100,27 @@ gate_send a p = search (sendable, inside_send) depth 20
 
 -- ---- the tasks
 
-lent_send : (a : NamedLft) → IsSend (lent.the_row a)
-lent_send a = declared_send (lent.the_type a) (
-  search sendable depth 20,
+acks_send : (a : NamedLft) → IsSend (acks.the_row a)
+acks_send a = declared_send (acks.the_type a) (
+  search (sendable, channel_sync) depth 20,
   (
-    search (sendable, channel_sync) depth 20,
+    search (sendable, task_pass.the_send) depth 20,
     (
-      search (sendable, task_pass.the_send) depth 20,
-      (
-        search (sendable, crosses, cell.the_sync, last_image.the_send) depth 20,
-        (
-          search (sendable, crosses, pass.the_send, last_image.the_send) depth 20,
-          (search (sendable, crosses, cell.the_sync, stop.the_send) depth 20, (search (sendable, crosses, pass.the_send, stop.the_send) depth 20, tt)),
-        ),
-      ),
+      search (sendable, crosses, cell.the_sync, last_image.the_send) depth 20,
+      (search (sendable, crosses, pass.the_send, last_image.the_send) depth 20, (search sendable depth 20, tt)),
     ),
   ),
 )
 
+world_send : (a : NamedLft) (P : RattleType) → IsSend P → IsSend (world.the_row a P)
+world_send a P p = declared_send (world.the_type a P) (
+  search (sendable, p) depth 20,
+  (acks_send a, (search (sendable, crosses, cell.the_sync, stop.the_send) depth 20, (search (sendable, crosses, pass.the_send, stop.the_send) depth 20, tt))),
+)
+
 source_send : (a p : NamedLft) (S : RattleType) → IsSend S → IsSend (source.the_row a p S)
 source_send a p S s = declared_send (source.the_type a p S)
-    (search (sendable, crosses) depth 20, (search (sendable, s) depth 20, (search sendable depth 20, (search (sendable, partition.the_send) depth 20, (lent_send a, tt)))))
+    (search (sendable, crosses) depth 20, (search (sendable, s) depth 20, (search sendable depth 20, (search sendable depth 20, (search (sendable, world_send, partition.the_send) depth 20, tt)))))
 
 stage_send : (a p : NamedLft) → IsSend (stage.the_row a p)
 stage_send a p = declared_send (stage.the_type a p) (
@@ -130,7 +131,7 @@ stage_send a p = declared_send (stage.the_type a p) (
       search sendable depth 20,
       (
         search sendable depth 20,
-        (search (sendable, partition.the_send) depth 20, (lent_send a, tt)),
+        (search sendable depth 20, (search (sendable, world_send, partition.the_send) depth 20, tt)),
       ),
     ),
   ),
@@ -138,7 +139,7 @@ stage_send a p = declared_send (stage.the_type a p) (
 
 aggregate_send : (a p : NamedLft) → IsSend (aggregate.the_row a p)
 aggregate_send a p = declared_send (aggregate.the_type a p)
-    (search (sendable, crosses) depth 20, (search (sendable, gate_send) depth 20, (search sendable depth 20, (lent_send a, tt))))
+    (search (sendable, crosses) depth 20, (search (sendable, gate_send) depth 20, (search sendable depth 20, (search sendable depth 20, (search (sendable, world_send) depth 20, tt)))))
 
 pub task_send : (a p : NamedLft) (S : RattleType) → IsSend S → IsSend (task.the_row a p S)
 task_send a p S s = variants_send (task.enum a p S) ((source_send a p S s, tt), ((stage_send a p, tt), ((aggregate_send a p, tt), tt)))

@@ -1,7 +1,6 @@
 -- What the tasks of a job may be lent, and what they leave. This is this project's own choice.
-use Rattle.std.specs.Prelude.{◌≡◌, ℕ, suc, ◌<◌, ◌≤◌, [], List, Option, Some, None, IfSome}
+use Rattle.std.specs.Prelude.{◌≡◌, ℕ, suc, ◌<◌, [], List, Option, Some, None}
 use Rattle.std.specs.Option.{option_map_or}
-use Rattle.turn_cell.specs.Passes.{IsPassOf, mine}
 use Rattle.flow_defs.specs.declared.image.Snapshot.{Snapshot}
 use Rattle.flow_defs.specs.declared.image.TakeRun.{TakeRun}
 use Rattle.flow_defs.specs.declared.job.Job.{Job}
@@ -18,13 +17,14 @@ use Rattle.input_gate.specs.States.{GateState, account_in}
 use Rattle.input_gate.specs.Turning.{InputCell, InputPass}
 use Rattle.outside.specs.declared.last_image.Stored.{Stored}
 use Rattle.checkpoint_laws.specs.Chapters.{task_at}
+use Rattle.snapshot_channel.specs.declared.opened.SnapshotChannel.{SnapshotChannel}
 use Rattle.snapshot_channel.specs.declared.opened.TaskPass.{TaskPass}
 use Rattle.snapshot_channel.specs.Passes as channels
+use Rattle.task_output.specs.Acking.{IsLent}
 use Rattle.source_task.specs.Sources.{SourceAccount}
 use Rattle.stage_task.specs.Stages.{StageAccount}
 use Rattle.aggregate_task.specs.Aggregates.{AggregateAccount}
 use Rattle.job_chain.specs.Ran.{TellsGiven}
-use Rattle.job_workers.specs.declared.task.Lent.{Lent}
 use Rattle.job_workers.specs.declared.task.SourceTask.{SourceTask}
 use Rattle.job_workers.specs.declared.task.StageTask.{StageTask}
 use Rattle.job_workers.specs.declared.task.AggregateTask.{AggregateTask}
@@ -34,34 +34,24 @@ use Rattle.job_workers.specs.declared.task.TaskLeft.{TaskLeft}
 
 -- ---- what they are lent
 
--- Task a of stage i is lent fresh passes: of the channel of snapshots, which is opened for the job from the start on and for the interval
--- that it is told, of the cell of the last image, and of what stops all workers. An interval has at least one line.
-pub record MayCheckpoint (job : Job) (i a : ℕ) (lent : Lent) : Type 0 where
-  pub interval : IfSome lent.every (λ n. 1 ≤ n)
-  pub fresh : channels.IsFresh lent.snapshots.now lent.snapshot_pass
-  pub task : channels.task_of lent.snapshot_pass ≡ task_at i a
-  pub opening : channels.opening_of lent.snapshots.now ≡ channels.opening job 0 lent.every
-  pub last_pass : IsPassOf lent.last_image.now lent.last_pass
-  pub stop : IsPassOf lent.stop.now lent.stop_pass × (mine lent.stop_pass ≡ [])
-
 -- The gate of a task behind edge e has given nothing.
 abbrev pub IsGateBehind : Job → ℕ → GateState → Type 0
 IsGateBehind job e gate = IsNew (account_in gate) × ((account_in gate).channels ≡ ways_into job e)
 
 pub record MayRunSource {S : Type 0} (job : Job) (task : SourceTask S) : Type 0 where
-  pub partition : IsPartitionOf job 0 task.index task.partition
-  pub may : MayCheckpoint job 0 task.index task.lent
+  pub partition : IsPartitionOf job 0 task.index task.world.partition
+  pub lent : IsLent job 0 task.index task.every task.world
 
 pub record MayRunStage (job : Job) (task : StageTask) : Type 0 where
   pub stage : (task.edge < last_edge job) × (task.index < tasks job (suc task.edge))
   pub gate : IsGateBehind job task.edge task.gate
-  pub partition : IsPartitionOf job (suc task.edge) task.index task.partition
-  pub may : MayCheckpoint job (suc task.edge) task.index task.lent
+  pub partition : IsPartitionOf job (suc task.edge) task.index task.world.partition
+  pub lent : IsLent job (suc task.edge) task.index task.every task.world
 
 pub record MayRunAggregate (job : Job) (task : AggregateTask) : Type 0 where
   pub index : task.index < tasks job (suc (last_edge job))
   pub gate : IsGateBehind job (last_edge job) task.gate
-  pub may : MayCheckpoint job (suc (last_edge job)) task.index task.lent
+  pub lent : IsLent job (suc (last_edge job)) task.index task.every task.world
 
 abbrev pub MayRunTask : {S : Type 0} → Job → Task S → Type 0
 MayRunTask job (Source task) = MayRunSource job task
@@ -92,11 +82,11 @@ pub record HasPartitionPasses (job : Job) (e : ℕ) (lent : Partition) (back : O
   pub are_there : back ≡ Some passes
   pub are_of : ArePassesOf job e lent passes
 
--- There is the pass of the channel of snapshots of task a of stage i.
-pub record HasSnapshotPass (i a : ℕ) (lent : Lent) (back : Option TaskPass) : Type 0 where
+-- There is the pass of this channel of snapshots of task a of stage i.
+pub record HasSnapshotPass (i a : ℕ) (snapshots : SnapshotChannel) (back : Option TaskPass) : Type 0 where
   pub pass : TaskPass
   pub is_there : back ≡ Some pass
-  pub of_channel : channels.IsPassOf lent.snapshots.now pass
+  pub of_channel : channels.IsPassOf snapshots pass
   pub task : channels.task_of pass ≡ task_at i a
 
 -- A source has its account.
@@ -104,34 +94,34 @@ pub record LeftBySource {S : Type 0} (left : S → Option (List ℕ)) (faults : 
   pub input : S
   pub is_there : end.input ≡ Some input
   pub no_gate : end.gate ≡ None
-  pub partition : HasPartitionPasses job 0 task.partition end.partition
-  pub snapshots : HasSnapshotPass 0 task.index task.lent end.snapshots
+  pub partition : HasPartitionPasses job 0 task.world.partition end.partition
+  pub snapshots : HasSnapshotPass 0 task.index task.world.acks.snapshots.now end.snapshots
   pub history : List (ℕ × Stored)
-  pub account : SourceAccount job task.index task.partition.size task.lent.every (passes_in end.partition) (snapshots_in end.snapshots) history (left task.input) (faults task.input) (faults input) end.cause
+  pub account : SourceAccount job task.index task.world.partition.size task.every (passes_in end.partition) (snapshots_in end.snapshots) history (left task.input) (faults task.input) (faults input) end.cause
 
 -- A stateless task has its account by what its gate's passes tell.
 pub record LeftByStage {S : Type 0} (job : Job) (task : StageTask) (end : TaskLeft S) : Type 0 where
   pub no_input : end.input ≡ None
   pub gate : HasGatePasses (cells_in task.gate.lanes) end.gate
-  pub partition : HasPartitionPasses job (suc task.edge) task.partition end.partition
-  pub snapshots : HasSnapshotPass (suc task.edge) task.index task.lent end.snapshots
+  pub partition : HasPartitionPasses job (suc task.edge) task.world.partition end.partition
+  pub snapshots : HasSnapshotPass (suc task.edge) task.index task.world.acks.snapshots.now end.snapshots
   pub given : Account
   pub tells : TellsGiven (gate_in end.gate) given
   pub history : List (ℕ × Stored)
   pub takes : List TakeRun
-  pub account : StageAccount job task.edge task.index task.partition.size task.lent.every given (passes_in end.partition) (snapshots_in end.snapshots) history takes end.cause
+  pub account : StageAccount job task.edge task.index task.world.partition.size task.every given (passes_in end.partition) (snapshots_in end.snapshots) history takes end.cause
 
 -- So has a task of the aggregate.
 pub record LeftByAggregate {S : Type 0} (job : Job) (task : AggregateTask) (end : TaskLeft S) : Type 0 where
   pub no_input : end.input ≡ None
   pub gate : HasGatePasses (cells_in task.gate.lanes) end.gate
   pub no_partition : end.partition ≡ None
-  pub snapshots : HasSnapshotPass (suc (last_edge job)) task.index task.lent end.snapshots
+  pub snapshots : HasSnapshotPass (suc (last_edge job)) task.index task.world.acks.snapshots.now end.snapshots
   pub given : Account
   pub tells : TellsGiven (gate_in end.gate) given
   pub history : List (ℕ × Stored)
   pub takes : List TakeRun
-  pub account : AggregateAccount job task.index task.lent.every given (snapshots_in end.snapshots) history takes end.cause
+  pub account : AggregateAccount job task.index task.every given (snapshots_in end.snapshots) history takes end.cause
 
 abbrev pub LeftByTask : {S : Type 0} → (S → Option (List ℕ)) → (S → ℕ) → Job → Task S → TaskLeft S → Type 0
 LeftByTask left faults job (Source task) end = LeftBySource left faults job task end

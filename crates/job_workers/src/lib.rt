@@ -16,4 +16,4 @@ pub use all::{LoopPlace, LoopRow, TaskPlace, TaskRow, run_all};
 pub use collecting::{CollectPlace, CollectTask};
 pub use connection::{ConnLoop, LoopLeft, LoopWork};
 pub use place::{Place, Worker, run_rows};
-pub use task::{AggregateTask, Lent, SourceTask, StageTask, Task, TaskLeft};
+pub use task::{AggregateTask, SourceTask, StageTask, Task, TaskLeft};

@@ -5,32 +5,18 @@ ghost use Rattle.job_plan.specs.Plans.{CanRun};
 ghost use Rattle.job_workers.specs.Tasks.{LeftByAggregate, LeftBySource, LeftByStage, LeftByTask, MayRunAggregate, MayRunSource, MayRunStage, MayRunTask};
 
 use crate::place::Worker;
-use aggregate_task::{AggregateTaskEnd, AggregateWorld, run_aggregate};
+use aggregate_task::run_aggregate;
 use flow_defs::{Cause, Job};
 use input_gate::{CellGate, GatePasses};
-use outside::{LastImage, Source, StopState};
+use outside::Source;
 use record_writer::{Partition, PartitionPasses};
-use snapshot_channel::{SnapshotChannel, TaskPass};
-use source_task::{SourceTaskEnd, SourceWorld, run_source};
+use snapshot_channel::TaskPass;
+use source_task::run_source;
 use stage_fns::FnTable;
-use stage_task::{StageTaskEnd, StageWorld, run_stage};
+use stage_task::run_stage;
 use std::alloc::Global;
 use std::sync::Wait;
-use turn_cell::{Pass, TurnCell};
-
-/// What a task is lent beside its input or its gate and its partition: how many lines a source reads between two
-/// checkpoints, from 1, or None for the last one alone; the channel of snapshots, the cell that tells the image
-/// stored last, and what stops all workers.
-#[derive(Drop)]
-pub struct Lent<'a> {
-    pub every: Option<u64>,
-    pub snapshots: &'a SnapshotChannel,
-    pub snapshot_pass: TaskPass,
-    pub last_image: &'a TurnCell<LastImage>,
-    pub last_pass: Pass<LastImage>,
-    pub stop: &'a TurnCell<StopState>,
-    pub stop_pass: Pass<StopState>,
-}
+use task_output::{TaskEnd, World, WorldPasses};
 
 /// The task of the source of this index.
 #[derive(Drop)]
@@ -38,8 +24,9 @@ pub struct SourceTask<'a, 'p, S> {
     pub alloc: Global,
     pub input: S,
     pub index: u32,
-    pub partition: Partition<'a, 'p>,
-    pub lent: Lent<'a>,
+    /// How many lines a source reads between two checkpoints, from 1. None: there is only the last one.
+    pub every: Option<u64>,
+    pub world: World<'a, Partition<'a, 'p>>,
 }
 
 /// The task of this index of the stateless stage behind `edge`.
@@ -49,8 +36,8 @@ pub struct StageTask<'a, 'p> {
     pub gate: CellGate<'a, 'p>,
     pub edge: u32,
     pub index: u32,
-    pub partition: Partition<'a, 'p>,
-    pub lent: Lent<'a>,
+    pub every: Option<u64>,
+    pub world: World<'a, Partition<'a, 'p>>,
 }
 
 /// The aggregate's task of this index.
@@ -59,7 +46,8 @@ pub struct AggregateTask<'a, 'p> {
     pub alloc: Global,
     pub gate: CellGate<'a, 'p>,
     pub index: u32,
-    pub lent: Lent<'a>,
+    pub every: Option<u64>,
+    pub world: World<'a, ()>,
 }
 
 /// A task of a job.
@@ -95,41 +83,22 @@ fn run_source_task<'a, 'p, S: Source, R: Wait>(
         alloc,
         input,
         index,
-        partition,
-        lent,
-    } = task;
-    let Lent {
         every,
-        snapshots,
-        snapshot_pass,
-        last_image,
-        last_pass,
-        stop,
-        stop_pass,
-    } = lent;
-    let world = SourceWorld {
-        job,
-        partition,
-        snapshots,
-        snapshot_pass,
-        last_image,
-        last_pass,
-        stop,
-        stop_pass,
-    };
+        world,
+    } = task;
     let mut input = input;
-    let SourceTaskEnd {
+    let end = run_source(rt, alloc, job, &mut input, index, every, world);
+    let TaskEnd { passes, cause, .. } = end;
+    let WorldPasses {
         partition,
-        snapshot_pass,
-        last_pass: _,
-        stop_pass: _,
-        cause,
-    } = run_source(rt, alloc, &mut input, index, every, world);
+        snapshots,
+        ..
+    } = passes;
     TaskLeft {
         input: Some(input),
         gate: None,
         partition: Some(partition),
-        snapshots: Some(snapshot_pass),
+        snapshots: Some(snapshots),
         cause,
     }
 }
@@ -150,43 +119,26 @@ fn run_stage_task<'a, 'p, S, R: Wait>(
         gate,
         edge,
         index,
-        partition,
-        lent,
-    } = task;
-    let Lent {
         every,
-        snapshots,
-        snapshot_pass,
-        last_image,
-        last_pass,
-        stop,
-        stop_pass,
-    } = lent;
-    let world = StageWorld {
-        job,
-        functions,
-        partition,
-        snapshots,
-        snapshot_pass,
-        last_image,
-        last_pass,
-        stop,
-        stop_pass,
-    };
-    let StageTaskEnd {
+        world,
+    } = task;
+    let end = run_stage(rt, alloc, job, functions, gate, edge, index, every, world);
+    let TaskEnd {
         gate,
-        partition,
-        snapshot_pass,
-        last_pass: _,
-        stop_pass: _,
-        takes: _,
+        passes,
         cause,
-    } = run_stage(rt, alloc, gate, edge, index, every, world);
+        ..
+    } = end;
+    let WorldPasses {
+        partition,
+        snapshots,
+        ..
+    } = passes;
     TaskLeft {
         input: None,
         gate: Some(gate.into_passes()),
         partition: Some(partition),
-        snapshots: Some(snapshot_pass),
+        snapshots: Some(snapshots),
         cause,
     }
 }
@@ -206,40 +158,22 @@ fn run_aggregate_task<'a, 'p, S, R: Wait>(
         alloc,
         gate,
         index,
-        lent,
-    } = task;
-    let Lent {
         every,
-        snapshots,
-        snapshot_pass,
-        last_image,
-        last_pass,
-        stop,
-        stop_pass,
-    } = lent;
-    let world = AggregateWorld {
-        job,
-        functions,
-        snapshots,
-        snapshot_pass,
-        last_image,
-        last_pass,
-        stop,
-        stop_pass,
-    };
-    let AggregateTaskEnd {
+        world,
+    } = task;
+    let end = run_aggregate(rt, alloc, job, functions, gate, index, every, world);
+    let TaskEnd {
         gate,
-        snapshot_pass,
-        last_pass: _,
-        stop_pass: _,
-        takes: _,
+        passes,
         cause,
-    } = run_aggregate(rt, alloc, gate, index, every, world);
+        ..
+    } = end;
+    let WorldPasses { snapshots, .. } = passes;
     TaskLeft {
         input: None,
         gate: Some(gate.into_passes()),
         partition: None,
-        snapshots: Some(snapshot_pass),
+        snapshots: Some(snapshots),
         cause,
     }
 }

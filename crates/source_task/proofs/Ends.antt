@@ -1,5 +1,5 @@
 -- How a source begins and ends.
-use Rattle.std.proofs.Common.{◌≡◌, ◌≢◌, ℕ, zero, suc, ◌≤◌, true, false, List, [], ◌∷◌, ◌++◌, Option, Some, None, IfSome, refl, sym, ap, subst, ◌∙◌, inl, inr, arith}
+use Rattle.std.proofs.Common.{◌≡◌, ◌≢◌, Bor, ℕ, zero, suc, ◌≤◌, true, false, List, [], ◌∷◌, ◌++◌, length, Option, Some, None, IfSome, refl, sym, ap, subst, ◌∙◌, inl, inr, arith}
 use Rattle.turn_cell.specs.History.{StartsWith}
 use Rattle.turn_cell.specs.Passes.{IsSamePass, seen}
 use Rattle.flow_defs.specs.declared.cause.Cause.{Cause}
@@ -15,19 +15,22 @@ use Rattle.conn_parts.specs.Stopping.{StopCell, StopPass, ToldStop}
 use Rattle.record_writer.specs.Partitions.{IsWriterOf}
 use Rattle.record_writer.specs.Writers.{SendPass, Writer, IsNew, IsOpen}
 use Rattle.record_writer.specs.declared.partition.Partition.{Partition}
-use Rattle.snapshot_channel.specs.Passes.{sent_by}
+use Rattle.snapshot_channel.specs.declared.opened.SnapshotChannel.{SnapshotChannel}
+use Rattle.snapshot_channel.specs.Passes.{opening_of, sent_by}
+use Rattle.task_output.specs.declared.acks.Acks.{Acks}
+use Rattle.task_output.specs.Acking.{HasPasses}
 use Rattle.task_output.specs.Outputs.{WritesFor, HasSent, BegunOn, end_of}
 use Rattle.source_task.specs.declared.output.SourceOutput.{SourceOutput}
 use Rattle.source_task.specs.Emitting.{AreSnapshots, HasEmitted, has_ended}
 use Rattle.source_task.specs.Sources.{SourceAccount, IsSourceCause}
 use Rattle.task_output.specs.Ending.{EndsAs, ToldAtEnd}
-use Rattle.task_output.specs.Waiting.{MayEnd}
+use Rattle.task_output.specs.Waiting.{HasWaited, MayEnd}
 
 -- ---- where it begins
 
 module _ (job : Job) (partition : Partition) (w : Writer) (out : SourceOutput) (writes : IsWriterOf job 0 out.index partition w) (new : IsNew w × IsOpen w)
     (none : (job : Job) (e a size : ℕ) → WritesFor job e a size w → IsNew w → IsOpen w → HasSent job e a size out.output [] [])
-    (fresh : sent_by out.pass ≡ []) (barriers : out.barriers ≡ 0) (offset : out.offset ≡ 0) (since : out.since ≡ 0) where
+    (fresh : sent_by out.acks.pass ≡ []) (offset : out.offset ≡ 0) (since : out.since ≡ 0) where
   pub emitted_none : HasEmitted job partition.size out []
   emitted_none = record {
     groups = [];
@@ -35,13 +38,18 @@ module _ (job : Job) (partition : Partition) (w : Writer) (out : SourceOutput) (
     all_are = refl;
     sent = none job 0 out.index partition.size (record { job_is = writes.job_is; edge = writes.edge; index = writes.index; size_is = writes.size }) new.0 new.1;
     snapshots = subst (AreSnapshots out.index out.every 0 0 0 []) (sym fresh) tt;
-    barriers_are = barriers;
     offset_is = offset;
     since_is = since;
     at_end = λ is. refl;
   }
 
 -- ---- where it ends
+
+-- the number of its last snapshot is how many it sent
+pub sent_many : (acks acks' : Acks) → acks'.snapshots ≡ acks.snapshots → (opening_of acks.snapshots.now).base ≡ 0 → HasPasses acks' → acks'.number ≡ length (sent_by acks'.pass)
+sent_many acks acks' same base passes =
+    let base' = ap (λ (s : Bor SnapshotChannel). (opening_of s.now).base) same ∙ base in
+    passes.number_is ∙ omega (arith, base')
 
 -- an account of what is the same is the same
 pub account_of_same : (job : Job) (a a' size : ℕ) (every every' : Option ℕ) (passes passes' : List SendPass) (sent sent' : List Snapshot) (history history' : List (ℕ × Stored)) (left : Option (List ℕ)) (fell rose : ℕ) (cause : Cause) → a ≡ a' → every ≡ every' → passes ≡ passes' → sent ≡ sent' → history ≡ history'
@@ -92,10 +100,10 @@ account_unsent job a size every passes sent history left fell rose new none_sent
   rest = [];
   begun = [];
   snapshots = subst (AreSnapshots a every 0 0 0 []) (sym none_sent) tt;
-  put = λ c inside. subst (BegunOn (receiver_on job 0 a) [] (end_of job 0 a c) size [] (MayEnd every history no_groups no_lines)) (sym (none_at passes c new)) (record {
+  put = λ c inside. subst (BegunOn (receiver_on job 0 a) [] (end_of job 0 a c) size [] (HasWaited 1 history) (MayEnd every history no_groups no_lines)) (sym (none_at passes c new)) (record {
     more = [] ∷ [];
     cut = refl;
-    few = omega arith;
+    few = inl (omega arith);
     ended = λ over. absurd (cc);
     some = record { owed = []; begins = refl; buffers = tt };
   });

@@ -1,5 +1,5 @@
 -- A source emits a line.
-use Rattle.std.proofs.Common.{◌≡◌, ℕ, ◌+◌, true, false, List, [], ◌∷◌, ◌++◌, refl, sym, ap, subst, ◌∙◌, append_assoc, append-nil, arith}
+use Rattle.std.proofs.Common.{◌≡◌, ℕ, suc, ◌+◌, true, false, List, [], ◌∷◌, ◌++◌, length, refl, sym, ap, subst, ◌∙◌, append_assoc, append-nil, arith}
 use Rattle.std.proofs.lemmas.List.{length-append}
 use Rattle.turn_cell.specs.Passes.{seen}
 use Rattle.flow_defs.specs.declared.job.Job.{Job}
@@ -7,14 +7,14 @@ use Rattle.flow_defs.specs.Records.{IsShort}
 use Rattle.snapshot_channel.specs.Passes.{sent_by}
 use Rattle.task_output.specs.Outputs.{Output, HasSent, HasStopped, all_of}
 use Rattle.task_output.specs.Laws.{SentIsBegun}
-use Rattle.task_output.specs.Waiting.{MayEnd}
-use Rattle.task_output.proofs.Begun.{unended}
+use Rattle.task_output.specs.Waiting.{HasWaited, MayEnd}
+use Rattle.task_output.proofs.Begun.{begun_where}
 use Rattle.source_task.specs.declared.output.SourceOutput.{SourceOutput}
 use Rattle.source_task.specs.Emitting.{HasEmitted, HasBroken, BrokeAmong, IsSource, has_ended}
 use Rattle.source_task.proofs.Taking.{broken_still}
 
-module _ (out : SourceOutput) (line : List ℕ) (short : IsShort line) (not_ended : has_ended (sent_by out.pass) ≡ false) where
-  never : {A : Type 0} → has_ended (sent_by out.pass) ≡ true → A
+module _ (out : SourceOutput) (line : List ℕ) (short : IsShort line) (not_ended : has_ended (sent_by out.acks.pass) ≡ false) where
+  never : {A : Type 0} → has_ended (sent_by out.acks.pass) ≡ true → A
   never is = absurd (cc)
 
   -- it was emitted
@@ -29,7 +29,6 @@ module _ (out : SourceOutput) (line : List ℕ) (short : IsShort line) (not_ende
       all_are = sym (append_assoc (all_of was.groups) was.rest (line ∷ [])) ∙ ap (λ l. l ++ line ∷ []) was.all_are;
       sent = sent;
       snapshots = was.snapshots;
-      barriers_are = was.barriers_are;
       offset_is = one ∙ omega (arith, was.offset_is, length-append lines (line ∷ []));
       since_is = one_since ∙ omega (arith, was.since_is, length-append was.rest (line ∷ []));
       at_end = never;
@@ -41,13 +40,13 @@ module _ (out : SourceOutput) (line : List ℕ) (short : IsShort line) (not_ende
       size = source.size;
       lines = source.lines ++ line ∷ [];
       emitted = line_emitted source.job source.size source.lines source.emitted sent;
-      own = record { pass = source.own.pass; task = source.own.task; last_pass = source.own.last_pass; waited = source.own.waited };
+      own = record { passes = source.own.passes; task = source.own.task; waited = source.own.waited };
       base = source.base;
       every_is = source.every_is;
     }
 
   -- it was stopped on it
-  pub line_stopped : (o : Output) (job : Job) (size : ℕ) (lines : List (List ℕ)) (was : HasEmitted job size out lines) → HasStopped job 0 out.index size o was.groups was.rest (line ∷ []) ⊥ → BrokeAmong job size (record out { output = o }) lines (line ∷ [])
+  pub line_stopped : (o : Output) (job : Job) (size : ℕ) (lines : List (List ℕ)) (was : HasEmitted job size out lines) → HasStopped job 0 out.index size o was.groups was.rest (line ∷ []) ⊥ ⊥ → BrokeAmong job size (record out { output = o }) lines (line ∷ [])
   line_stopped o job size lines was stopped = record {
     done = [];
     begun = line ∷ [];
@@ -59,14 +58,14 @@ module _ (out : SourceOutput) (line : List ℕ) (short : IsShort line) (not_ende
       groups = was.groups;
       rest = was.rest;
       all_are = was.all_are ∙ sym (append-nil lines);
-      begun_them = unended (MayEnd out.every (seen out.last_pass) was.groups (was.rest ++ line ∷ [])) job 0 out.index size o was.groups was.rest (line ∷ []) stopped.begun_them;
+      begun_them = begun_where ⊥ (HasWaited (suc (length was.groups)) (seen out.acks.last_pass)) ⊥ (MayEnd out.every (seen out.acks.last_pass) was.groups (was.rest ++ line ∷ [])) (λ no. absurd no) (λ no. absurd no) job 0 out.index size o was.groups was.rest (line ∷ []) stopped.begun_them;
       snapshots = was.snapshots;
       at_end = never;
     };
   }
 
 -- it broke off before it
-pub before_line : SentIsBegun → (job : Job) (size : ℕ) (out : SourceOutput) (lines : List (List ℕ)) (line : List ℕ) → has_ended (sent_by out.pass) ≡ false → HasEmitted job size out lines → BrokeAmong job size out lines (line ∷ [])
+pub before_line : SentIsBegun → (job : Job) (size : ℕ) (out : SourceOutput) (lines : List (List ℕ)) (line : List ℕ) → has_ended (sent_by out.acks.pass) ≡ false → HasEmitted job size out lines → BrokeAmong job size out lines (line ∷ [])
 before_line law job size out lines line not_ended was = record {
   done = [];
   begun = [];
@@ -78,5 +77,5 @@ before_line law job size out lines line not_ended was = record {
 }
 
 -- it broke off behind it
-pub behind_line : (job : Job) (size : ℕ) (out : SourceOutput) (lines : List (List ℕ)) (line : List ℕ) → IsShort line → has_ended (sent_by out.pass) ≡ false → HasBroken job size out (lines ++ line ∷ []) [] → BrokeAmong job size out lines (line ∷ [])
+pub behind_line : (job : Job) (size : ℕ) (out : SourceOutput) (lines : List (List ℕ)) (line : List ℕ) → IsShort line → has_ended (sent_by out.acks.pass) ≡ false → HasBroken job size out (lines ++ line ∷ []) [] → BrokeAmong job size out lines (line ∷ [])
 behind_line job size out lines line short not_ended broken = record { done = line ∷ []; begun = []; rest = []; parts = refl; short = (short, tt); not_ended = not_ended; broken = broken }

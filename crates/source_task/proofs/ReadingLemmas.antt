@@ -1,5 +1,6 @@
 -- The account of a source.
-use Rattle.std.proofs.Common.{◌≡◌, ◌≢◌, ℕ, ◌+◌, ◌<◌, ◌≤◌, true, false, List, [], ◌∷◌, ◌++◌, length, take, drop, Option, Some, None, IfSome, refl, sym, ap, subst, ◌∙◌, inl, inr, append_assoc, append-nil, arith}
+use Rattle.std.proofs.Common.{◌≡◌, ◌≢◌, ℕ, suc, ◌+◌, ◌<◌, ◌≤◌, true, false, List, [], ◌∷◌, ◌++◌, length, take, drop, Option, Some, None, IfSome, refl, sym, ap, subst, ◌∙◌, inl, inr, append_assoc, append-nil, arith}
+use Rattle.std.specs.Prelude.{⊤}
 use Rattle.std.specs.List.{AllByRecursion}
 use Rattle.std.proofs.lemmas.List.{take-append-drop, length-drop}
 use Rattle.turn_cell.specs.History.{StartsWith}
@@ -18,8 +19,8 @@ use Rattle.record_writer.specs.Writers.{HasSeenFault}
 use Rattle.snapshot_channel.specs.Passes.{sent_by}
 use Rattle.task_output.specs.Outputs.{all_of}
 use Rattle.task_output.specs.Laws.{SentIsBegun, FinishedIsBegun}
-use Rattle.task_output.specs.Waiting.{MayEnd}
-use Rattle.task_output.proofs.Begun.{may_have_ended}
+use Rattle.task_output.specs.Waiting.{HasWaited, MayEnd}
+use Rattle.task_output.proofs.Begun.{begun_where}
 use Rattle.source_task.specs.declared.output.LineFault.{LineFault}
 use Rattle.source_task.specs.declared.output.LineFault.TheVariants as faults
 use Rattle.source_task.specs.declared.output.SourceOutput.{SourceOutput}
@@ -74,7 +75,7 @@ module _ (law : SentIsBegun) (over : FinishedIsBegun) (job : Job) (size : ℕ) (
 
   -- it broke off behind these lines, with those begun
   broke : (out : SourceOutput) (start : Option (List ℕ)) (lines_out begun : List (List ℕ)) (cause : Cause) → HasBroken job size out lines_out begun → AllByRecursion IsShort (lines_out ++ begun) → IfSome start (λ all. StartsWith (lines all) (lines_out ++ begun))
-      → (has_ended (sent_by out.pass) ≡ true → IfSome start (λ all. lines all ≡ lines_out)) → cause ≢ causes.Done → IsSourceCause out.index start fell rose cause → SourceAccount job out.index size out.every out.output.writer.passes (sent_by out.pass) (seen out.last_pass) start fell rose cause
+      → (has_ended (sent_by out.acks.pass) ≡ true → IfSome start (λ all. lines all ≡ lines_out)) → cause ≢ causes.Done → IsSourceCause out.index start fell rose cause → SourceAccount job out.index size out.every out.output.writer.passes (sent_by out.acks.pass) (seen out.acks.last_pass) start fell rose cause
   broke out start lines_out begun cause broken short front at_end other cause_is =
       let all = sym (append_assoc (all_of broken.groups) broken.rest begun) ∙ ap (λ l. l ++ begun) broken.all_are in
       record {
@@ -96,7 +97,7 @@ module _ (law : SentIsBegun) (over : FinishedIsBegun) (job : Job) (size : ℕ) (
       front_of None same on = tt
       front_of (Some all) same on = subst (StartsWith (lines all)) (sym same) on
 
-      none_of : has_ended (sent_by out.pass) ≡ true → broken.rest ≡ []
+      none_of : has_ended (sent_by out.acks.pass) ≡ true → broken.rest ≡ []
       none_of is = first broken.rest begun (broken.at_end is)
         where
           first : (xs ys : List (List ℕ)) → xs ++ ys ≡ [] → xs ≡ []
@@ -167,7 +168,8 @@ module _ (law : SentIsBegun) (over : FinishedIsBegun) (job : Job) (size : ℕ) (
           rest = [];
           begun = [];
           snapshots = finished.1.snapshots;
-          put = (may_have_ended (MayEnd out.every (seen out.last_pass) finished.1.groups no_lines) (finished.1.last, refl) job 0 out.index size out.output finished.1.groups [] [] (over job 0 out.index size out.output finished.1.groups [] finished.1.finished)).each;
+          put = (begun_where ⊥ (HasWaited (suc (length finished.1.groups)) (seen out.acks.last_pass)) ⊤ (MayEnd out.every (seen out.acks.last_pass) finished.1.groups no_lines) (λ no. absurd no) (λ _. (finished.1.last, refl))
+              job 0 out.index size out.output finished.1.groups [] [] (over job 0 out.index size out.output finished.1.groups [] finished.1.finished)).each;
           short = subst (AllByRecursion IsShort) (sym (append-nil (all_of finished.1.groups) ∙ finished.1.all_are)) behind.0;
           front = whole_front start (all_of_it start way.2) (append-nil (all_of finished.1.groups) ∙ finished.1.all_are);
           at_end = λ is. (whole start (all_of_it start way.2) finished.1.all_are, refl);
@@ -211,7 +213,7 @@ module _ (law : SentIsBegun) (over : FinishedIsBegun) (job : Job) (size : ℕ) (
       within_of (Some all) on = let len : length on.0 ≡ 0 = ap length (nothing on.0 on.1) in omega (arith, on.2, len, few)
 
   -- it goes no further, with a cause that is its own
-  goes_no_further : (start left : Option (List ℕ)) (taken : ℕ) (out : SourceOutput) (line : List ℕ) (cause : Cause) → has_ended (sent_by out.pass) ≡ false → IsOnWay job size start left taken out line → cause ≢ causes.Done → cause ≢ causes.Stopped → IsSourceCause out.index start fell rose cause → SourceEnd job size out start fell rose cause
+  goes_no_further : (start left : Option (List ℕ)) (taken : ℕ) (out : SourceOutput) (line : List ℕ) (cause : Cause) → has_ended (sent_by out.acks.pass) ≡ false → IsOnWay job size start left taken out line → cause ≢ causes.Done → cause ≢ causes.Stopped → IsSourceCause out.index start fell rose cause → SourceEnd job size out start fell rose cause
   goes_no_further start left taken out line cause not_ended way other calm cause_is = record {
     account = broke out start way.0 [] cause (broken_still law job size out way.0 way.1.emitted) (subst (AllByRecursion IsShort) (sym (append-nil way.0)) way.1.short) (front_of start way.2) (λ is. absurd (cc)) other cause_is;
     stopped = λ is. absurd (calm is);
@@ -221,10 +223,10 @@ module _ (law : SentIsBegun) (over : FinishedIsBegun) (job : Job) (size : ℕ) (
       front_of None on = tt
       front_of (Some all) on = (lines (line ++ on.0), on.3 ∙ ap (λ l. l ++ lines (line ++ on.0)) (sym (append-nil way.0)))
 
-  pub read_failed : (start left : Option (List ℕ)) (taken : ℕ) (out : SourceOutput) (a : ℕ) (line : List ℕ) → out.index ≡ a → has_ended (sent_by out.pass) ≡ false → IsOnWay job size start left taken out line → HasRisen fell rose → SourceEnd job size out start fell rose (causes.Input a)
+  pub read_failed : (start left : Option (List ℕ)) (taken : ℕ) (out : SourceOutput) (a : ℕ) (line : List ℕ) → out.index ≡ a → has_ended (sent_by out.acks.pass) ≡ false → IsOnWay job size start left taken out line → HasRisen fell rose → SourceEnd job size out start fell rose (causes.Input a)
   read_failed start left taken out a line index not_ended way risen = goes_no_further start left taken out line (causes.Input a) not_ended way (λ is. cc) (λ is. cc) (sym index, risen)
 
-  pub read_much : (start left : Option (List ℕ)) (taken : ℕ) (out : SourceOutput) (a : ℕ) (line : List ℕ) → out.index ≡ a → has_ended (sent_by out.pass) ≡ false → IsOnWay job size start left taken out line → SOURCE_MAX < taken → SourceEnd job size out start fell rose (causes.BigSource a)
+  pub read_much : (start left : Option (List ℕ)) (taken : ℕ) (out : SourceOutput) (a : ℕ) (line : List ℕ) → out.index ≡ a → has_ended (sent_by out.acks.pass) ≡ false → IsOnWay job size start left taken out line → SOURCE_MAX < taken → SourceEnd job size out start fell rose (causes.BigSource a)
   read_much start left taken out a line index not_ended way much = goes_no_further start left taken out line (causes.BigSource a) not_ended way (λ is. cc) (λ is. cc) (sym index, big start way.2)
     where
       big : (s : Option (List ℕ)) → IfSome s (λ all. (rest : List ℕ) × (left ≡ Some rest) × (taken + length rest ≡ length all) × (lines all ≡ way.0 ++ lines (line ++ rest))) → IfSome s (λ all. SOURCE_MAX < length all)

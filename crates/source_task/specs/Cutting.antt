@@ -41,7 +41,7 @@ pub record BrokeOff (job : Job) (size : ℕ) (out : SourceOutput) (ended : List 
   pub broken : HasBroken job size out (ended ++ done) begun
   pub short : AllByRecursion IsShort ((ended ++ done) ++ begun)
   pub front : StartsWith (lines text) (done ++ begun)
-  pub not_ended : has_ended (sent_by out.pass) ≡ false
+  pub not_ended : has_ended (sent_by out.acks.pass) ≡ false
   pub fault_is : IsLineFault out text fault
 
 -- The last line was emitted too.

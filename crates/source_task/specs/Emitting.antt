@@ -3,18 +3,15 @@
 use Rattle.std.specs.Prelude.{◌≡◌, ℕ, suc, ◌+◌, ◌<◌, ⊤, Bool, true, false, List, [], ◌∷◌, ◌++◌, length, Option, Some, None, IfSome, Result, Ok, Err}
 use Rattle.std.specs.List.{AllByRecursion, list_any}
 use Rattle.std.specs.FinMap.{empty}
-use Rattle.turn_cell.specs.declared.pass.Pass.{Pass}
-use Rattle.turn_cell.specs.Passes as passes
 use Rattle.turn_cell.specs.Passes.{seen}
 use Rattle.flow_defs.specs.declared.job.Job.{Job}
 use Rattle.flow_defs.specs.declared.image.Snapshot.{Snapshot}
 use Rattle.flow_defs.specs.Records.{IsShort}
 use Rattle.plain_machine.specs.Emitting.{count_after}
 use Rattle.checkpoint_laws.specs.Chapters.{task_at}
-use Rattle.outside.specs.declared.last_image.LastImage.{LastImage}
-use Rattle.outside.specs.declared.last_image.Stored.{Stored}
 use Rattle.record_writer.specs.Writers.{IsSame, HasSeenFault}
-use Rattle.snapshot_channel.specs.Passes.{IsPassOf, opening_of, sent_by, task_of}
+use Rattle.snapshot_channel.specs.Passes.{opening_of, sent_by, task_of}
+use Rattle.task_output.specs.Acking.{HasPasses}
 use Rattle.task_output.specs.Outputs.{HasSent, HasBegun, HasFinished, all_of}
 use Rattle.task_output.specs.Waiting.{HasWaited, LastIs, MayEnd}
 use Rattle.source_task.specs.declared.output.SourceOutput.{SourceOutput}
@@ -59,10 +56,6 @@ has_ended sent = list_any (λ (x : Snapshot). x.ended) sent
 
 -- ---- a source under way
 
--- A pass of the cell that tells the image stored last.
-abbrev pub LastPass : Type 0
-LastPass = Pass LastImage Stored (Unit {0})
-
 -- The source of the job has emitted these lines, in segments of this size, with a barrier and a snapshot behind each of the groups and
 -- none behind the rest.
 pub record HasEmitted (job : Job) (size : ℕ) (out : SourceOutput) (lines : List (List ℕ)) : Type 0 where
@@ -70,36 +63,35 @@ pub record HasEmitted (job : Job) (size : ℕ) (out : SourceOutput) (lines : Lis
   pub rest : List (List ℕ)
   pub all_are : all_of groups ++ rest ≡ lines
   pub sent : HasSent job 0 out.index size out.output groups rest
-  pub snapshots : AreSnapshots out.index out.every 0 0 0 groups (sent_by out.pass)
-  pub barriers_are : out.barriers ≡ length groups
+  pub snapshots : AreSnapshots out.index out.every 0 0 0 groups (sent_by out.acks.pass)
   pub offset_is : out.offset ≡ length lines
   pub since_is : out.since ≡ length rest
-  pub at_end : has_ended (sent_by out.pass) ≡ true → rest ≡ []
+  pub at_end : has_ended (sent_by out.acks.pass) ≡ true → rest ≡ []
 
--- It was stopped, or found no memory, where it had emitted these lines and had begun to emit those.
+-- It was stopped, or found no memory, where it had emitted these lines and had begun to emit those. It may have put a further barrier only
+-- where it had seen the image of the checkpoint before.
 pub record HasBroken (job : Job) (size : ℕ) (out : SourceOutput) (lines begun : List (List ℕ)) : Type 0 where
   pub groups : List (List (List ℕ))
   pub rest : List (List ℕ)
   pub all_are : all_of groups ++ rest ≡ lines
-  pub begun_them : HasBegun job 0 out.index size out.output groups rest begun (MayEnd out.every (seen out.last_pass) groups (rest ++ begun))
-  pub snapshots : AreSnapshots out.index out.every 0 0 0 groups (sent_by out.pass)
-  pub at_end : has_ended (sent_by out.pass) ≡ true → rest ++ begun ≡ []
+  pub begun_them : HasBegun job 0 out.index size out.output groups rest begun (HasWaited (suc (length groups)) (seen out.acks.last_pass)) (MayEnd out.every (seen out.acks.last_pass) groups (rest ++ begun))
+  pub snapshots : AreSnapshots out.index out.every 0 0 0 groups (sent_by out.acks.pass)
+  pub at_end : has_ended (sent_by out.acks.pass) ≡ true → rest ++ begun ≡ []
 
 -- It has ended its channels behind these lines, and had acknowledged the last checkpoint of the job.
 pub record HasEnded (job : Job) (size : ℕ) (out : SourceOutput) (lines : List (List ℕ)) : Type 0 where
   pub groups : List (List (List ℕ))
   pub all_are : all_of groups ≡ lines
   pub finished : HasFinished job 0 out.index size out.output groups []
-  pub snapshots : AreSnapshots out.index out.every 0 0 0 groups (sent_by out.pass)
-  pub ended : has_ended (sent_by out.pass) ≡ true
-  pub last : LastIs out.every (seen out.last_pass) (length groups) true
+  pub snapshots : AreSnapshots out.index out.every 0 0 0 groups (sent_by out.acks.pass)
+  pub ended : has_ended (sent_by out.acks.pass) ≡ true
+  pub last : LastIs out.every (seen out.acks.last_pass) (length groups) true
 
--- Its passes are of its cells and its channel. It has sent a snapshot only where it had seen the image of the checkpoint before.
+-- Its passes are of its channel and its cell. It has sent a snapshot only where it had seen the image of the checkpoint before.
 pub record HasOwnPasses (out : SourceOutput) : Type 0 where
-  pub pass : IsPassOf out.snapshots.now out.pass
-  pub task : task_of out.pass ≡ task_at 0 out.index
-  pub last_pass : passes.IsPassOf out.last_image.now out.last_pass
-  pub waited : HasWaited (length (sent_by out.pass)) (seen out.last_pass)
+  pub passes : HasPasses out.acks
+  pub task : task_of out.acks.pass ≡ task_at 0 out.index
+  pub waited : HasWaited (length (sent_by out.acks.pass)) (seen out.acks.last_pass)
 
 -- What a source has at hand is its own: it has emitted some lines, and its channel of snapshots is opened from the start on for its
 -- interval.
@@ -109,22 +101,22 @@ pub record IsSource (out : SourceOutput) : Type 0 where
   pub lines : List (List ℕ)
   pub emitted : HasEmitted job size out lines
   pub own : HasOwnPasses out
-  pub base : (opening_of out.snapshots.now).base ≡ 0
-  pub every_is : (opening_of out.snapshots.now).every ≡ out.every
+  pub base : (opening_of out.acks.snapshots.now).base ≡ 0
+  pub every_is : (opening_of out.acks.snapshots.now).every ≡ out.every
 
 -- It reads on: it is not at its end, and the next barrier is not due.
 pub record IsReading (out : SourceOutput) : Type 0 where
   pub source : IsSource out
-  pub not_ended : has_ended (sent_by out.pass) ≡ false
+  pub not_ended : has_ended (sent_by out.acks.pass) ≡ false
   pub not_due : IfSome out.every (λ interval. out.since < interval)
 
--- It is the same source, and writes by the same writer.
+-- It is the same source, writes by the same writer, and acknowledges by the same channel and the same cell.
 pub record IsSameSource (out out' : SourceOutput) : Type 0 where
   pub writer : IsSame out.output.writer out'.output.writer
   pub index : out'.index ≡ out.index
   pub every_is : out'.every ≡ out.every
-  pub snapshots : out'.snapshots ≡ out.snapshots
-  pub last_image : out'.last_image ≡ out.last_image
+  pub snapshots : out'.acks.snapshots ≡ out.acks.snapshots
+  pub last_image : out'.acks.last_image ≡ out.acks.last_image
 
 -- Of these further lines it had emitted the first ones and begun those behind them, where it broke off.
 pub record BrokeAmong (job : Job) (size : ℕ) (out : SourceOutput) (lines further : List (List ℕ)) : Type 0 where
@@ -133,7 +125,7 @@ pub record BrokeAmong (job : Job) (size : ℕ) (out : SourceOutput) (lines furth
   pub rest : List (List ℕ)
   pub parts : further ≡ done ++ (begun ++ rest)
   pub short : AllByRecursion IsShort (done ++ begun)
-  pub not_ended : has_ended (sent_by out.pass) ≡ false
+  pub not_ended : has_ended (sent_by out.acks.pass) ≡ false
   pub broken : HasBroken job size out (lines ++ done) begun
 
 -- A line was emitted, and a barrier put behind it where one was due; or the source broke off there.

@@ -1,9 +1,9 @@
 -- What a source did. As in Flink it emits its lines, and its snapshots say how far it was. That it tells so whatever its cause is this
 -- project's own choice.
-use Rattle.std.specs.Prelude.{◌≡◌, ◌≢◌, ℕ, ◌<◌, ◌≤◌, ◌⊎◌, ⊤, true, List, [], ◌++◌, length, Option, IfSome}
+use Rattle.std.specs.Prelude.{◌≡◌, ◌≢◌, ℕ, suc, ◌<◌, ◌≤◌, ◌⊎◌, ⊤, true, List, [], ◌++◌, length, Option, IfSome}
 use Rattle.std.specs.List.{AllByRecursion}
 use Rattle.turn_cell.specs.History.{StartsWith}
-use Rattle.turn_cell.specs.Passes.{IsPassOf, mine, seen}
+use Rattle.turn_cell.specs.Passes.{seen}
 use Rattle.flow_defs.specs.declared.cause.Cause.{Cause}
 use Rattle.flow_defs.specs.declared.cause.Cause.TheVariants as causes
 use Rattle.flow_defs.specs.declared.job.Job.{Job}
@@ -11,23 +11,16 @@ use Rattle.flow_defs.specs.declared.image.Snapshot.{Snapshot}
 use Rattle.flow_defs.specs.Lines.{lines}
 use Rattle.flow_defs.specs.Records.{IsShort}
 use Rattle.plain_machine.specs.Emitting.{receiver_on}
-use Rattle.checkpoint_laws.specs.Chapters.{task_at}
 use Rattle.outside.specs.Faults.{HasRisen}
 use Rattle.outside.specs.declared.last_image.Stored.{Stored}
 use Rattle.job_plan.specs.Limits.{HasLongLine, source_max}
 use Rattle.conn_parts.specs.Shares.{mine_at}
-use Rattle.conn_parts.specs.Stopping.{StopCell}
-use Rattle.record_writer.specs.Partitions.{IsPartitionOf}
-use Rattle.record_writer.specs.Writers.{SendPass, AreOwnAt, HasSeenFault, ways_on}
-use Rattle.snapshot_channel.specs.Passes as channels
+use Rattle.record_writer.specs.Writers.{SendPass, HasSeenFault, ways_on}
 use Rattle.snapshot_channel.specs.Passes.{sent_by}
 use Rattle.task_output.specs.Outputs.{BegunOn, FinishedOn, all_of, end_of}
-use Rattle.task_output.specs.Ending.{EndsAs, ToldAtEnd}
-use Rattle.task_output.specs.Waiting.{LastIs, MayEnd}
+use Rattle.task_output.specs.Waiting.{HasWaited, LastIs, MayEnd}
 use Rattle.source_task.specs.declared.output.LineFault.{LineFault}
 use Rattle.source_task.specs.declared.output.SourceOutput.{SourceOutput}
-use Rattle.source_task.specs.declared.source.SourceTaskEnd.{SourceTaskEnd}
-use Rattle.source_task.specs.declared.source.SourceWorld.{SourceWorld}
 use Rattle.source_task.specs.Emitting.{AreSnapshots, HasBroken, HasEnded, has_ended}
 use Rattle.source_task.specs.Cutting.{BrokeOff, cause_of_line}
 
@@ -48,13 +41,13 @@ IsSourceCause a left fell rose causes.Memory = ⊤
 -- What source a did by its passes: it emitted lines of its input from the first on, where that is told, with a barrier and a snapshot
 -- behind each group of them. Behind a snapshot that it sent at its end no line follows, and none is left. It was done only where it had
 -- acknowledged the last checkpoint of the job, at its end, and then ended its channels. Whatever its cause, it put at most one barrier more
--- than it sent snapshots, and an end only behind the barrier of the last checkpoint.
+-- than it sent snapshots, barrier k + 1 only after it had seen image k, and an end only behind the barrier of the last checkpoint.
 pub record SourceAccount (job : Job) (a size : ℕ) (every : Option ℕ) (passes : List SendPass) (sent : List Snapshot) (history : List (ℕ × Stored)) (left : Option (List ℕ)) (fell rose : ℕ) (cause : Cause) : Type 0 where
   pub groups : List (List (List ℕ))
   pub rest : List (List ℕ)
   pub begun : List (List ℕ)
   pub snapshots : AreSnapshots a every 0 0 0 groups sent
-  pub put : (c : ℕ) → c < ways_on job 0 → BegunOn (receiver_on job 0 a) groups (end_of job 0 a c) size (rest ++ begun) (MayEnd every history groups (rest ++ begun)) (mine_at c passes)
+  pub put : (c : ℕ) → c < ways_on job 0 → BegunOn (receiver_on job 0 a) groups (end_of job 0 a c) size (rest ++ begun) (HasWaited (suc (length groups)) history) (MayEnd every history groups (rest ++ begun)) (mine_at c passes)
   pub short : AllByRecursion IsShort (all_of groups ++ (rest ++ begun))
   pub front : IfSome left (λ bytes. StartsWith (lines bytes) (all_of groups ++ (rest ++ begun)))
   pub at_end : has_ended sent ≡ true → IfSome left (λ bytes. lines bytes ≡ all_of groups) × (rest ++ begun ≡ [])
@@ -65,7 +58,7 @@ pub record SourceAccount (job : Job) (a size : ℕ) (every : Option ℕ) (passes
 
 -- It has its account, and was stopped only where its writer's pass had seen a fault.
 pub record SourceEnd (job : Job) (size : ℕ) (out : SourceOutput) (left : Option (List ℕ)) (fell rose : ℕ) (cause : Cause) : Type 0 where
-  pub account : SourceAccount job out.index size out.every out.output.writer.passes (sent_by out.pass) (seen out.last_pass) left fell rose cause
+  pub account : SourceAccount job out.index size out.every out.output.writer.passes (sent_by out.acks.pass) (seen out.acks.last_pass) left fell rose cause
   pub stopped : cause ≡ causes.Stopped → HasSeenFault out.output.writer
 
 -- A source that had read its input to the end, with this line begun, emitted that too and ended behind its last checkpoint; or it broke
@@ -75,27 +68,3 @@ EndedAs job size out ended line source cause =
     (AllByRecursion IsShort (ended ++ lines (line ++ [])) × (((cause ≡ causes.Done) × HasEnded job size out (ended ++ lines (line ++ [])))
     ⊎ ((cause ≢ causes.Done) × (cause ≡ causes.Stopped → HasSeenFault out.output.writer) × ((cause ≡ causes.Memory) ⊎ (cause ≡ causes.Stopped)) × HasBroken job size out (ended ++ lines (line ++ [])) [])))
     ⊎ ((fault : LineFault) × (cause ≡ cause_of_line source fault) × BrokeOff job size out ended (line ++ []) fault)
-
--- ---- what it is lent, and how it ends
-
--- Source a is lent its partition and fresh passes: of the channel of snapshots, which is opened from the start on for this interval, of
--- the cell of the last image, and of the stop cell. An interval has at least one line.
-pub record IsLent (a : ℕ) (every : Option ℕ) (world : SourceWorld) : Type 0 where
-  pub partition : IsPartitionOf world.job.now 0 a world.partition
-  pub interval : IfSome every (λ n. 1 ≤ n)
-  pub pass : channels.IsFresh world.snapshots.now world.snapshot_pass
-  pub task : channels.task_of world.snapshot_pass ≡ task_at 0 a
-  pub base : (channels.opening_of world.snapshots.now).base ≡ 0
-  pub every_is : (channels.opening_of world.snapshots.now).every ≡ every
-  pub last_pass : IsPassOf world.last_image.now world.last_pass
-  pub stop : IsPassOf world.stop.now world.stop_pass × (mine world.stop_pass ≡ [])
-
--- The end hands back the passes of what the source emitted by.
-pub record IsEndOf (cell : StopCell) (out : SourceOutput) (cause : Cause) (end : SourceTaskEnd) : Type 0 where
-  pub own : AreOwnAt out.output.writer.cells out.output.writer.first out.output.writer.stride (ways_on out.output.writer.job out.output.writer.edge) end.partition.subpartitions.items
-  pub passes_are : end.partition.subpartitions.items ≡ out.output.writer.passes
-  pub pool : IsPassOf out.output.writer.pool end.partition.pool
-  pub snapshots : end.snapshot_pass ≡ out.pass
-  pub last_image : end.last_pass ≡ out.last_pass
-  pub ends : EndsAs cause end.cause
-  pub told : ToldAtEnd cell cause end.cause out.output.writer.stop_pass end.stop_pass

@@ -1,7 +1,7 @@
 //! The task of a source that takes checkpoints: it emits the lines of its input, puts a barrier behind so many
 //! of them, and sends a snapshot for each.
 //!
-//! It stands on task_output, snapshot_channel and outside. Contracts see the lines in groups, each of them
+//! It stands on task_output, job_plan and outside. Contracts see the lines in groups, each of them
 //! before a barrier, and the snapshots that belong to them.
 #![tactic(auto)]
 
@@ -12,4 +12,4 @@ mod reading;
 mod source;
 
 use output::{LineFault, SourceOutput};
-pub use source::{SourceTaskEnd, SourceWorld, run_source};
+pub use source::run_source;

@@ -1,24 +1,20 @@
 // What a source emits by, and where it stands.
 // A count that can't grow ends the source as want of memory does.
-ghost use Rattle.std.specs.Prelude.{suc, ◌≡◌, ◌++◌, [], ◌∷◌, ◌<◌, ℕ, List, Bool, true, false, OnOk, OnErr, IfOk, IfErr, MatchResult};
+ghost use Rattle.std.specs.Prelude.{◌≡◌, ◌++◌, [], ◌∷◌, ◌<◌, ℕ, List, Bool, true, false, OnOk, OnErr, IfOk, IfErr, MatchResult};
 ghost use Rattle.flow_defs.specs.declared.job.Job.{Job};
 ghost use Rattle.flow_defs.specs.Records.{IsShort};
 ghost use Rattle.record_writer.specs.Writers.{HasSeenFault};
 ghost use Rattle.snapshot_channel.specs.Passes.{sent_by};
-ghost use Rattle.task_output.specs.Waiting.{HasWaited, KnowsLast, LastIs};
+ghost use Rattle.task_output.specs.Waiting.{LastIs};
 ghost use Rattle.turn_cell.specs.Passes.{seen};
 ghost use Rattle.source_task.specs.Emitting.{IsInterval, IsSnapshotAt, IsSource, IsReading, HasOwnPasses, IsSameSource, HasEmitted, HasBroken, HasEnded, LineEmitted, CheckpointTaken, BreaksFor, has_ended};
 
 use flow_defs::{ListOf, Snapshot, Table, TaskId};
-use outside::LastImage;
 use plain_machine::laws::emits_in_parts;
-use record_writer::WriterStopped;
-use snapshot_channel::{SnapshotChannel, TaskPass};
 use std::alloc::Global;
 use std::sync::Wait;
 use task_output::laws::{what_was_seen_stays, what_was_sent_was_begun};
-use task_output::{TaskOutput, send_snapshot, wait_for_image};
-use turn_cell::{Pass, TurnCell};
+use task_output::{Acks, TaskOutput};
 
 /// Why a source emits no further.
 #[derive(Clone, Copy, Debug, PartialEq, Eq)]
@@ -34,16 +30,11 @@ pub enum LineFault {
 #[derive(Drop)]
 pub struct SourceOutput<'a, 'p> {
     pub output: TaskOutput<'a, 'p>,
-    pub snapshots: &'a SnapshotChannel,
-    pub pass: TaskPass,
-    pub last_image: &'a TurnCell<LastImage>,
-    pub last_pass: Pass<LastImage>,
+    pub acks: Acks<'a>,
     /// The index of the source.
     pub index: u32,
     /// How many lines it reads between two barriers, from 1. None: it reads to its end.
     pub every: Option<u64>,
-    /// How many barriers it has put.
-    pub barriers: u64,
     /// How many lines it has emitted.
     pub offset: u64,
     /// How many of them behind its last barrier.
@@ -90,9 +81,9 @@ impl<'a, 'p> SourceOutput<'a, 'p> {
         }
     }
 
-    /// Takes a checkpoint behind the lines that were emitted: puts a barrier and sends a snapshot. It waits
-    /// until the image of the checkpoint before is stored. Whether this checkpoint is the last of the job is
-    /// the answer: without an interval it is, and with one it is where all sources are ended in that image.
+    /// Takes a checkpoint behind the lines that were emitted: waits until the image of the checkpoint before is
+    /// stored, puts a barrier, and sends a snapshot. Whether this checkpoint is the last of the job is the
+    /// answer: without an interval it is, and with one it is where all sources are ended in that image.
     pub fn take_checkpoint<R: Wait>(
         &mut self,
         rt: &R,
@@ -101,24 +92,25 @@ impl<'a, 'p> SourceOutput<'a, 'p> {
     ) -> Result<bool, LineFault>
         requires source { IsSource self.old }
         requires interval { IsInterval self.old.every self.old.since ended }
-        requires at_end { has_ended (sent_by self.old.pass) ≡ true → ended ≡ true }
+        requires at_end { has_ended (sent_by self.old.acks.pass) ≡ true → ended ≡ true }
         ensures same { IsSameSource self.old self.new }
         ensures own { HasOwnPasses self.new }
         ensures source { OnOk result (IsSource self.new) }
         ensures since { OnOk result (self.new.since ≡ 0) }
-        ensures kept { OnErr result (sent_by self.new.pass ≡ sent_by self.old.pass) }
-        ensures ended { OnOk result ((ended ≡ true → has_ended (sent_by self.new.pass) ≡ true) × (ended ≡ false → has_ended (sent_by self.new.pass) ≡ has_ended (sent_by self.old.pass))) }
-        ensures last { IfOk result (λ last. LastIs self.new.every (seen self.new.last_pass) self.new.barriers last) }
+        ensures kept { OnErr result (sent_by self.new.acks.pass ≡ sent_by self.old.acks.pass) }
+        ensures ended { OnOk result ((ended ≡ true → has_ended (sent_by self.new.acks.pass) ≡ true) × (ended ≡ false → has_ended (sent_by self.new.acks.pass) ≡ has_ended (sent_by self.old.acks.pass))) }
+        ensures last { IfOk result (λ last. LastIs self.new.every (seen self.new.acks.last_pass) self.new.acks.number last) }
         ensures fault { IfErr result (λ fault. BreaksFor fault self.new) }
         ensures taken { (job : Job) (size : ℕ) (lines : List (List ℕ)) → HasEmitted job size self.old lines →
             CheckpointTaken job size self.new lines result }
     {
         what_was_sent_was_begun();
+        what_was_seen_stays();
         emits_in_parts();
-        let Some(k) = self.barriers.checked_add(1) else {
+        let Some(k) = self.acks.number.checked_add(1) else {
             return Err(LineFault::Memory);
         };
-        let last = match self.wait_for_image(rt) {
+        let last = match self.acks.learn_last(rt, &mut self.output, self.every, k) {
             Ok(last) => last,
             Err(_) => return Err(LineFault::Stopped),
         };
@@ -127,17 +119,10 @@ impl<'a, 'p> SourceOutput<'a, 'p> {
             Err(_) => return Err(LineFault::Stopped),
         }
         let snapshot = self.snapshot(alloc, k, ended);
-        match send_snapshot(
-            rt,
-            self.snapshots,
-            &mut self.pass,
-            &mut self.output,
-            snapshot,
-        ) {
+        match self.acks.send(rt, &mut self.output, snapshot) {
             Ok(()) => {}
             Err(_) => return Err(LineFault::Stopped),
         }
-        self.barriers = k;
         self.since = 0;
         Ok(last)
     }
@@ -167,8 +152,8 @@ impl<'a, 'p> SourceOutput<'a, 'p> {
     // Ends the channels of a source at its end, behind its last barrier.
     fn finish<R: Wait>(&mut self, rt: &R) -> Result<(), LineFault>
         requires source { IsSource self.old }
-        requires at_end { has_ended (sent_by self.old.pass) ≡ true }
-        requires last { LastIs self.old.every (seen self.old.last_pass) self.old.barriers true }
+        requires at_end { has_ended (sent_by self.old.acks.pass) ≡ true }
+        requires last { LastIs self.old.every (seen self.old.acks.last_pass) self.old.acks.number true }
         ensures same { IsSameSource self.old self.new }
         ensures own { HasOwnPasses self.new }
         ensures fault { IfErr result (λ fault. BreaksFor fault self.new) }
@@ -200,34 +185,6 @@ impl<'a, 'p> SourceOutput<'a, 'p> {
             takes: ListOf::new(alloc),
             saved_in: ListOf::new(alloc),
             saved_out: ListOf::new(alloc),
-        }
-    }
-
-    // Waits until the image of the checkpoint before is stored, if there was one, and answers whether the next
-    // checkpoint is the last of the job.
-    fn wait_for_image<R: Wait>(&mut self, rt: &R) -> Result<bool, WriterStopped>
-        requires { IsSource self.old }
-        ensures same { IsSameSource self.old self.new }
-        ensures kept { (self.new.pass ≡ self.old.pass) × (self.new.barriers ≡ self.old.barriers) × (self.new.offset ≡ self.old.offset) × (self.new.since ≡ self.old.since) }
-        ensures source { IsSource self.new }
-        ensures emitted { (job : Job) (size : ℕ) (lines : List (List ℕ)) → HasEmitted job size self.old lines → HasEmitted job size self.new lines }
-        ensures waited { OnOk result (HasWaited (suc self.new.barriers) (seen self.new.last_pass)) }
-        ensures last { IfOk result (λ last. KnowsLast self.new.every (seen self.new.last_pass) self.new.barriers last) }
-        ensures stopped { OnErr result (HasSeenFault self.new.output.writer) }
-    {
-        what_was_seen_stays();
-        if self.barriers == 0 {
-            return Ok(self.every.is_none());
-        }
-        match wait_for_image(
-            rt,
-            self.last_image,
-            &mut self.last_pass,
-            &mut self.output,
-            self.barriers,
-        ) {
-            Ok(all_ended) => Ok(all_ended || self.every.is_none()),
-            Err(stopped) => Err(stopped),
         }
     }
 }

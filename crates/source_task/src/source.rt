@@ -1,46 +1,21 @@
 // The task of a source.
 ghost use Rattle.std.specs.Prelude.{◌≡◌, length};
 ghost use Rattle.turn_cell.specs.Passes.{IsPassOf, seen};
-ghost use Rattle.record_writer.specs.Partitions.{ArePassesOf};
+ghost use Rattle.record_writer.specs.Partitions.{IsPartitionOf, ArePassesOf};
 ghost use Rattle.snapshot_channel.specs.Passes as channels;
 ghost use Rattle.conn_parts.specs.Stopping.{ToldStop};
+ghost use Rattle.task_output.specs.Acking.{IsLent};
 ghost use Rattle.task_output.specs.Waiting.{HasWaited};
-ghost use Rattle.source_task.specs.Sources.{SourceAccount, IsLent, IsEndOf};
+ghost use Rattle.source_task.specs.Sources.{SourceAccount};
 
 use crate::SourceOutput;
 use crate::reading::emit_lines;
-use flow_defs::{Cause, Job};
-use outside::{LastImage, Source, StopState};
+use flow_defs::{Cause, Job, ListOf};
+use outside::Source;
 use record_writer::{Partition, PartitionPasses, RecordWriter};
-use snapshot_channel::{SnapshotChannel, TaskPass};
 use std::alloc::Global;
 use std::sync::Wait;
-use task_output::{TaskOutput, end_task};
-use turn_cell::{Pass, TurnCell};
-
-/// What a source shares with others: the job, the partition on which it sends, the channel of snapshots, the
-/// cell that tells the image stored last, and what stops all workers.
-#[derive(Drop)]
-pub struct SourceWorld<'a, 'p> {
-    pub job: &'a Job,
-    pub partition: Partition<'a, 'p>,
-    pub snapshots: &'a SnapshotChannel,
-    pub snapshot_pass: TaskPass,
-    pub last_image: &'a TurnCell<LastImage>,
-    pub last_pass: Pass<LastImage>,
-    pub stop: &'a TurnCell<StopState>,
-    pub stop_pass: Pass<StopState>,
-}
-
-/// The passes that a source hands back, and why it ended.
-#[derive(Drop)]
-pub struct SourceTaskEnd<'p> {
-    pub partition: PartitionPasses<'p>,
-    pub snapshot_pass: TaskPass,
-    pub last_pass: Pass<LastImage>,
-    pub stop_pass: Pass<StopState>,
-    pub cause: Cause,
-}
+use task_output::{TaskEnd, TaskOutput, World, end_sender, end_task};
 
 /// Runs the task of the source of this index: emits the lines of its input, one after another. Behind so many
 /// lines as `every` says, from 1, it puts a barrier on each of its channels and sends a snapshot; at its end
@@ -53,90 +28,58 @@ pub struct SourceTaskEnd<'p> {
 pub fn run_source<'a, 'p, S: Source, R: Wait>(
     rt: &R,
     alloc: Global,
+    job: &'a Job,
     input: &mut S,
     index: u32,
     every: Option<u64>,
-    world: SourceWorld<'a, 'p>,
-) -> SourceTaskEnd<'p>
-    requires lent { IsLent index every world }
-    ensures partition { ArePassesOf world.entry.job.now 0 world.entry.partition result.partition }
-    ensures snapshots { channels.IsPassOf world.entry.snapshots.now result.snapshot_pass × (channels.task_of result.snapshot_pass ≡ channels.task_of world.entry.snapshot_pass) }
-    ensures last_image { IsPassOf world.entry.last_image.now result.last_pass }
-    ensures waited { HasWaited (length (channels.sent_by result.snapshot_pass)) (seen result.last_pass) }
-    ensures account { SourceAccount world.entry.job.now index world.entry.partition.size every result.partition.subpartitions.items (channels.sent_by result.snapshot_pass) (seen result.last_pass) (S.left input.old) (S.faults input.old) (S.faults input.new) result.cause }
-    ensures stop { ToldStop world.entry.stop.now result.cause world.entry.stop_pass result.stop_pass }
+    world: World<'a, Partition<'a, 'p>>,
+) -> TaskEnd<(), PartitionPasses<'p>>
+    requires partition { IsPartitionOf job.now 0 index world.partition }
+    requires lent { IsLent job.now 0 index every world }
+    ensures partition { ArePassesOf job.now 0 world.entry.partition result.passes.partition }
+    ensures snapshots { channels.IsPassOf world.entry.acks.snapshots.now result.passes.snapshots × (channels.task_of result.passes.snapshots ≡ channels.task_of world.entry.acks.pass) }
+    ensures last_image { IsPassOf world.entry.acks.last_image.now result.passes.last_image }
+    ensures waited { HasWaited (length (channels.sent_by result.passes.snapshots)) (seen result.passes.last_image) }
+    ensures acks { result.acks ≡ length (channels.sent_by result.passes.snapshots) }
+    ensures account { SourceAccount job.now index world.entry.partition.size every result.passes.partition.subpartitions.items (channels.sent_by result.passes.snapshots) (seen result.passes.last_image) (S.left input.old) (S.faults input.old) (S.faults input.new) result.cause }
+    ensures stop { ToldStop world.entry.stop.now result.cause world.entry.stop_pass result.passes.stop }
 {
-    let SourceWorld {
-        job,
+    let World {
         partition,
-        snapshots,
-        snapshot_pass,
-        last_image,
-        last_pass,
+        acks,
         stop,
         stop_pass,
     } = world;
     match RecordWriter::new(alloc, job, 0, index, partition, stop, stop_pass) {
         Ok(writer) => {
-            let mut output = SourceOutput {
+            let mut source = SourceOutput {
                 output: TaskOutput::new(writer),
-                snapshots,
-                pass: snapshot_pass,
-                last_image,
-                last_pass,
+                acks,
                 index,
                 every,
-                barriers: 0,
                 offset: 0,
                 since: 0,
             };
-            let cause = emit_lines(rt, alloc, input, &mut output);
-            end_output(rt, stop, output, cause)
+            let cause = emit_lines(rt, alloc, input, &mut source);
+            let SourceOutput {
+                output,
+                acks,
+                index: _,
+                every: _,
+                offset: _,
+                since: _,
+            } = source;
+            end_sender(rt, stop, (), output, acks, ListOf::new(alloc), cause)
         }
-        Err(refused) => {
-            let mut stop_pass = refused.stop_pass;
-            let cause = end_task(rt, stop, &mut stop_pass, Cause::Memory);
-            SourceTaskEnd {
-                partition: refused.passes,
-                snapshot_pass,
-                last_pass,
-                stop_pass,
-                cause,
-            }
-        }
-    }
-}
-
-// Ends the writer and then the task.
-fn end_output<'p, R: Wait>(
-    rt: &R,
-    stop: &TurnCell<StopState>,
-    output: SourceOutput<'_, 'p>,
-    cause: Cause,
-) -> SourceTaskEnd<'p>
-    requires { output.output.writer.stop ≡ stop.now }
-    ensures ended { IsEndOf stop.now output.entry cause result }
-{
-    let SourceOutput {
-        output,
-        snapshots: _,
-        pass,
-        last_image: _,
-        last_pass,
-        index: _,
-        every: _,
-        barriers: _,
-        offset: _,
-        since: _,
-    } = output;
-    let (partition, stop_pass) = output.into_passes(rt);
-    let mut stop_pass = stop_pass;
-    let cause = end_task(rt, stop, &mut stop_pass, cause);
-    SourceTaskEnd {
-        partition,
-        snapshot_pass: pass,
-        last_pass,
-        stop_pass,
-        cause,
+        Err(refused) => end_task(
+            rt,
+            stop,
+            (),
+            refused.passes,
+            acks,
+            refused.stop_pass,
+            ListOf::new(alloc),
+            Cause::Memory,
+        ),
     }
 }

@@ -1,10 +1,8 @@
 -- A stage acknowledges a checkpoint.
-use Rattle.std.proofs.Common.{◌≡◌, Bor, ℕ, zero, suc, ◌+◌, ◌-◌, ◌<◌, Bool, true, false, List, [], ◌∷◌, ◌++◌, length, Option, Some, None, sym, ap, subst, ◌∙◌, append-nil, length-append, arith}
-use Rattle.std.specs.Prelude.{All}
+use Rattle.std.proofs.Common.{◌≡◌, Bor, ℕ, suc, ◌+◌, ◌-◌, Bool, true, false, List, [], ◌∷◌, ◌++◌, length, Option, sym, ap, subst, ◌∙◌, length-append, arith}
+use Rattle.std.specs.Prelude.{⊤, All}
 use Rattle.std.specs.FinMap.{empty}
 use Rattle.std.proofs.lemmas.List.Elements.{All-nil}
-use Rattle.turn_cell.specs.History.{StartsWith}
-use Rattle.turn_cell.specs.Passes as passes
 use Rattle.turn_cell.specs.Passes.{seen}
 use Rattle.flow_defs.specs.declared.cause.Cause.TheVariants as causes
 use Rattle.flow_defs.specs.declared.image.Saved.{Saved}
@@ -12,32 +10,32 @@ use Rattle.flow_defs.specs.declared.image.Snapshot.{Snapshot}
 use Rattle.flow_defs.specs.declared.image.TakeRun.{TakeRun}
 use Rattle.flow_defs.specs.declared.job.Job.{Job}
 use Rattle.flow_defs.specs.declared.task.TaskId.{TaskId}
-use Rattle.flow_defs.specs.Jobs.{last_edge}
 use Rattle.flow_defs.specs.Records.{IsShort}
 use Rattle.flow_defs.specs.Tables.{Values}
 use Rattle.plain_machine.specs.Images.{AreRuns, HasShortKeys}
 use Rattle.plain_machine.specs.Theorems.{CountedInParts}
 use Rattle.plain_machine.proofs.KeySums.{entries-empty}
-use Rattle.checkpoint_laws.specs.Chapters.{RunsTake, applied, task_at}
+use Rattle.checkpoint_laws.specs.Chapters.{RunsTake, applied}
 use Rattle.barriers.specs.Alignments.{is_open}
 use Rattle.outside.specs.declared.last_image.Stored.{Stored}
 use Rattle.input_gate.specs.Gates.{Account}
 use Rattle.snapshot_channel.specs.declared.opened.SnapshotChannel.{SnapshotChannel}
-use Rattle.snapshot_channel.specs.declared.opened.TaskPass.{TaskPass}
 use Rattle.snapshot_channel.specs.Snapshots.{AreTakesAt, FitsTask, LeadsTo, ComesFrom, HaveOwnChannels, MaySend}
-use Rattle.snapshot_channel.specs.Passes.{IsPassOf, opening_of, sent_by, task_of}
+use Rattle.snapshot_channel.specs.Passes.{opening_of, sent_by, task_of}
 use Rattle.task_taking.specs.Takings.{Taking, HasTaken, IsAtBarrier}
 use Rattle.task_taking.specs.Endings.{ResumedIsGiven}
+use Rattle.task_output.specs.declared.acks.Acks.{Acks}
+use Rattle.task_output.specs.Acking.{HasPasses, IsSameTask}
+use Rattle.task_output.specs.Looking.{HasSentNoMore}
 use Rattle.task_output.specs.Outputs.{Output, HasSent, count_behind}
 use Rattle.task_output.specs.Laws.{BarrierIsLeftAside}
-use Rattle.task_output.proofs.Begun.{unended}
-use Rattle.task_output.specs.Waiting.{LastIs, MayEnd, KnowsLast, HasWaited, SeenIsWaited, WaitedStays}
+use Rattle.task_output.specs.Waiting.{LastIs, MayEnd, KnowsLast, HasWaited, WaitedStays}
 use Rattle.stage_task.specs.declared.checkpoints.StageOutput.{StageOutput}
 use Rattle.stage_task.specs.Snapshots.{IsSnapshotOf, IsSnapshotAt, AreSnapshots, all_applied}
 use Rattle.stage_task.specs.Stages.{StageAccount}
-use Rattle.stage_task.specs.Applying.{HasOwnPasses, IsSameStage, HasApplied, IsMarked, HasAcknowledged}
+use Rattle.stage_task.specs.Applying.{HasOwnPasses, HasApplied, IsMarked, HasAcknowledged}
 use Rattle.stage_task.proofs.Snapshots.{as_many, applied_more, snapshots_more}
-use Rattle.stage_task.proofs.Ends.{ended_account, stopped_not_done, all_front_of}
+use Rattle.stage_task.proofs.Ends.{begun_so, ended_account, stopped_not_done, all_front_of}
 
 -- ---- a snapshot fits its task
 
@@ -62,7 +60,7 @@ fits job e b k emitted x of runs = record {
 
 -- ---- its channels go on, and the snapshot is still to be sent
 
-pub record IsResumed (job : Job) (e b size k : ℕ) (every : Option ℕ) (gate : Account) (taking : Taking) (out : Output) (sent : List Snapshot) (history : List (ℕ × Stored)) (takes : List TakeRun) : Type 0 where
+pub record IsResumed (job : Job) (e b size k : ℕ) (gate : Account) (taking : Taking) (out : Output) (sent : List Snapshot) (takes : List TakeRun) : Type 0 where
   pub groups : List (List (ℕ × List ℕ))
   pub took : List (ℕ × List ℕ)
   pub taken : HasTaken job e b gate taking (groups ++ took ∷ []) []
@@ -72,73 +70,65 @@ pub record IsResumed (job : Job) (e b size k : ℕ) (every : Option ℕ) (gate :
   pub snapshots : AreSnapshots job e b 0 0 groups sent
   pub number : k ≡ suc (length groups)
 
-moved : (P : Job → ℕ → ℕ → Option ℕ → Type 0) (job job' : Job) (e e' b b' : ℕ) (every every' : Option ℕ) → job' ≡ job → e' ≡ e → b' ≡ b → every' ≡ every → P job e b every → P job' e' b' every'
-moved P job job' e e' b b' every every' one two three four was =
-    subst (λ (j : Job). P j e' b' every') (sym one) (subst (λ n. P job n b' every') (sym two) (subst (λ n. P job e n every') (sym three) (subst (λ (x : Option ℕ). P job e b x) (sym four) was)))
-
-pub resumed_at : (before after : Account) (t t' : Taking) (out out' : StageOutput) (k : ℕ) (takes : List TakeRun) (marked : IsMarked before t out k) → IsSameStage out out' → sent_by out'.pass ≡ sent_by out.pass
-    → ((job : Job) (e a size : ℕ) (groups : List (List (List ℕ))) (records : List (List ℕ)) → HasSent job e a size out.output groups records → HasSent job e a size out'.output groups records)
+pub resumed_at : (before after : Account) (t t' : Taking) (out : StageOutput) (o : Output) (sent : List Snapshot) (k : ℕ) (takes : List TakeRun) (marked : IsMarked before t out k) → HasSentNoMore out.output o → sent ≡ sent_by out.acks.pass
     → is_open t'.alignment ≡ false
     → ((job : Job) (e b : ℕ) (groups : List (List (ℕ × List ℕ))) (took : List (ℕ × List ℕ)) → IsAtBarrier job e b before t groups took → RunsTake job e b takes took × HasTaken job e b after t' (groups ++ took ∷ []) [])
-    → IsResumed out'.job.now out'.edge out'.index out'.output.writer.size k out'.every after t' out'.output (sent_by out'.pass) (seen out'.last_pass) takes
-resumed_at before after t t' out out' k takes marked same kept still closed resume =
+    → IsResumed out.job.now out.edge out.index o.writer.size k after t' o sent takes
+resumed_at before after t t' out o sent k takes marked no_more kept closed resume =
     let job = out.job.now in
     let taken = resume job out.edge out.index marked.groups marked.took marked.at in
-    let was = still job (suc out.edge) out.index out.output.writer.size (all_applied job out.edge marked.groups ++ applied job out.edge marked.took ∷ []) [] marked.sent in
-    moved (λ j e b every. IsResumed j e b out'.output.writer.size k every after t' out'.output (sent_by out'.pass) (seen out'.last_pass) takes)
-    job out'.job.now out.edge out'.edge out.index out'.index out.every out'.every (ap (λ (j : Bor Job). j.now) same.job) same.edge same.index same.every_is
-    (record {
+    let was = no_more.still job (suc out.edge) out.index out.output.writer.size (all_applied job out.edge marked.groups ++ applied job out.edge marked.took ∷ []) [] marked.sent in
+    record {
       groups = marked.groups;
       took = marked.took;
       taken = taken.1;
       closed = closed;
       takes_are = taken.0;
-      was = subst (λ s. HasSent job (suc out.edge) out.index s out'.output (all_applied job out.edge marked.groups ++ applied job out.edge marked.took ∷ []) []) (sym was.writes_for.size_is) was;
+      was = subst (λ s. HasSent job (suc out.edge) out.index s o (all_applied job out.edge marked.groups ++ applied job out.edge marked.took ∷ []) []) (sym was.writes_for.size_is) was;
       snapshots = subst (AreSnapshots job out.edge out.index 0 0 marked.groups) (sym kept) marked.snapshots;
       number = marked.number;
-    })
+    }
 
 -- ---- the snapshot may be sent
 
-pub may_send : (out : StageOutput) (k emitted : ℕ) (x : Snapshot) (takes : List TakeRun) (size : ℕ) (gate : Account) (taking : Taking) (history : List (ℕ × Stored)) → HasOwnPasses out → IsSnapshotOf out.edge out.index k emitted x → x.takes.items ≡ takes
-    → IsResumed out.job.now out.edge out.index size k out.every gate taking out.output (sent_by out.pass) history takes → MaySend (opening_of out.snapshots.now) (task_of out.pass) (sent_by out.pass) x
-may_send out k emitted x takes size gate taking history own of takes_is at = record {
+pub may_send : (out : StageOutput) (k emitted : ℕ) (x : Snapshot) (takes : List TakeRun) (size : ℕ) (gate : Account) (taking : Taking) → HasOwnPasses out → IsSnapshotOf out.edge out.index k emitted x → x.takes.items ≡ takes
+    → IsResumed out.job.now out.edge out.index size k gate taking out.output (sent_by out.acks.pass) takes → MaySend (opening_of out.acks.snapshots.now) (task_of out.acks.pass) (sent_by out.acks.pass) x
+may_send out k emitted x takes size gate taking own of takes_is at = record {
   task_is = of.task ∙ sym own.task;
-  number_is = of.number ∙ omega (arith, at.number, own.base, as_many out.job.now out.edge out.index 0 0 at.groups (sent_by out.pass) at.snapshots);
+  number_is = of.number ∙ omega (arith, at.number, own.base, as_many out.job.now out.edge out.index 0 0 at.groups (sent_by out.acks.pass) at.snapshots);
   fits = subst (λ (job : Job). FitsTask job x) (sym own.job_is) (fits out.job.now out.edge out.index k emitted x of (subst (AreRuns out.job.now out.edge out.index) (sym takes_is) at.takes_are.are_runs));
   at_end = λ first. absurd (let stage : suc out.edge ≡ 0 = ap (λ (t : TaskId). t.stage) (sym own.task) ∙ first in omega (arith, stage));
 }
 
-pub own_later : WaitedStays → (out out' : StageOutput) → IsSameStage out out' → StartsWith (seen out'.last_pass) (seen out.last_pass) → out'.pass ≡ out.pass → passes.IsPassOf out'.last_image.now out'.last_pass → HasOwnPasses out → HasOwnPasses out'
-own_later stays out out' same later kept pass own = record {
-  edge = subst (λ (j : Bor Job). out'.edge < last_edge j.now) (sym same.job) (subst (λ n. n < last_edge out.job.now) (sym same.edge) own.edge);
-  pass = subst (λ (s : Bor SnapshotChannel). IsPassOf s.now out'.pass) (sym same.snapshots) (subst (IsPassOf out.snapshots.now) (sym kept) own.pass);
-  task = ap task_of kept ∙ own.task ∙ ap (λ n. task_at (suc n) out.index) (sym same.edge) ∙ ap (task_at (suc out'.edge)) (sym same.index);
-  last_pass = pass;
-  job_is = ap (λ (s : Bor SnapshotChannel). (opening_of s.now).job) same.snapshots ∙ own.job_is ∙ ap (λ (j : Bor Job). j.now) (sym same.job);
+-- its passes are those of its task, where it has seen more and sent no more
+pub own_later : WaitedStays → (out : StageOutput) (o : Output) (acks : Acks) → HasPasses acks → IsSameTask out.acks acks → sent_by acks.pass ≡ sent_by out.acks.pass → HasOwnPasses out → HasOwnPasses (record out { output = o; acks = acks })
+own_later stays out o acks has same kept own = record {
+  edge = own.edge;
+  passes = has;
+  task = same.task ∙ own.task;
+  job_is = ap (λ (s : Bor SnapshotChannel). (opening_of s.now).job) same.snapshots ∙ own.job_is;
   base = ap (λ (s : Bor SnapshotChannel). (opening_of s.now).base) same.snapshots ∙ own.base;
-  waited = subst (λ (p : TaskPass). HasWaited (length (sent_by p)) (seen out'.last_pass)) (sym kept) (stays (length (sent_by out.pass)) (seen out.last_pass) (seen out'.last_pass) later own.waited);
+  waited = subst (λ (sent : List Snapshot). HasWaited (length sent) (seen acks.last_pass)) (sym kept) (stays (length (sent_by out.acks.pass)) (seen out.acks.last_pass) (seen acks.last_pass) same.later own.waited);
 }
 
 -- ---- it was stopped before its snapshot was sent
 
 pub unacknowledged : BarrierIsLeftAside → ResumedIsGiven → (job : Job) (e b size k : ℕ) (every : Option ℕ) (gate : Account) (taking : Taking) (out : Output) (sent : List Snapshot) (history : List (ℕ × Stored)) (takes : List TakeRun)
-    → IsResumed job e b size k every gate taking out sent history takes → StageAccount job e b size every gate out.writer.passes sent history takes causes.Stopped
+    → IsResumed job e b size k gate taking out sent takes → StageAccount job e b size every gate out.writer.passes sent history takes causes.Stopped
 unacknowledged aside resumed job e b size k every gate taking out sent history takes at =
     let made = applied job e at.took in
     ended_account job e b size every gate out sent history takes causes.Stopped at.groups at.took made []
     (resumed job e b gate taking at.groups at.took at.taken at.closed)
     at.snapshots at.takes_are
-    (unended (MayEnd every history at.groups at.took) job (suc e) b size out (all_applied job e at.groups) made [] (aside job (suc e) b size out (all_applied job e at.groups) made at.was))
+    (begun_so ⊤ ⊥ (MayEnd every history at.groups at.took) (λ never. absurd never) job (suc e) b size out (all_applied job e at.groups) made [] (aside job (suc e) b size out (all_applied job e at.groups) made at.was))
     (all_front_of made)
     stopped_not_done tt
 
 -- nothing was put since
-pub still_resumed : (job : Job) (e b size size' k : ℕ) (every : Option ℕ) (gate : Account) (taking : Taking) (out out' : Output) (sent sent' : List Snapshot) (history : List (ℕ × Stored)) (takes takes' : List TakeRun)
-    → ((job : Job) (e a size : ℕ) (groups : List (List (List ℕ))) (records : List (List ℕ)) → HasSent job e a size out groups records → HasSent job e a size out' groups records)
-    → size' ≡ out'.writer.size → sent' ≡ sent → takes' ≡ takes → IsResumed job e b size k every gate taking out sent history takes → IsResumed job e b size' k every gate taking out' sent' history takes'
-still_resumed job e b size size' k every gate taking out out' sent sent' history takes takes' still size_is sent_is takes_is at =
-    let was = still job (suc e) b size (all_applied job e at.groups ++ applied job e at.took ∷ []) [] at.was in
+pub still_resumed : (job : Job) (e b size size' k : ℕ) (gate : Account) (taking : Taking) (out out' : Output) (sent sent' : List Snapshot) (takes takes' : List TakeRun)
+    → HasSentNoMore out out' → size' ≡ out'.writer.size → sent' ≡ sent → takes' ≡ takes → IsResumed job e b size k gate taking out sent takes → IsResumed job e b size' k gate taking out' sent' takes'
+still_resumed job e b size size' k gate taking out out' sent sent' takes takes' no_more size_is sent_is takes_is at =
+    let was = no_more.still job (suc e) b size (all_applied job e at.groups ++ applied job e at.took ∷ []) [] at.was in
     record {
       groups = at.groups;
       took = at.took;
@@ -156,28 +146,21 @@ known_last : (every : Option ℕ) (history : List (ℕ × Stored)) (k n m : ℕ)
 known_last every history k n m last number many known =
     subst (λ i. LastIs every history i last) (sym many) (subst (λ i. KnowsLast every history i last) (let z : k - 1 ≡ n = omega (arith, number) in z) known)
 
--- it has seen the image of the checkpoint before
-has_waited : SeenIsWaited → (every : Option ℕ) (before history : List (ℕ × Stored)) (n : ℕ) (last : Bool) → LastIs every before n false → KnowsLast every history n last → HasWaited (suc n) history
-has_waited law every before history zero last not_last known = tt
-has_waited law None before history (suc n) last not_last known = absurd (cc)
-has_waited law (Some interval) before history (suc n) last not_last known = law history (suc n) last known
-
-goes_on : (gate : Account) (taking : Taking) (out : StageOutput) (groups : List (List (ℕ × List ℕ))) (last : Bool) → HasApplied gate taking out groups [] → LastIs out.every (seen out.last_pass) (length groups) last → HasAcknowledged gate taking out last
+goes_on : (gate : Account) (taking : Taking) (out : StageOutput) (groups : List (List (ℕ × List ℕ))) (last : Bool) → HasApplied gate taking out groups [] → LastIs out.every (seen out.acks.last_pass) (length groups) last → HasAcknowledged gate taking out last
 goes_on gate taking out groups true has is = record { groups = groups; applied_them = has; last = is }
 goes_on gate taking out groups false has is = record { groups = groups; took = []; applied_them = has; not_last = is }
 
-pub acknowledged : CountedInParts → (gate : Account) (taking : Taking) (out : StageOutput) (before : Output) (k size : ℕ) (sent : List Snapshot) (history : List (ℕ × Stored)) (takes : List TakeRun) (x : Snapshot) (last : Bool)
-    (at : IsResumed out.job.now out.edge out.index size k out.every gate taking before sent history takes)
-    → ((job : Job) (e a size : ℕ) (groups : List (List (List ℕ))) (records : List (List ℕ)) → HasSent job e a size before groups records → HasSent job e a size out.output groups records)
-    → IsSnapshotOf out.edge out.index k before.emitted x → x.takes.items ≡ takes → sent_by out.pass ≡ sent ++ x ∷ [] → KnowsLast out.every (seen out.last_pass) (k - 1) last
+pub acknowledged : CountedInParts → (gate : Account) (taking : Taking) (out : StageOutput) (before : Output) (k size : ℕ) (sent : List Snapshot) (takes : List TakeRun) (x : Snapshot) (last : Bool)
+    (at : IsResumed out.job.now out.edge out.index size k gate taking before sent takes)
+    → HasSentNoMore before out.output → IsSnapshotOf out.edge out.index k before.emitted x → x.takes.items ≡ takes → sent_by out.acks.pass ≡ sent ++ x ∷ [] → KnowsLast out.every (seen out.acks.last_pass) (k - 1) last
     → HasAcknowledged gate taking out last
-acknowledged count gate taking out before k size sent history takes x last at still of takes_is sent_is known =
+acknowledged count gate taking out before k size sent takes x last at no_more of takes_is sent_is known =
     let job = out.job.now in
     let e = out.edge in
     let b = out.index in
     let groups = at.groups in
     let took = at.took in
-    let was = still job (suc e) b size (all_applied job e groups ++ applied job e took ∷ []) [] at.was in
+    let was = no_more.still job (suc e) b size (all_applied job e groups ++ applied job e took ∷ []) [] at.was in
     let many : length (groups ++ took ∷ []) ≡ suc (length groups) = length-append groups (took ∷ []) ∙ (let z : length groups + 1 ≡ suc (length groups) = omega arith in z) in
     let number = at.number in
     let is : IsSnapshotAt job e b (suc (0 + length groups)) (count_behind (all_applied job e groups ++ applied job e took ∷ [])) took x = record {
@@ -201,22 +184,20 @@ acknowledged count gate taking out before k size sent history takes x last at st
           (subst (λ s. HasSent job (suc e) b s out.output (all_applied job e groups ++ applied job e took ∷ []) []) (sym was.writes_for.size_is) was);
       snapshots = subst (AreSnapshots job e b 0 0 (groups ++ took ∷ [])) (sym sent_is) all;
     })
-    (known_last out.every (seen out.last_pass) k (length groups) (length (groups ++ took ∷ [])) last number many known)
+    (known_last out.every (seen out.acks.last_pass) k (length groups) (length (groups ++ took ∷ [])) last number many known)
 
-pub own_acknowledged : SeenIsWaited → (before : Account) (t : Taking) (out mid : StageOutput) (o : Output) (pass : TaskPass) (k : ℕ) (x : Snapshot) (last : Bool) → IsMarked before t out k → HasOwnPasses mid → mid.every ≡ out.every → sent_by mid.pass ≡ sent_by out.pass
-    → KnowsLast mid.every (seen mid.last_pass) (k - 1) last → IsPassOf mid.snapshots.now pass → task_of pass ≡ task_of mid.pass → sent_by pass ≡ sent_by mid.pass ++ x ∷ [] → HasOwnPasses (record mid { output = o; pass = pass })
-own_acknowledged law before t out mid o pass k x last marked own every kept known is task_is sent_is =
+-- it has seen the image of the checkpoint before, and sent one snapshot more
+pub own_acknowledged : (before : Account) (t : Taking) (out mid : StageOutput) (o : Output) (acks : Acks) (k : ℕ) (x : Snapshot) → IsMarked before t out k → HasOwnPasses mid → sent_by mid.acks.pass ≡ sent_by out.acks.pass
+    → HasWaited k (seen mid.acks.last_pass) → HasPasses acks → IsSameTask mid.acks acks → acks.last_pass ≡ mid.acks.last_pass → sent_by acks.pass ≡ sent_by mid.acks.pass ++ x ∷ [] → HasOwnPasses (record mid { output = o; acks = acks })
+own_acknowledged before t out mid o acks k x marked own kept waited has same last_is sent_is =
     let number = marked.number in
-    let many : length (sent_by pass) ≡ suc (length marked.groups) =
-    ap (λ (l : List Snapshot). length l) (sent_is ∙ ap (λ (l : List Snapshot). l ++ x ∷ []) kept) ∙ length-append (sent_by out.pass) (x ∷ []) ∙ omega (arith, as_many out.job.now out.edge out.index 0 0 marked.groups (sent_by out.pass) marked.snapshots) in
+    let many : length (sent_by acks.pass) ≡ k =
+    ap (λ (l : List Snapshot). length l) (sent_is ∙ ap (λ (l : List Snapshot). l ++ x ∷ []) kept) ∙ length-append (sent_by out.acks.pass) (x ∷ []) ∙ omega (arith, number, as_many out.job.now out.edge out.index 0 0 marked.groups (sent_by out.acks.pass) marked.snapshots) in
     record {
       edge = own.edge;
-      pass = is;
-      task = task_is ∙ own.task;
-      last_pass = own.last_pass;
-      job_is = own.job_is;
-      base = own.base;
-      waited = subst (λ n. HasWaited n (seen mid.last_pass)) (sym many)
-          (has_waited law out.every (seen out.last_pass) (seen mid.last_pass) (length marked.groups) last marked.not_last
-          (subst (λ i. KnowsLast out.every (seen mid.last_pass) i last) (let z : k - 1 ≡ length marked.groups = omega (arith, number) in z) (subst (λ (every : Option ℕ). KnowsLast every (seen mid.last_pass) (k - 1) last) every known)));
+      passes = has;
+      task = same.task ∙ own.task;
+      job_is = ap (λ (s : Bor SnapshotChannel). (opening_of s.now).job) same.snapshots ∙ own.job_is;
+      base = ap (λ (s : Bor SnapshotChannel). (opening_of s.now).base) same.snapshots ∙ own.base;
+      waited = subst (λ n. HasWaited n (seen acks.last_pass)) (sym many) (subst (λ (history : List (ℕ × Stored)). HasWaited k history) (sym (ap seen last_is)) waited);
     }

@@ -19,7 +19,7 @@ use Rattle.snapshot_channel.specs.Passes.{sent_by}
 use Rattle.task_taking.specs.Steps.{IsTakerCause}
 use Rattle.task_taking.specs.Takings.{Taking, HasTaken, IsAtBarrier, AllBlocked}
 use Rattle.task_output.specs.Waiting.{LastIs, MayEnd}
-use Rattle.task_output.proofs.Begun.{unended, may_have_ended}
+use Rattle.task_output.proofs.Begun.{begun_where}
 use Rattle.task_taking.specs.Endings.{Gave, IsTakerEnd, TakenIsGiven, BarrierIsGiven}
 use Rattle.task_taking.proofs.Told.{none_at}
 use Rattle.task_output.specs.Outputs.{Output, HasSent, HasBegun, HasStopped, HasFinished}
@@ -34,10 +34,14 @@ use Rattle.stage_task.proofs.Records.{applied_line}
 abbrev none_took : List (ℕ × List ℕ)
 none_took = []
 
+-- it may put a further barrier in any case, and may end its channels where that leads to what is so
+pub begun_so : (M E Q : Type 0) → (E → Q) → (job : Job) (e a size : ℕ) (out : Output) (groups : List (List (List ℕ))) (records begun : List (List ℕ)) → HasBegun job e a size out groups records begun M E → HasBegun job e a size out groups records begun ⊤ Q
+begun_so M E Q ends = begun_where M ⊤ E Q (λ mark. tt) ends
+
 -- what was begun is put
 pub ended_account : (job : Job) (e b size : ℕ) (every : Option ℕ) (gate : Account) (out : Output) (sent : List Snapshot) (history : List (ℕ × Stored)) (takes : List TakeRun) (cause : Cause)
     (groups : List (List (ℕ × List ℕ))) (rest : List (ℕ × List ℕ)) (records begun : List (List ℕ))
-    → Gave job e b gate groups rest → AreSnapshots job e b 0 0 groups sent → RunsTake job e b takes rest → HasBegun job (suc e) b size out (all_applied job e groups) records begun (MayEnd every history groups rest)
+    → Gave job e b gate groups rest → AreSnapshots job e b 0 0 groups sent → RunsTake job e b takes rest → HasBegun job (suc e) b size out (all_applied job e groups) records begun ⊤ (MayEnd every history groups rest)
     → StartsWith (applied job e rest) (records ++ begun) → cause ≢ causes.Done → IsTakerEnd every history gate groups rest cause
     → StageAccount job e b size every gate out.writer.passes sent history takes cause
 ended_account job e b size every gate out sent history takes cause groups rest records begun given snapshots takes_are begun_them front other cause_is = record {
@@ -121,7 +125,7 @@ module _ (out : StageOutput) where
 
   -- the account where it ends with another output
   abbrev Ended : Account → Output → List TakeRun → Cause → Type 0
-  Ended gate o takes cause = StageAccount job out.edge out.index o.writer.size out.every gate o.writer.passes (sent_by out.pass) (seen out.last_pass) takes cause
+  Ended gate o takes cause = StageAccount job out.edge out.index o.writer.size out.every gate o.writer.passes (sent_by out.acks.pass) (seen out.acks.last_pass) takes cause
 
   module _ (before gate : Account) (t t' : Taking) (groups : List (List (ℕ × List ℕ))) (took : List (ℕ × List ℕ)) (was : HasApplied before t out groups took) where
     abbrev made : List (List ℕ)
@@ -129,16 +133,16 @@ module _ (out : StageOutput) where
 
     -- it took nothing more
     module _ (sent_law : SentIsBegun) (given_law : TakenIsGiven) (taken : HasTaken job out.edge out.index gate t' groups took) where
-      still_ended : (cause : Cause) → cause ≢ causes.Done → IsTakerEnd out.every (seen out.last_pass) gate groups took cause → Ended gate out.output t'.runs cause
-      still_ended cause other is = ended_account job out.edge out.index size out.every gate out.output (sent_by out.pass) (seen out.last_pass) t'.runs cause groups took made [] (given_law job out.edge out.index gate t' groups took taken) was.snapshots taken.takes
-          (unended (MayEnd out.every (seen out.last_pass) groups took) job (suc out.edge) out.index size out.output (all_applied job out.edge groups) made [] (sent_law job (suc out.edge) out.index size out.output (all_applied job out.edge groups) made was.sent)) (all_front_of made) other is
+      still_ended : (cause : Cause) → cause ≢ causes.Done → IsTakerEnd out.every (seen out.acks.last_pass) gate groups took cause → Ended gate out.output t'.runs cause
+      still_ended cause other is = ended_account job out.edge out.index size out.every gate out.output (sent_by out.acks.pass) (seen out.acks.last_pass) t'.runs cause groups took made [] (given_law job out.edge out.index gate t' groups took taken) was.snapshots taken.takes
+          (begun_so ⊥ ⊥ (MayEnd out.every (seen out.acks.last_pass) groups took) (λ never. absurd never) job (suc out.edge) out.index size out.output (all_applied job out.edge groups) made [] (sent_law job (suc out.edge) out.index size out.output (all_applied job out.edge groups) made was.sent)) (all_front_of made) other is
 
       -- its gate gave nothing more
       pub gate_ended : (cause : Cause) → IsTakerCause gate cause → cause ≢ causes.Done → Ended gate out.output t'.runs cause
-      gate_ended cause is other = still_ended cause other (taker_end out.every (seen out.last_pass) gate groups took cause is other)
+      gate_ended cause is other = still_ended cause other (taker_end out.every (seen out.acks.last_pass) gate groups took cause is other)
 
       -- all channels ended before the last checkpoint
-      pub ended_early : LastIs out.every (seen out.last_pass) (length groups) false → AllOver gate → Ended gate out.output t'.runs (causes.Peer peers.Barrier)
+      pub ended_early : LastIs out.every (seen out.acks.last_pass) (length groups) false → AllOver gate → Ended gate out.output t'.runs (causes.Peer peers.Barrier)
       ended_early not_last over = still_ended (causes.Peer peers.Barrier) barrier_not_done (inr (inl (not_last, over)))
 
     -- it took a line
@@ -149,7 +153,7 @@ module _ (out : StageOutput) where
       more_is : applied job out.edge more ≡ made ++ given
       more_is = applied_line job out.edge took sender line ∙ ap (λ l. made ++ l) (sym gives)
 
-      pub line_applied : (o : Output) → LastIs out.every (seen out.last_pass) (length groups) false → HasSent job (suc out.edge) out.index size o (all_applied job out.edge groups) (made ++ given) → IsStageUnderWay gate t' (record out { output = o })
+      pub line_applied : (o : Output) → LastIs out.every (seen out.acks.last_pass) (length groups) false → HasSent job (suc out.edge) out.index size o (all_applied job out.edge groups) (made ++ given) → IsStageUnderWay gate t' (record out { output = o })
       line_applied o not_last sent = record {
         groups = groups;
         took = more;
@@ -163,15 +167,15 @@ module _ (out : StageOutput) where
       }
 
       pub line_ended : TakenIsGiven → (o : Output) (cause : Cause) → o.writer.size ≡ size → EndedAmong job (suc out.edge) out.index size o (all_applied job out.edge groups) made given cause → Ended gate o t'.runs cause
-      line_ended given_law o cause same among = ended_account job out.edge out.index o.writer.size out.every gate o (sent_by out.pass) (seen out.last_pass) t'.runs cause groups more (made ++ among.done) among.begun (given_law job out.edge out.index gate t' groups more taken) was.snapshots taken.takes
-          (unended (MayEnd out.every (seen out.last_pass) groups more) job (suc out.edge) out.index o.writer.size o (all_applied job out.edge groups) (made ++ among.done) among.begun (subst (λ n. HasBegun job (suc out.edge) out.index n o (all_applied job out.edge groups) (made ++ among.done) among.begun ⊥) (sym same) among.begun_them))
+      line_ended given_law o cause same among = ended_account job out.edge out.index o.writer.size out.every gate o (sent_by out.acks.pass) (seen out.acks.last_pass) t'.runs cause groups more (made ++ among.done) among.begun (given_law job out.edge out.index gate t' groups more taken) was.snapshots taken.takes
+          (begun_so ⊥ ⊥ (MayEnd out.every (seen out.acks.last_pass) groups more) (λ never. absurd never) job (suc out.edge) out.index o.writer.size o (all_applied job out.edge groups) (made ++ among.done) among.begun (subst (λ n. HasBegun job (suc out.edge) out.index n o (all_applied job out.edge groups) (made ++ among.done) among.begun ⊥ ⊥) (sym same) among.begun_them))
           (among.rest, more_is ∙ ap (λ l. made ++ l) among.parts ∙ sym (append_assoc made among.done (among.begun ++ among.rest)) ∙ sym (append_assoc (made ++ among.done) among.begun among.rest))
           (λ is. elim among.cause_is [ inl full ↦ memory_not_done (sym full ∙ is) | inr stopped ↦ stopped_not_done (sym stopped.0 ∙ is) ])
-          (elim among.cause_is [ inl full ↦ subst (IsTakerEnd out.every (seen out.last_pass) gate groups more) (sym full) tt | inr stopped ↦ subst (IsTakerEnd out.every (seen out.last_pass) gate groups more) (sym stopped.0) tt ])
+          (elim among.cause_is [ inl full ↦ subst (IsTakerEnd out.every (seen out.acks.last_pass) gate groups more) (sym full) tt | inr stopped ↦ subst (IsTakerEnd out.every (seen out.acks.last_pass) gate groups more) (sym stopped.0) tt ])
 
     -- it is at a barrier
     module _ (at : IsAtBarrier job out.edge out.index gate t' groups took) where
-      pub marked : (o : Output) (k : ℕ) → k ≡ suc (length groups) → LastIs out.every (seen out.last_pass) (length groups) false → HasSent job (suc out.edge) out.index size o (all_applied job out.edge groups ++ made ∷ []) [] → IsMarked gate t' (record out { output = o }) k
+      pub marked : (o : Output) (k : ℕ) → k ≡ suc (length groups) → LastIs out.every (seen out.acks.last_pass) (length groups) false → HasSent job (suc out.edge) out.index size o (all_applied job out.edge groups ++ made ∷ []) [] → IsMarked gate t' (record out { output = o }) k
       marked o k number not_last sent = record {
         groups = groups;
         took = took;
@@ -182,9 +186,9 @@ module _ (out : StageOutput) where
         number = number;
       }
 
-      pub mark_ended : BarrierIsGiven → (o : Output) → o.writer.size ≡ size → HasStopped job (suc out.edge) out.index size o (all_applied job out.edge groups) made [] ⊥ → Ended gate o t'.runs causes.Stopped
-      mark_ended given_law o same stopped = ended_account job out.edge out.index o.writer.size out.every gate o (sent_by out.pass) (seen out.last_pass) t'.runs causes.Stopped groups took made [] (given_law job out.edge out.index gate t' groups took at) was.snapshots at.takes
-          (unended (MayEnd out.every (seen out.last_pass) groups took) job (suc out.edge) out.index o.writer.size o (all_applied job out.edge groups) made [] (subst (λ n. HasBegun job (suc out.edge) out.index n o (all_applied job out.edge groups) made [] ⊥) (sym same) stopped.begun_them)) (all_front_of made) stopped_not_done tt
+      pub mark_ended : BarrierIsGiven → (o : Output) → o.writer.size ≡ size → HasStopped job (suc out.edge) out.index size o (all_applied job out.edge groups) made [] ⊤ ⊥ → Ended gate o t'.runs causes.Stopped
+      mark_ended given_law o same stopped = ended_account job out.edge out.index o.writer.size out.every gate o (sent_by out.acks.pass) (seen out.acks.last_pass) t'.runs causes.Stopped groups took made [] (given_law job out.edge out.index gate t' groups took at) was.snapshots at.takes
+          (begun_so ⊤ ⊥ (MayEnd out.every (seen out.acks.last_pass) groups took) (λ never. absurd never) job (suc out.edge) out.index o.writer.size o (all_applied job out.edge groups) made [] (subst (λ n. HasBegun job (suc out.edge) out.index n o (all_applied job out.edge groups) made [] ⊤ ⊥) (sym same) stopped.begun_them)) (all_front_of made) stopped_not_done tt
 
 -- ---- behind the last checkpoint
 
@@ -202,24 +206,24 @@ module _ (before gate : Account) (t t' : Taking) (out : StageOutput) (behind : I
 
   -- it took a line more
   pub line_behind : SentIsBegun → TakenIsGiven → (sender : ℕ) (line : List ℕ) → HasTaken job_of out.edge out.index gate t' behind.groups ((sender, line) ∷ []) → Ended out gate out.output t'.runs (causes.Peer peers.Barrier)
-  line_behind sent_law given_law sender line taken = ended_account job_of out.edge out.index out.output.writer.size out.every gate out.output (sent_by out.pass) (seen out.last_pass) t'.runs (causes.Peer peers.Barrier) behind.groups ((sender, line) ∷ []) [] []
+  line_behind sent_law given_law sender line taken = ended_account job_of out.edge out.index out.output.writer.size out.every gate out.output (sent_by out.acks.pass) (seen out.acks.last_pass) t'.runs (causes.Peer peers.Barrier) behind.groups ((sender, line) ∷ []) [] []
       (given_law job_of out.edge out.index gate t' behind.groups ((sender, line) ∷ []) taken) behind.applied_them.snapshots taken.takes
-      (unended (MayEnd out.every (seen out.last_pass) behind.groups ((sender, line) ∷ [])) job_of (suc out.edge) out.index out.output.writer.size out.output (all_applied job_of out.edge behind.groups) [] [] (sent_law job_of (suc out.edge) out.index out.output.writer.size out.output (all_applied job_of out.edge behind.groups) [] behind.applied_them.sent)) (applied job_of out.edge ((sender, line) ∷ []), refl)
+      (begun_so ⊥ ⊥ (MayEnd out.every (seen out.acks.last_pass) behind.groups ((sender, line) ∷ [])) (λ never. absurd never) job_of (suc out.edge) out.index out.output.writer.size out.output (all_applied job_of out.edge behind.groups) [] [] (sent_law job_of (suc out.edge) out.index out.output.writer.size out.output (all_applied job_of out.edge behind.groups) [] behind.applied_them.sent)) (applied job_of out.edge ((sender, line) ∷ []), refl)
       barrier_not_done (inr (inr (behind.last, inl (λ is. cc))))
 
   -- a barrier came on all channels
   pub barrier_behind : SentIsBegun → BarrierIsGiven → IsAtBarrier job_of out.edge out.index gate t' behind.groups [] → AllBlocked gate t' → Ended out gate out.output t'.runs (causes.Peer peers.Barrier)
-  barrier_behind sent_law given_law at blocked = ended_account job_of out.edge out.index out.output.writer.size out.every gate out.output (sent_by out.pass) (seen out.last_pass) t'.runs (causes.Peer peers.Barrier) behind.groups [] [] []
+  barrier_behind sent_law given_law at blocked = ended_account job_of out.edge out.index out.output.writer.size out.every gate out.output (sent_by out.acks.pass) (seen out.acks.last_pass) t'.runs (causes.Peer peers.Barrier) behind.groups [] [] []
       (given_law job_of out.edge out.index gate t' behind.groups [] at) behind.applied_them.snapshots at.takes
-      (unended (MayEnd out.every (seen out.last_pass) behind.groups none_took) job_of (suc out.edge) out.index out.output.writer.size out.output (all_applied job_of out.edge behind.groups) [] [] (sent_law job_of (suc out.edge) out.index out.output.writer.size out.output (all_applied job_of out.edge behind.groups) [] behind.applied_them.sent)) ([], refl)
+      (begun_so ⊥ ⊥ (MayEnd out.every (seen out.acks.last_pass) behind.groups none_took) (λ never. absurd never) job_of (suc out.edge) out.index out.output.writer.size out.output (all_applied job_of out.edge behind.groups) [] [] (sent_law job_of (suc out.edge) out.index out.output.writer.size out.output (all_applied job_of out.edge behind.groups) [] behind.applied_them.sent)) ([], refl)
       barrier_not_done (inr (inr (behind.last, inr (all_stops gate t' (suc (length behind.groups)) blocked at.closed))))
 
   -- all channels ended, and it ends its own
   module _ (given_law : TakenIsGiven) (taken : HasTaken job_of out.edge out.index gate t' behind.groups []) (o : Output) (same : o.writer.size ≡ out.output.writer.size) where
-    pub finish_ended : HasStopped job_of (suc out.edge) out.index out.output.writer.size o (all_applied job_of out.edge behind.groups) [] [] ⊤ → Ended out gate o t'.runs causes.Stopped
-    finish_ended stopped = ended_account job_of out.edge out.index o.writer.size out.every gate o (sent_by out.pass) (seen out.last_pass) t'.runs causes.Stopped behind.groups [] [] []
+    pub finish_ended : HasStopped job_of (suc out.edge) out.index out.output.writer.size o (all_applied job_of out.edge behind.groups) [] [] ⊥ ⊤ → Ended out gate o t'.runs causes.Stopped
+    finish_ended stopped = ended_account job_of out.edge out.index o.writer.size out.every gate o (sent_by out.acks.pass) (seen out.acks.last_pass) t'.runs causes.Stopped behind.groups [] [] []
         (given_law job_of out.edge out.index gate t' behind.groups [] taken) behind.applied_them.snapshots taken.takes
-        (may_have_ended (MayEnd out.every (seen out.last_pass) behind.groups none_took) (behind.last, refl) job_of (suc out.edge) out.index o.writer.size o (all_applied job_of out.edge behind.groups) [] [] (subst (λ n. HasBegun job_of (suc out.edge) out.index n o (all_applied job_of out.edge behind.groups) [] [] ⊤) (sym same) stopped.begun_them)) ([], refl) stopped_not_done tt
+        (begun_so ⊥ ⊤ (MayEnd out.every (seen out.acks.last_pass) behind.groups none_took) (λ all. (behind.last, refl)) job_of (suc out.edge) out.index o.writer.size o (all_applied job_of out.edge behind.groups) [] [] (subst (λ n. HasBegun job_of (suc out.edge) out.index n o (all_applied job_of out.edge behind.groups) [] [] ⊥ ⊤) (sym same) stopped.begun_them)) ([], refl) stopped_not_done tt
 
     pub finished : FinishedIsBegun → AllOver gate → HasFinished job_of (suc out.edge) out.index out.output.writer.size o (all_applied job_of out.edge behind.groups) [] → Ended out gate o t'.runs causes.Done
     finished law over has =
@@ -232,7 +236,7 @@ module _ (before gate : Account) (t t' : Taking) (out : StageOutput) (behind : I
           snapshots = behind.applied_them.snapshots;
           takes_are = taken.takes;
           front = ([], refl);
-          put = (may_have_ended (MayEnd out.every (seen out.last_pass) behind.groups none_took) (behind.last, refl) job_of (suc out.edge) out.index o.writer.size o (all_applied job_of out.edge behind.groups) [] [] (law job_of (suc out.edge) out.index o.writer.size o (all_applied job_of out.edge behind.groups) [] all)).each;
+          put = (begun_so ⊥ ⊤ (MayEnd out.every (seen out.acks.last_pass) behind.groups none_took) (λ all. (behind.last, refl)) job_of (suc out.edge) out.index o.writer.size o (all_applied job_of out.edge behind.groups) [] [] (law job_of (suc out.edge) out.index o.writer.size o (all_applied job_of out.edge behind.groups) [] all)).each;
           done = λ is. (refl, all.each);
           cause_is = (over, refl, behind.last);
         }

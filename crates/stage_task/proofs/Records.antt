@@ -39,7 +39,7 @@ emitted_none law job e a size out groups records given was = record {
   begun = [];
   rest = given;
   parts = refl;
-  begun_them = subst (λ (l : List (List ℕ)). HasBegun job e a size out groups l [] ⊥) (sym (append-nil records)) (law job e a size out groups records was);
+  begun_them = subst (λ (l : List (List ℕ)). HasBegun job e a size out groups l [] ⊥ ⊥) (sym (append-nil records)) (law job e a size out groups records was);
   cause_is = inl refl;
 }
 

@@ -1,5 +1,6 @@
 -- How the task of a stage begins and ends.
-use Rattle.std.proofs.Common.{◌≡◌, ◌≢◌, Bor, ℕ, zero, suc, ◌+◌, ◌⊎◌, false, List, [], ◌∷◌, ◌++◌, Option, refl, sym, ap, subst, ◌∙◌, inl, inr, arith}
+use Rattle.std.proofs.Common.{◌≡◌, ◌≢◌, Bor, ℕ, zero, suc, ◌+◌, ◌⊎◌, false, List, [], ◌∷◌, ◌++◌, length, Option, refl, sym, ap, subst, ◌∙◌, inl, inr, arith}
+use Rattle.std.specs.Prelude.{⊤}
 use Rattle.turn_cell.specs.History.{StartsWith}
 use Rattle.turn_cell.specs.Passes.{IsPassOf, IsSamePass, seen}
 use Rattle.flow_defs.specs.declared.cause.Cause.{Cause}
@@ -19,16 +20,19 @@ use Rattle.record_writer.specs.declared.partition.Partition.{Partition}
 use Rattle.record_writer.specs.declared.partition.PartitionPasses.{PartitionPasses}
 use Rattle.input_gate.specs.Gates as gates
 use Rattle.input_gate.specs.Gates.{Account}
-use Rattle.snapshot_channel.specs.Passes.{sent_by}
+use Rattle.snapshot_channel.specs.declared.opened.TaskPass.{TaskPass}
+use Rattle.snapshot_channel.specs.Passes.{opening_of, sent_by}
 use Rattle.task_taking.specs.Endings.{IsTakerEnd}
 use Rattle.task_taking.specs.Takings.{Taking, HasTaken, untaken}
-use Rattle.task_output.specs.Ending.{EndsAs, ToldAtEnd}
+use Rattle.task_output.specs.declared.acks.Acks.{Acks}
+use Rattle.task_output.specs.Acking.{HasPasses}
+use Rattle.task_output.specs.Ending.{ArePassesBy, EndsAs, ToldAtEnd}
 use Rattle.task_output.specs.Waiting.{MayEnd}
 use Rattle.task_output.specs.Outputs.{WritesFor, HasSent, BegunOn, end_of}
 use Rattle.stage_task.specs.declared.checkpoints.StageOutput.{StageOutput}
 use Rattle.stage_task.specs.declared.checkpoints.TakerEnd.{TakerEnd}
 use Rattle.stage_task.specs.Snapshots.{AreSnapshots}
-use Rattle.stage_task.specs.Stages.{StageAccount, ArePassesBy}
+use Rattle.stage_task.specs.Stages.{StageAccount}
 use Rattle.task_taking.specs.Endings.{ToldStop}
 use Rattle.stage_task.specs.Applying.{IsSameStage, IsStageUnderWay, IsEndOf}
 use Rattle.stage_task.proofs.Ends.{memory_not_done, stopped_not_done}
@@ -38,7 +42,7 @@ use Rattle.stage_task.proofs.Ends.{memory_not_done, stopped_not_done}
 pub under_way : (gate : Account) (taking : Taking) (partition : Partition) (w : Writer) (out : StageOutput) → gates.IsNew gate → gate.channels ≡ ways_into out.job.now out.edge
     → ((gate : Account) → gates.IsNew gate → gate.channels ≡ ways_into out.job.now out.edge → HasTaken out.job.now out.edge out.index gate taking [] [])
     → IsWriterOf out.job.now (out.edge + 1) out.index partition w → IsNew w × IsOpen w
-    → ((job : Job) (e a size : ℕ) → WritesFor job e a size w → IsNew w → IsOpen w → HasSent job e a size out.output [] []) → sent_by out.pass ≡ [] → IsStageUnderWay gate taking out
+    → ((job : Job) (e a size : ℕ) → WritesFor job e a size w → IsNew w → IsOpen w → HasSent job e a size out.output [] []) → sent_by out.acks.pass ≡ [] → IsStageUnderWay gate taking out
 under_way gate taking partition w out new channels none writes fresh none_sent unsent =
     let sent = none_sent out.job.now (suc out.edge) out.index w.size (record { job_is = writes.job_is; edge = writes.edge ∙ (let z : out.edge + 1 ≡ suc out.edge = omega arith in z); index = writes.index; size_is = refl }) fresh.0 fresh.1 in
     record {
@@ -78,10 +82,10 @@ unbegun job e b size every gate passes sent history takes new none_put none_sent
   snapshots = subst (AreSnapshots job e b 0 0 []) (sym none_sent) tt;
   takes_are = subst (λ (l : List TakeRun). RunsTake job e b l []) (sym none_taken) (record { senders_are = refl; are_runs = tt; short = tt });
   front = ([], refl);
-  put = λ c inside. subst (BegunOn (receiver_on job (suc e) b) [] (end_of job (suc e) b c) size [] (MayEnd every history no_groups none_took)) (sym (none_at passes c none_put)) (record {
+  put = λ c inside. subst (BegunOn (receiver_on job (suc e) b) [] (end_of job (suc e) b c) size [] ⊤ (MayEnd every history no_groups none_took)) (sym (none_at passes c none_put)) (record {
     more = [] ∷ [];
     cut = refl;
-    few = omega arith;
+    few = inl (omega arith);
     ended = λ over. absurd (cc);
     some = record { owed = []; begins = refl; buffers = tt };
   });
@@ -109,7 +113,7 @@ account_ended job e b size every gate passes sent history takes cause cause' end
 
 -- the account of what is the same is the same
 pub account_of_same : (out out' : StageOutput) (size : ℕ) (gate gate' : Account) (passes : List SendPass) (sent : List Snapshot) (history : List (ℕ × Stored)) (takes : List TakeRun) (end : TakerEnd) → IsSameStage out out' → out'.output.writer.size ≡ size → gate' ≡ gate
-    → passes ≡ out'.output.writer.passes → sent ≡ sent_by out'.pass → history ≡ seen out'.last_pass → takes ≡ end.takes.items → IsEndOf gate out' end → StageAccount out.job.now out.edge out.index size out.every gate' passes sent history takes end.cause
+    → passes ≡ out'.output.writer.passes → sent ≡ sent_by out'.acks.pass → history ≡ seen out'.acks.last_pass → takes ≡ end.takes.items → IsEndOf gate out' end → StageAccount out.job.now out.edge out.index size out.every gate' passes sent history takes end.cause
 account_of_same out out' size gate gate' passes sent history takes end same size_is gate_is passes_are sent_is history_is takes_are was =
     subst (λ (j : Bor Job). StageAccount j.now out.edge out.index size out.every gate' passes sent history takes end.cause) same.job
     (subst (λ n. StageAccount out'.job.now n out.index size out.every gate' passes sent history takes end.cause) same.edge
@@ -119,8 +123,15 @@ account_of_same out out' size gate gate' passes sent history takes end same size
     (subst (λ (x : Account). StageAccount out'.job.now out'.edge out'.index out'.output.writer.size out'.every x passes sent history takes end.cause) (sym gate_is)
     (subst (λ (l : List SendPass). StageAccount out'.job.now out'.edge out'.index out'.output.writer.size out'.every gate l sent history takes end.cause) (sym passes_are)
     (subst (λ (l : List Snapshot). StageAccount out'.job.now out'.edge out'.index out'.output.writer.size out'.every gate out'.output.writer.passes l history takes end.cause) (sym sent_is)
-    (subst (λ (l : List (ℕ × Stored)). StageAccount out'.job.now out'.edge out'.index out'.output.writer.size out'.every gate out'.output.writer.passes (sent_by out'.pass) l takes end.cause) (sym history_is)
-    (subst (λ (l : List TakeRun). StageAccount out'.job.now out'.edge out'.index out'.output.writer.size out'.every gate out'.output.writer.passes (sent_by out'.pass) (seen out'.last_pass) l end.cause) (sym takes_are) was)))))))))
+    (subst (λ (l : List (ℕ × Stored)). StageAccount out'.job.now out'.edge out'.index out'.output.writer.size out'.every gate out'.output.writer.passes (sent_by out'.acks.pass) l takes end.cause) (sym history_is)
+    (subst (λ (l : List TakeRun). StageAccount out'.job.now out'.edge out'.index out'.output.writer.size out'.every gate out'.output.writer.passes (sent_by out'.acks.pass) (seen out'.acks.last_pass) l end.cause) (sym takes_are) was)))))))))
+
+-- it tells how many snapshots it sent
+pub acks_are : (acks : Acks) (pass : TaskPass) (n : ℕ) → HasPasses acks → (opening_of acks.snapshots.now).base ≡ 0 → n ≡ acks.number → pass ≡ acks.pass → n ≡ length (sent_by pass)
+acks_are acks pass n has base is same =
+    let number = has.number_is in
+    let count : n ≡ length (sent_by acks.pass) = omega (arith, is, number, base) in
+    count ∙ ap (λ (p : TaskPass). length (sent_by p)) (sym same)
 
 -- what a writer gives back are passes of its partition
 pub written_back : (job : Job) (e a : ℕ) (partition : Partition) (w v : Writer) (passes : PartitionPasses) → IsWriterOf job e a partition w → IsSame w v → ArePassesBy v passes → ArePassesOf job e partition passes

@@ -1,7 +1,6 @@
 -- A stateless task under way. As in Flink it puts a barrier behind what it emitted for the records that it took before its snapshot, and
 -- goes on. That what it did is told by what it took from each barrier to the next is this project's own choice.
 use Rattle.std.specs.Prelude.{◌≡◌, ℕ, suc, ◌<◌, ◌⊎◌, Bool, true, false, List, [], ◌∷◌, ◌++◌, length, Result, Ok, Err}
-use Rattle.turn_cell.specs.Passes as passes
 use Rattle.turn_cell.specs.Passes.{seen}
 use Rattle.flow_defs.specs.declared.cause.Cause.{Cause}
 use Rattle.flow_defs.specs.declared.cause.Cause.TheVariants as causes
@@ -10,8 +9,9 @@ use Rattle.flow_defs.specs.Jobs.{last_edge}
 use Rattle.checkpoint_laws.specs.Chapters.{applied, task_at}
 use Rattle.record_writer.specs.Writers.{IsSame, HasSeenFault}
 use Rattle.input_gate.specs.Gates.{Account}
-use Rattle.snapshot_channel.specs.Passes.{IsPassOf, opening_of, sent_by, task_of}
+use Rattle.snapshot_channel.specs.Passes.{opening_of, sent_by, task_of}
 use Rattle.task_taking.specs.Takings.{Taking, HasTaken, IsAtBarrier}
+use Rattle.task_output.specs.Acking.{HasPasses, IsSameTask}
 use Rattle.task_output.specs.Outputs.{Output, HasSent, HasBegun}
 use Rattle.task_output.specs.Waiting.{LastIs, HasWaited}
 use Rattle.stage_task.specs.declared.checkpoints.StageOutput.{StageOutput}
@@ -21,26 +21,24 @@ use Rattle.stage_task.specs.Stages.{StageAccount}
 
 -- ---- what it has at hand
 
--- Its passes are of its channel of snapshots, which is opened from the start on for its job, and of the cell of the last image. It has
--- sent a snapshot only where it had seen the image of the checkpoint before. Its edge is one before the last.
+-- It acknowledges as its task, on a channel of snapshots that is opened from the start on for its job. It has sent a snapshot only where it
+-- had seen the image of the checkpoint before. Its edge is one before the last.
 pub record HasOwnPasses (out : StageOutput) : Type 0 where
   pub edge : out.edge < last_edge out.job.now
-  pub pass : IsPassOf out.snapshots.now out.pass
-  pub task : task_of out.pass ≡ task_at (suc out.edge) out.index
-  pub last_pass : passes.IsPassOf out.last_image.now out.last_pass
-  pub job_is : (opening_of out.snapshots.now).job ≡ out.job.now
-  pub base : (opening_of out.snapshots.now).base ≡ 0
-  pub waited : HasWaited (length (sent_by out.pass)) (seen out.last_pass)
+  pub passes : HasPasses out.acks
+  pub task : task_of out.acks.pass ≡ task_at (suc out.edge) out.index
+  pub job_is : (opening_of out.acks.snapshots.now).job ≡ out.job.now
+  pub base : (opening_of out.acks.snapshots.now).base ≡ 0
+  pub waited : HasWaited (length (sent_by out.acks.pass)) (seen out.acks.last_pass)
 
 -- It is the same task, and writes by the same writer.
 pub record IsSameStage (out out' : StageOutput) : Type 0 where
   pub writer : IsSame out.output.writer out'.output.writer
+  pub acks : IsSameTask out.acks out'.acks
   pub job : out'.job ≡ out.job
   pub edge : out'.edge ≡ out.edge
   pub index : out'.index ≡ out.index
   pub every_is : out'.every ≡ out.every
-  pub snapshots : out'.snapshots ≡ out.snapshots
-  pub last_image : out'.last_image ≡ out.last_image
 
 -- ---- what it took and emitted
 
@@ -49,20 +47,20 @@ pub record IsSameStage (out out' : StageOutput) : Type 0 where
 pub record HasApplied (gate : Account) (taking : Taking) (out : StageOutput) (groups : List (List (ℕ × List ℕ))) (took : List (ℕ × List ℕ)) : Type 0 where
   pub taken : HasTaken out.job.now out.edge out.index gate taking groups took
   pub sent : HasSent out.job.now (suc out.edge) out.index out.output.writer.size out.output (all_applied out.job.now out.edge groups) (applied out.job.now out.edge took)
-  pub snapshots : AreSnapshots out.job.now out.edge out.index 0 0 groups (sent_by out.pass)
+  pub snapshots : AreSnapshots out.job.now out.edge out.index 0 0 groups (sent_by out.acks.pass)
 
 -- It takes on: the last checkpoint is still to come.
 pub record IsStageUnderWay (gate : Account) (taking : Taking) (out : StageOutput) : Type 0 where
   pub groups : List (List (ℕ × List ℕ))
   pub took : List (ℕ × List ℕ)
   pub applied_them : HasApplied gate taking out groups took
-  pub not_last : LastIs out.every (seen out.last_pass) (length groups) false
+  pub not_last : LastIs out.every (seen out.acks.last_pass) (length groups) false
 
 -- It has acknowledged the last checkpoint, and has taken nothing behind it.
 pub record IsBehindLast (gate : Account) (taking : Taking) (out : StageOutput) : Type 0 where
   pub groups : List (List (ℕ × List ℕ))
   pub applied_them : HasApplied gate taking out groups []
-  pub last : LastIs out.every (seen out.last_pass) (length groups) true
+  pub last : LastIs out.every (seen out.acks.last_pass) (length groups) true
 
 -- The barriers of checkpoint k have come, and were put behind all that it emitted. The snapshot is still to be sent.
 pub record IsMarked (gate : Account) (taking : Taking) (out : StageOutput) (k : ℕ) : Type 0 where
@@ -70,8 +68,8 @@ pub record IsMarked (gate : Account) (taking : Taking) (out : StageOutput) (k : 
   pub took : List (ℕ × List ℕ)
   pub at : IsAtBarrier out.job.now out.edge out.index gate taking groups took
   pub sent : HasSent out.job.now (suc out.edge) out.index out.output.writer.size out.output (all_applied out.job.now out.edge groups ++ applied out.job.now out.edge took ∷ []) []
-  pub snapshots : AreSnapshots out.job.now out.edge out.index 0 0 groups (sent_by out.pass)
-  pub not_last : LastIs out.every (seen out.last_pass) (length groups) false
+  pub snapshots : AreSnapshots out.job.now out.edge out.index 0 0 groups (sent_by out.acks.pass)
+  pub not_last : LastIs out.every (seen out.acks.last_pass) (length groups) false
   pub number : k ≡ suc (length groups)
 
 -- It has acknowledged a checkpoint, the last one or another.
@@ -88,7 +86,7 @@ pub record EndedAmong (job : Job) (e a size : ℕ) (out : Output) (groups : List
   pub begun : List (List ℕ)
   pub rest : List (List ℕ)
   pub parts : given ≡ done ++ (begun ++ rest)
-  pub begun_them : HasBegun job e a size out groups (records ++ done) begun ⊥
+  pub begun_them : HasBegun job e a size out groups (records ++ done) begun ⊥ ⊥
   pub cause_is : (cause ≡ causes.Memory) ⊎ ((cause ≡ causes.Stopped) × HasSeenFault out.writer)
 
 -- It has emitted all of it, or ended among it.
@@ -101,4 +99,4 @@ EmittedAll job e a size out groups records given (Err cause) = EndedAmong job e 
 -- It has its account where it takes no more.
 abbrev pub IsEndOf : Account → StageOutput → TakerEnd → Type 0
 IsEndOf gate out end =
-    StageAccount out.job.now out.edge out.index out.output.writer.size out.every gate out.output.writer.passes (sent_by out.pass) (seen out.last_pass) end.takes.items end.cause
+    StageAccount out.job.now out.edge out.index out.output.writer.size out.every gate out.output.writer.passes (sent_by out.acks.pass) (seen out.acks.last_pass) end.takes.items end.cause

@@ -1,8 +1,7 @@
 -- What the task of a stateless stage did. As in Flink it emits what its function gives for each record that it takes, and acknowledges each
 -- checkpoint. That it tells so whatever its cause is this project's own choice.
-use Rattle.std.specs.Prelude.{◌≡◌, ℕ, suc, ◌<◌, ◌≤◌, List, [], Option, IfSome}
+use Rattle.std.specs.Prelude.{◌≡◌, ℕ, suc, ◌<◌, ⊤, List, [], Option}
 use Rattle.turn_cell.specs.History.{StartsWith}
-use Rattle.turn_cell.specs.Passes.{IsPassOf}
 use Rattle.flow_defs.specs.declared.cause.Cause.{Cause}
 use Rattle.flow_defs.specs.declared.cause.Cause.TheVariants as causes
 use Rattle.flow_defs.specs.declared.image.Snapshot.{Snapshot}
@@ -10,17 +9,11 @@ use Rattle.flow_defs.specs.declared.image.TakeRun.{TakeRun}
 use Rattle.flow_defs.specs.declared.job.Job.{Job}
 use Rattle.flow_defs.specs.Jobs.{IsJob, last_edge, tasks}
 use Rattle.plain_machine.specs.Emitting.{receiver_on}
-use Rattle.checkpoint_laws.specs.Chapters.{RunsTake, applied, task_at}
+use Rattle.checkpoint_laws.specs.Chapters.{RunsTake, applied}
 use Rattle.outside.specs.declared.last_image.Stored.{Stored}
 use Rattle.conn_parts.specs.Shares.{mine_at}
-use Rattle.record_writer.specs.Partitions.{IsPartitionOf}
-use Rattle.record_writer.specs.declared.partition.Partition.{Partition}
-use Rattle.record_writer.specs.declared.partition.PartitionPasses.{PartitionPasses}
-use Rattle.record_writer.specs.Writers.{SendPass, Writer, AreOwnAt, ways_on, ways_into}
+use Rattle.record_writer.specs.Writers.{SendPass, ways_on, ways_into}
 use Rattle.input_gate.specs.Gates.{Account, IsNew}
-use Rattle.snapshot_channel.specs.Passes as channels
-use Rattle.snapshot_channel.specs.declared.opened.SnapshotChannel.{SnapshotChannel}
-use Rattle.snapshot_channel.specs.declared.opened.TaskPass.{TaskPass}
 use Rattle.task_taking.specs.Endings.{Gave, IsTakerEnd}
 use Rattle.task_output.specs.Outputs.{BegunOn, FinishedOn, end_of}
 use Rattle.task_output.specs.Waiting.{MayEnd}
@@ -40,11 +33,11 @@ pub record StageAccount (job : Job) (e b size : ℕ) (every : Option ℕ) (gate 
   pub snapshots : AreSnapshots job e b 0 0 groups sent
   pub takes_are : RunsTake job e b takes rest
   pub front : StartsWith (applied job e rest) more
-  pub put : (c : ℕ) → c < ways_on job (suc e) → BegunOn (receiver_on job (suc e) b) (all_applied job e groups) (end_of job (suc e) b c) size more (MayEnd every history groups rest) (mine_at c passes)
+  pub put : (c : ℕ) → c < ways_on job (suc e) → BegunOn (receiver_on job (suc e) b) (all_applied job e groups) (end_of job (suc e) b c) size more ⊤ (MayEnd every history groups rest) (mine_at c passes)
   pub done : cause ≡ causes.Done → (rest ≡ []) × ((c : ℕ) → c < ways_on job (suc e) → FinishedOn (receiver_on job (suc e) b) (all_applied job e groups) (end_of job (suc e) b c) size [] (mine_at c passes))
   pub cause_is : IsTakerEnd every history gate groups rest cause
 
--- ---- what it is lent, and how it ends
+-- ---- what it is
 
 -- It is task b of a stage behind edge e of the job, and takes from a new gate that has its channels.
 pub record IsStageTask (job : Job) (e b : ℕ) (gate : Account) : Type 0 where
@@ -53,18 +46,3 @@ pub record IsStageTask (job : Job) (e b : ℕ) (gate : Account) : Type 0 where
   pub index : b < tasks job (suc e)
   pub gate_new : IsNew gate
   pub channels_are : gate.channels ≡ ways_into job e
-
--- It is lent its partition and a fresh pass of the channel of snapshots, which is opened for its job from the start on. An interval has at
--- least one line.
-pub record IsLent (job : Job) (e b : ℕ) (every : Option ℕ) (partition : Partition) (snapshots : SnapshotChannel) (pass : TaskPass) : Type 0 where
-  pub partition_is : IsPartitionOf job (suc e) b partition
-  pub interval : IfSome every (λ n. 1 ≤ n)
-  pub fresh : channels.IsFresh snapshots pass
-  pub task : channels.task_of pass ≡ task_at (suc e) b
-  pub opening : channels.opening_of snapshots ≡ channels.opening job 0 every
-
--- These are the passes by which this writer wrote.
-pub record ArePassesBy (w : Writer) (passes : PartitionPasses) : Type 0 where
-  pub own : AreOwnAt w.cells w.first w.stride (ways_on w.job w.edge) passes.subpartitions.items
-  pub same : passes.subpartitions.items ≡ w.passes
-  pub pool : IsPassOf w.pool passes.pool

@@ -110,7 +110,7 @@ fn end_behind_last<G: Gate, R: Wait>(
     requires behind { IsBehindLast (G.account gate.old) taking out.old }
     ensures gate { (G.ends gate.new ≡ G.ends gate.old) × ((G.account gate.new).channels ≡ (G.account gate.old).channels) }
     ensures same { IsSameStage out.old out.new }
-    ensures kept { (out.new.pass ≡ out.old.pass) × (out.new.last_pass ≡ out.old.last_pass) }
+    ensures kept { out.new.acks ≡ out.old.acks }
     ensures ended { IsEndOf (G.account gate.new) out.new result }
     ensures stopped { result.cause ≡ Cause.Stopped → G.saw_stop gate.new ⊎ HasSeenFault out.new.output.writer }
 {

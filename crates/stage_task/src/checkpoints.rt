@@ -1,38 +1,26 @@
 // How a stage takes checkpoints.
-ghost use Rattle.std.specs.Prelude.{◌≡◌, ◌≤◌, ◌-◌, ◌^◌, ◌<◌, ℕ, suc, List, IfOk, IfErr, OnOk, OnErr};
-ghost use Rattle.turn_cell.specs.History.{StartsWith};
-ghost use Rattle.turn_cell.specs.Passes.{IsPassOf, seen};
-ghost use Rattle.flow_defs.specs.declared.job.Job.{Job};
+ghost use Rattle.std.specs.Prelude.{◌≡◌, ◌^◌, ◌<◌, suc, IfOk, IfErr, OnOk, OnErr};
 ghost use Rattle.record_writer.specs.Writers.{HasSeenFault};
 ghost use Rattle.input_gate.specs.Gates.{Account};
 ghost use Rattle.task_taking.specs.Takings.{AllBlocked, IsInStep};
-ghost use Rattle.task_output.specs.Outputs.{HasSent};
-ghost use Rattle.task_output.specs.Waiting.{KnowsLast};
 ghost use Rattle.stage_task.specs.Applying.{IsSameStage, HasOwnPasses, IsMarked, HasAcknowledged, IsEndOf};
 ghost use Rattle.stage_task.specs.Snapshots.{IsSnapshotOf};
 
 use flow_defs::{Cause, Job, ListOf, Snapshot, Table, TakeRun, TaskId};
 use input_gate::Gate;
-use outside::LastImage;
 use plain_machine::laws::emits_in_parts;
-use record_writer::WriterStopped;
-use snapshot_channel::{SnapshotChannel, TaskPass};
 use std::alloc::Global;
 use std::sync::Wait;
 use task_output::laws::{what_was_seen_stays, what_was_sent_was_begun};
-use task_output::{TaskOutput, send_snapshot, wait_for_image};
+use task_output::{Acks, TaskOutput};
 use task_taking::TaskTaking;
 use task_taking::laws::what_was_taken_was_given;
-use turn_cell::{Pass, TurnCell};
 
-/// What a stage emits by, and where it sends its snapshots.
+/// What a stage emits by, and by what it acknowledges checkpoints.
 #[derive(Drop)]
 pub struct StageOutput<'a, 'p> {
     pub output: TaskOutput<'a, 'p>,
-    pub snapshots: &'a SnapshotChannel,
-    pub pass: TaskPass,
-    pub last_image: &'a TurnCell<LastImage>,
-    pub last_pass: Pass<LastImage>,
+    pub acks: Acks<'a>,
     pub job: &'a Job,
     /// The edge from which its task takes.
     pub edge: u32,
@@ -76,7 +64,7 @@ pub fn acknowledge<G: Gate, R: Wait>(
     what_was_taken_was_given();
     emits_in_parts();
     let takes = taking.resume_all(rt, gate);
-    let last = match out.knows_last(rt, k) {
+    let last = match out.acks.learn_last(rt, &mut out.output, out.every, k) {
         Ok(last) => last,
         Err(_) => {
             return Err(TakerEnd {
@@ -86,7 +74,7 @@ pub fn acknowledge<G: Gate, R: Wait>(
         }
     };
     let snapshot = out.snapshot(alloc, k, takes);
-    match send_snapshot(rt, out.snapshots, &mut out.pass, &mut out.output, snapshot) {
+    match out.acks.send(rt, &mut out.output, snapshot) {
         Ok(()) => Ok(last),
         Err(back) => {
             let Snapshot { takes, .. } = back;
@@ -99,34 +87,6 @@ pub fn acknowledge<G: Gate, R: Wait>(
 }
 
 impl<'a, 'p> StageOutput<'a, 'p> {
-    // Learns whether checkpoint k is the last. It waits until the image of the one before is stored.
-    fn knows_last<R: Wait>(&mut self, rt: &R, k: u64) -> Result<bool, WriterStopped>
-        requires number { 1 ≤ k }
-        requires pass { IsPassOf self.old.last_image.now self.old.last_pass }
-        ensures same { IsSameStage self.old self.new }
-        ensures kept { self.new.pass ≡ self.old.pass }
-        ensures pass { IsPassOf self.new.last_image.now self.new.last_pass }
-        ensures seen { StartsWith (seen self.new.last_pass) (seen self.old.last_pass) }
-        ensures known { IfOk result (λ last. KnowsLast self.new.every (seen self.new.last_pass) (k - 1) last) }
-        ensures still { (job : Job) (e a size : ℕ) (groups : List (List (List ℕ))) (records : List (List ℕ)) → HasSent job e a size self.old.output groups records →
-            HasSent job e a size self.new.output groups records }
-        ensures stopped { OnErr result (HasSeenFault self.new.output.writer) }
-    {
-        if self.every.is_none() {
-            return Ok(true);
-        }
-        if k == 1 {
-            return Ok(false);
-        }
-        wait_for_image(
-            rt,
-            self.last_image,
-            &mut self.last_pass,
-            &mut self.output,
-            k - 1,
-        )
-    }
-
     // The snapshot for checkpoint k, with the runs of what was taken since the one before. It takes no memory.
     fn snapshot(&self, alloc: Global, k: u64, takes: ListOf<TakeRun>) -> Snapshot
         requires { suc self.now.edge < 2 ^ 32 }

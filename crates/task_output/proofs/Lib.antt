@@ -3,3 +3,4 @@ pub mod OnChannel
 pub mod Sending
 pub mod Begun
 pub mod SeenLaws
+pub mod Acking

@@ -86,34 +86,34 @@ module _ (laws : Laws) (to : ℕ → List ℕ → ℕ) (b : ℕ) where
         some_of = subst (PutSome size own') (laid_more more) some
 
         -- it was stopped among these records, where only this may end the channel
-        begun_single : (may_end : Type 0) (buffers : List (List ℕ)) → own' ≡ own ++ map Put buffers → (is_finished own' ≡ true → may_end) → BegunOn to groups b size (records ++ more) may_end own'
-        begun_single may_end buffers is ended = record { more = (on.behind ++ joined buffers) ∷ []; cut = cut_then buffers is; few = omega arith; ended = λ over. (ended over, refl); some = some_of }
+        begun_single : (may_mark may_end : Type 0) (buffers : List (List ℕ)) → own' ≡ own ++ map Put buffers → (is_finished own' ≡ true → may_end) → BegunOn to groups b size (records ++ more) may_mark may_end own'
+        begun_single may_mark may_end buffers is ended = record { more = (on.behind ++ joined buffers) ∷ []; cut = cut_then buffers is; few = inl (omega arith); ended = λ over. (ended over, refl); some = some_of }
 
-        pub begun_then : is_finished own ≡ false → GrewByData own own' → BegunOn to groups b size (records ++ more) ⊥ own'
-        begun_then is_open (buffers, is) = begun_single ⊥ buffers is (λ over. true≢false (sym over ∙ ap is_finished is ∙ still_open own buffers is_open))
+        pub begun_then : (may_mark : Type 0) → is_finished own ≡ false → GrewByData own own' → BegunOn to groups b size (records ++ more) may_mark ⊥ own'
+        begun_then may_mark is_open (buffers, is) = begun_single may_mark ⊥ buffers is (λ over. true≢false (sym over ∙ ap is_finished is ∙ still_open own buffers is_open))
 
         up_to : (last : SendEntry) (buffers : List (List ℕ)) → own' ≡ own ++ map Put buffers ++ last ∷ [] → parcels_put own' ≡ parcels_put (own ++ map Put buffers) ++ parcels_put (last ∷ [])
         up_to last buffers is = ap parcels_put is ∙ parcels_up_to own buffers last
 
         -- or at a barrier behind them
-        pub begun_barrier : (k : ℕ) → is_finished own ≡ false → GrewTowards (PutInline k) own own' → BegunOn to groups b size (records ++ more) ⊥ own'
-        begun_barrier k is_open (inl grew) = begun_then is_open grew
+        pub begun_barrier : (k : ℕ) → is_finished own ≡ false → GrewTowards (PutInline k) own own' → BegunOn to groups b size (records ++ more) ⊤ ⊥ own'
+        begun_barrier k is_open (inl grew) = begun_then ⊤ is_open grew
         begun_barrier k is_open (inr (buffers, is)) = record {
           more = (on.behind ++ joined buffers) ∷ [] ∷ [];
           cut = ap stretches (up_to (PutInline k) buffers is) ∙ laws.barrier (parcels_put (own ++ map Put buffers)) k _ ∙ ap (λ l. l ++ [] ∷ []) (cut_more laws.grow own buffers (brought to 0 groups b) on.behind on.cut)
               ∙ append_assoc (brought to 0 groups b) ((on.behind ++ joined buffers) ∷ []) ([] ∷ []);
-          few = omega arith;
+          few = inr (tt, omega arith);
           ended = λ over. absurd (true≢false (sym over ∙ ap is_finished is ∙ open_at_barrier own buffers k is_open));
           some = some_of;
         }
 
         -- or at the end
-        pub begun_end : GrewTowards Finish own own' → BegunOn to groups b size (records ++ more) ⊤ own'
-        begun_end (inl grew) = begun_single ⊤ grew.0 grew.1 (λ over. tt)
+        pub begun_end : GrewTowards Finish own own' → BegunOn to groups b size (records ++ more) ⊥ ⊤ own'
+        begun_end (inl grew) = begun_single ⊥ ⊤ grew.0 grew.1 (λ over. tt)
         begun_end (inr (buffers, is)) = record {
           more = (on.behind ++ joined buffers) ∷ [];
           cut = ap stretches (up_to Finish buffers is) ∙ laws.over (parcels_put (own ++ map Put buffers)) ∙ cut_more laws.grow own buffers (brought to 0 groups b) on.behind on.cut;
-          few = omega arith;
+          few = inl (omega arith);
           ended = λ over. (tt, refl);
           some = some_of;
         }

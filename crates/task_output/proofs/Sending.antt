@@ -1,5 +1,5 @@
 -- What a task sent on all its channels, and how it grows.
-use Rattle.std.proofs.Common.{◌≡◌, ℕ, zero, suc, ◌+◌, ◌<◌, List, [], ◌∷◌, ◌++◌, length, take, drop, get_or, refl, sym, ap, subst, ◌∙◌, append_assoc, append-nil, arith}
+use Rattle.std.proofs.Common.{◌≡◌, ℕ, zero, suc, ◌+◌, ◌<◌, List, [], ◌∷◌, ◌++◌, length, take, drop, get_or, sym, ap, subst, ◌∙◌, append_assoc, append-nil, arith}
 use Rattle.std.specs.Prelude.{⊤}
 use Rattle.std.specs.List.{AllByRecursion}
 use Rattle.std.proofs.lemmas.List.{map-append, take_more, take-append-drop, length-append}
@@ -14,6 +14,7 @@ use Rattle.subpartition.specs.Sending.{barriers_put}
 use Rattle.record_writer.specs.Writers as writers
 use Rattle.record_writer.specs.Writers.{Writer, ways_on, receiver_at, laid_at, own_at, coming, IsSame, IsStill, IsOpen, IsNew, IsNextBarrier, HasEmitted, HasMarked, WasStopped, HasPutData, HasPutTowards, PutSome, PutAll, AreCut, last_put}
 use Rattle.task_output.specs.Outputs.{Output, WritesFor, HasSent, HasStopped, HasFinished, all_of, count_behind, filling_at, end_of, bytes_of}
+pub use Rattle.task_output.specs.Looking.{same_itself, same_twice}
 use Rattle.task_output.proofs.Entries.{barriers_same, barriers_one}
 use Rattle.task_output.proofs.OnChannel.{Laws, sent_then, begun_then, begun_barrier, begun_end, marked_then, finished_then}
 
@@ -26,23 +27,6 @@ writes_same job e a size w w' same for = record {
   index = same.index ∙ for.index;
   size_is = same.size ∙ for.size_is;
 }
-
-pub same_twice : (w v u : Writer) → IsSame w v → IsSame v u → IsSame w u
-same_twice w v u first second = record {
-  job = second.job ∙ first.job;
-  edge = second.edge ∙ first.edge;
-  index = second.index ∙ first.index;
-  cells = second.cells ∙ first.cells;
-  first = second.first ∙ first.first;
-  stride = second.stride ∙ first.stride;
-  size = second.size ∙ first.size;
-  pool = second.pool ∙ first.pool;
-  stop = second.stop ∙ first.stop;
-  stop_pass = (second.stop_pass.0 ∙ first.stop_pass.0, second.stop_pass.1 ∙ first.stop_pass.1);
-}
-
-pub same_itself : (w : Writer) → IsSame w w
-same_itself w = record { job = refl; edge = refl; index = refl; cells = refl; first = refl; stride = refl; size = refl; pool = refl; stop = refl; stop_pass = (refl, refl) }
 
 -- ---- what comes to a channel
 
@@ -97,14 +81,14 @@ module _ (laws : Laws) (job : Job) (e a size : ℕ) (old new : Output) (groups :
       (subst (PutSome old.writer.size (own_at new.writer c)) (with_coming more c) some)
 
   -- it was stopped among these
-  pub sent_until : (more : List (List ℕ)) → WasStopped old.writer new.writer more → HasPutData old.writer new.writer → new.emitted ≡ old.emitted → HasStopped job e a size new groups records more ⊥
+  pub sent_until : (more : List (List ℕ)) → WasStopped old.writer new.writer more → HasPutData old.writer new.writer → new.emitted ≡ old.emitted → HasStopped job e a size new groups records more ⊥ ⊥
   sent_until more stopped grew counts = record {
     fault = stopped.fault;
     begun_them = record {
       counted = counts ∙ was.counted;
       each = λ c inside.
           begun_then laws (receiver_on job e a) (end_of job e a c) groups records (own_at old.writer c) (filling_at old.writer c) (was.each c inside) (own_at new.writer c) size more
-          (some_at more c (stopped.each c (at_old c inside))) (was.is_open.each c (at_old c inside)).0 (grew c (at_old c inside));
+          (some_at more c (stopped.each c (at_old c inside))) ⊥ (was.is_open.each c (at_old c inside)).0 (grew c (at_old c inside));
     };
   }
 
@@ -128,7 +112,7 @@ module _ (laws : Laws) (job : Job) (e a size : ℕ) (old new : Output) (groups :
       all_more (g ∷ gs) rs = append_assoc g (all_of gs) rs ∙ ap (λ l. g ++ l) (all_more gs rs)
 
   -- it was stopped at the barrier
-  pub marked_until : (k : ℕ) → WasStopped old.writer new.writer [] → HasPutTowards (PutInline k) old.writer new.writer → new.emitted ≡ old.emitted → HasStopped job e a size new groups records [] ⊥
+  pub marked_until : (k : ℕ) → WasStopped old.writer new.writer [] → HasPutTowards (PutInline k) old.writer new.writer → new.emitted ≡ old.emitted → HasStopped job e a size new groups records [] ⊤ ⊥
   marked_until k stopped grew counts = record {
     fault = stopped.fault;
     begun_them = record {
@@ -149,7 +133,7 @@ module _ (laws : Laws) (job : Job) (e a size : ℕ) (old new : Output) (groups :
   }
 
   -- it was stopped at the end
-  pub whole_until : WasStopped old.writer new.writer [] → HasPutTowards Finish old.writer new.writer → new.emitted ≡ old.emitted → HasStopped job e a size new groups records [] ⊤
+  pub whole_until : WasStopped old.writer new.writer [] → HasPutTowards Finish old.writer new.writer → new.emitted ≡ old.emitted → HasStopped job e a size new groups records [] ⊥ ⊤
   whole_until stopped grew counts = record {
     fault = stopped.fault;
     begun_them = record {

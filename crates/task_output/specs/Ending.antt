@@ -7,6 +7,8 @@ use Rattle.flow_defs.specs.declared.cause.Cause.{Cause}
 use Rattle.flow_defs.specs.declared.cause.Cause.TheVariants as causes
 use Rattle.outside.specs.Stops.{told_of}
 use Rattle.conn_parts.specs.Stopping.{StopCell, StopPass}
+use Rattle.record_writer.specs.declared.partition.PartitionPasses.{PartitionPasses}
+use Rattle.record_writer.specs.Writers.{Writer, AreOwnAt, ways_on}
 
 -- It ends with its cause, or was stopped where it was done.
 abbrev pub EndsAs : Cause → Cause → Type 0
@@ -20,3 +22,9 @@ pub record ToldAtEnd (cell : StopCell) (cause told_cause : Cause) (before after 
   pub stopped : told_cause ≡ causes.Stopped → (cause ≡ causes.Stopped) ⊎ (seen after ≢ [])
   pub done : told_cause ≡ causes.Done → seen after ≡ []
   pub later : StartsWith (seen after) (seen before)
+
+-- These are the passes by which this writer wrote.
+pub record ArePassesBy (w : Writer) (passes : PartitionPasses) : Type 0 where
+  pub own : AreOwnAt w.cells w.first w.stride (ways_on w.job w.edge) passes.subpartitions.items
+  pub same : passes.subpartitions.items ≡ w.passes
+  pub pool : IsPassOf w.pool passes.pool

@@ -3,16 +3,16 @@ use Rattle.std.specs.Prelude.{ℕ, ⊤, List, [], ◌∷◌, ◌++◌}
 use Rattle.flow_defs.specs.declared.job.Job.{Job}
 use Rattle.task_output.specs.Outputs.{Output, HasSent, HasBegun, HasFinished}
 
--- A task that goes on has begun nothing more than it emitted, and ended no channel.
+-- A task that goes on has begun nothing more than it emitted, and put no further barrier and no end.
 abbrev pub SentIsBegun : Type 0
-SentIsBegun = (job : Job) (e a size : ℕ) (out : Output) (groups : List (List (List ℕ))) (records : List (List ℕ)) → HasSent job e a size out groups records → HasBegun job e a size out groups records [] ⊥
+SentIsBegun = (job : Job) (e a size : ℕ) (out : Output) (groups : List (List (List ℕ))) (records : List (List ℕ)) → HasSent job e a size out groups records → HasBegun job e a size out groups records [] ⊥ ⊥
 
 -- And so has one that has ended its channels.
 abbrev pub FinishedIsBegun : Type 0
-FinishedIsBegun = (job : Job) (e a size : ℕ) (out : Output) (groups : List (List (List ℕ))) (records : List (List ℕ)) → HasFinished job e a size out groups records → HasBegun job e a size out groups records [] ⊤
+FinishedIsBegun = (job : Job) (e a size : ℕ) (out : Output) (groups : List (List (List ℕ))) (records : List (List ℕ)) → HasFinished job e a size out groups records → HasBegun job e a size out groups records [] ⊥ ⊤
 
--- Where nothing was emitted behind the last barrier, that may be left aside.
+-- Where nothing was emitted behind the last barrier, that barrier may be left aside.
 abbrev pub BarrierIsLeftAside : Type 0
 BarrierIsLeftAside =
     (job : Job) (e a size : ℕ) (out : Output) (groups : List (List (List ℕ))) (group : List (List ℕ)) →
-    HasSent job e a size out (groups ++ group ∷ []) [] → HasBegun job e a size out groups group [] ⊥
+    HasSent job e a size out (groups ++ group ∷ []) [] → HasBegun job e a size out groups group [] ⊤ ⊥

@@ -1,7 +1,7 @@
 -- What a task sends on its channels: records, and the barriers between them. As in Flink an aligned barrier travels in line behind the
 -- records that were emitted before it. That what a task emitted is told by what it emitted from each barrier to the next is this project's
 -- own choice.
-use Rattle.std.specs.Prelude.{◌≡◌, ◌≢◌, ℕ, suc, ◌<◌, ◌≤◌, true, List, [], ◌∷◌, ◌++◌, length, flat_map, map, slice_get}
+use Rattle.std.specs.Prelude.{◌≡◌, ◌≢◌, ℕ, suc, ◌<◌, ◌≤◌, ◌⊎◌, true, List, [], ◌∷◌, ◌++◌, length, flat_map, map, slice_get}
 use Rattle.std.specs.Option.{option_map_or}
 use Rattle.turn_cell.specs.Passes.{seen}
 use Rattle.flow_defs.specs.Items.{Items}
@@ -40,12 +40,12 @@ module _ (to : ℕ → List ℕ → ℕ) (groups : List (List (List ℕ))) (b : 
     pub cut : stretches (parcels_put own) ≡ brought to 0 groups b ++ behind ∷ []
     pub laid : behind ++ filling ≡ all_encoded (emit to (count_behind groups) records b)
 
-  -- The groups were put, each before its barrier, and of these records some. At most one further barrier was put, and the end only where
-  -- that may be, with no further barrier before it.
-  pub record BegunOn (size : ℕ) (records : List (List ℕ)) (may_end : Type 0) (own : List SendEntry) : Type 0 where
+  -- The groups were put, each before its barrier, and of these records some. A further barrier was put only where that may be, and not
+  -- two; and the end only where that may be, with no further barrier before it.
+  pub record BegunOn (size : ℕ) (records : List (List ℕ)) (may_mark may_end : Type 0) (own : List SendEntry) : Type 0 where
     pub more : List (List ℕ)
     pub cut : stretches (parcels_put own) ≡ brought to 0 groups b ++ more
-    pub few : length more ≤ 2
+    pub few : (length more ≤ 1) ⊎ (may_mark × (length more ≤ 2))
     pub ended : is_finished own ≡ true → may_end × (length more ≡ 1)
     pub some : PutSome size own (all_encoded (emit to 0 (all_of groups ++ records) b))
 
@@ -97,15 +97,16 @@ pub record HasSent (job : Job) (e a size : ℕ) (out : Output) (groups : List (L
   pub agrees : out.writer.emitted ≡ out.emitted
   pub each : (c : ℕ) → c < ways_on job e → SentOn (receiver_on job e a) groups (end_of job e a c) records (own_at out.writer c) (filling_at out.writer c)
 
--- It has emitted these records behind the barriers, and had begun to emit those. Its channels may have ended only where that may be.
-pub record HasBegun (job : Job) (e a size : ℕ) (out : Output) (groups : List (List (List ℕ))) (records begun : List (List ℕ)) (may_end : Type 0) : Type 0 where
+-- It has emitted these records behind the barriers, and had begun to emit those. It may have put a further barrier only where that may be,
+-- and its channels may have ended only where that may be.
+pub record HasBegun (job : Job) (e a size : ℕ) (out : Output) (groups : List (List (List ℕ))) (records begun : List (List ℕ)) (may_mark may_end : Type 0) : Type 0 where
   pub counted : out.emitted ≡ count_after (count_behind groups) records
-  pub each : (c : ℕ) → c < ways_on job e → BegunOn (receiver_on job e a) groups (end_of job e a c) size (records ++ begun) may_end (own_at out.writer c)
+  pub each : (c : ℕ) → c < ways_on job e → BegunOn (receiver_on job e a) groups (end_of job e a c) size (records ++ begun) may_mark may_end (own_at out.writer c)
 
 -- It was stopped among them.
-pub record HasStopped (job : Job) (e a size : ℕ) (out : Output) (groups : List (List (List ℕ))) (records begun : List (List ℕ)) (may_end : Type 0) : Type 0 where
+pub record HasStopped (job : Job) (e a size : ℕ) (out : Output) (groups : List (List (List ℕ))) (records begun : List (List ℕ)) (may_mark may_end : Type 0) : Type 0 where
   pub fault : seen out.writer.stop_pass ≢ []
-  pub begun_them : HasBegun job e a size out groups records begun may_end
+  pub begun_them : HasBegun job e a size out groups records begun may_mark may_end
 
 -- It has ended its channels.
 pub record HasFinished (job : Job) (e a size : ℕ) (out : Output) (groups : List (List (List ℕ))) (records : List (List ℕ)) : Type 0 where
@@ -118,7 +119,7 @@ pub record StoppedAmong (job : Job) (e a size : ℕ) (out : Output) (groups : Li
   pub begun : List (List ℕ)
   pub rest : List (List ℕ)
   pub parts : further ≡ done ++ (begun ++ rest)
-  pub stopped : HasStopped job e a size out groups (records ++ done) begun ⊥
+  pub stopped : HasStopped job e a size out groups (records ++ done) begun ⊥ ⊥
 
 -- The bytes of each of these.
 abbrev pub bytes_of : List (Items ℕ) → List (List ℕ)

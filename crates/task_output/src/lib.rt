@@ -9,10 +9,12 @@
 mod acks;
 mod ending;
 pub mod laws;
+mod looking;
 mod output;
-mod waiting;
+mod world;
 
-pub use acks::send_snapshot;
-pub use ending::end_task;
+pub use acks::Acks;
+pub use ending::{end_sender, end_task};
+pub use looking::{LooksForStop, StopLook, TaskStopped};
 pub use output::TaskOutput;
-pub use waiting::wait_for_image;
+pub use world::{TaskEnd, World, WorldPasses};

@@ -6,8 +6,10 @@ ghost use Rattle.turn_cell.specs.Passes.{IsPassOf};
 ghost use Rattle.flow_defs.specs.declared.job.Job.{Job};
 ghost use Rattle.flow_defs.specs.Records.{IsShort};
 ghost use Rattle.record_writer.specs.Writers.{AreOwnAt, IsNew, IsOpen, IsNextBarrier, IsSame, HasSeenFault, ways_on};
+ghost use Rattle.task_output.specs.Looking.{HasSentNoMore};
 ghost use Rattle.task_output.specs.Outputs.{WritesFor, HasSent, HasStopped, HasFinished, StoppedAmong, bytes_of};
 
+use crate::TaskStopped;
 use checkpoint_laws::laws::stretches_grow;
 use flow_defs::Bytes;
 use outside::StopState;
@@ -52,7 +54,7 @@ impl<'a, 'p> TaskOutput<'a, 'p> {
         ensures same { IsSame self.old.writer self.new.writer }
         ensures is_open { OnOk result (IsOpen self.new.writer) }
         ensures emitted { (job : Job) (e a size : ℕ) (groups : List (List (List ℕ))) (records : List (List ℕ)) → HasSent job e a size self.old groups records →
-            MatchResult result (λ _. HasSent job e a size self.new groups (records ++ line.now ∷ [])) (λ _. HasStopped job e a size self.new groups records (line.now ∷ []) ⊥) }
+            MatchResult result (λ _. HasSent job e a size self.new groups (records ++ line.now ∷ [])) (λ _. HasStopped job e a size self.new groups records (line.now ∷ []) ⊥ ⊥) }
     {
         stretches_grow();
         emits_in_parts();
@@ -91,7 +93,7 @@ impl<'a, 'p> TaskOutput<'a, 'p> {
         ensures same { IsSame self.old.writer self.new.writer }
         ensures is_open { OnOk result (IsOpen self.new.writer) }
         ensures marked { (job : Job) (e a size : ℕ) (groups : List (List (List ℕ))) (records : List (List ℕ)) → HasSent job e a size self.old groups records →
-            MatchResult result (λ _. HasSent job e a size self.new (groups ++ records ∷ []) []) (λ _. HasStopped job e a size self.new groups records [] ⊥) }
+            MatchResult result (λ _. HasSent job e a size self.new (groups ++ records ∷ []) []) (λ _. HasStopped job e a size self.new groups records [] ⊤ ⊥) }
     {
         stretches_grow();
         emits_in_parts();
@@ -107,7 +109,7 @@ impl<'a, 'p> TaskOutput<'a, 'p> {
         requires { IsOpen self.old.writer }
         ensures same { IsSame self.old.writer self.new.writer }
         ensures finished { (job : Job) (e a size : ℕ) (groups : List (List (List ℕ))) (records : List (List ℕ)) → HasSent job e a size self.old groups records →
-            MatchResult result (λ _. HasFinished job e a size self.new groups records) (λ _. HasStopped job e a size self.new groups records [] ⊤) }
+            MatchResult result (λ _. HasFinished job e a size self.new groups records) (λ _. HasStopped job e a size self.new groups records [] ⊥ ⊤) }
     {
         stretches_grow();
         emits_in_parts();
@@ -118,14 +120,15 @@ impl<'a, 'p> TaskOutput<'a, 'p> {
         Ok(())
     }
 
-    /// Looks whether another worker has met a fault, as a task does that waits for something else.
-    pub fn look_for_stop<R: Wait>(&mut self, rt: &R) -> Result<(), WriterStopped>
-        ensures same { IsSame self.old.writer self.new.writer }
-        ensures still { (job : Job) (e a size : ℕ) (groups : List (List (List ℕ))) (records : List (List ℕ)) → HasSent job e a size self.old groups records →
-            HasSent job e a size self.new groups records }
+    // Looks whether another worker has met a fault, as a task does that waits for something else.
+    pub(crate) fn look_at_stop<R: Wait>(&mut self, rt: &R) -> Result<(), TaskStopped>
+        ensures still { HasSentNoMore self.old self.new }
         ensures stopped { OnErr result (HasSeenFault self.new.writer) }
     {
-        self.writer.look_for_stop(rt)
+        match self.writer.look_for_stop(rt) {
+            Ok(()) => Ok(()),
+            Err(_) => Err(TaskStopped),
+        }
     }
 
     /// How many records were emitted, modulo 2^64.

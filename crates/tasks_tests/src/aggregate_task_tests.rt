@@ -1,18 +1,18 @@
 // A task of the aggregate over a gate of the tests.
-ghost use Rattle.std.specs.Prelude.{◌≡◌, ◌≤◌, false, [], IfOk, IfSome};
+ghost use Rattle.std.specs.Prelude.{◌≡◌, ◌≤◌, false, [], suc, IfOk, IfSome};
 ghost use Rattle.flow_defs.specs.declared.job.AggKind.TheVariants.{Count};
-ghost use Rattle.flow_defs.specs.Jobs.{IsJob, tasks};
+ghost use Rattle.flow_defs.specs.Jobs.{IsJob, last_edge, tasks};
 ghost use Rattle.checkpoint_laws.specs.Chapters.{task_at};
 ghost use Rattle.stage_fns.specs.Functions.{HasAgg};
 ghost use Rattle.stage_fns.specs.Kinds.{kinds};
 ghost use Rattle.snapshot_channel.specs.Passes.{IsCollecting, IsFresh, opening, opening_of, task_of};
-ghost use Rattle.aggregate_task.specs.Aggregates.{IsLent};
+ghost use Rattle.task_output.specs.Acking.{IsLent};
 
 use crate::lent::shared_last;
 use crate::list_gate::Piece::{Stop, Text};
 use crate::list_gate::{ListGate, Piece, gate_of};
 use crate::two_sources::counting_job;
-use aggregate_task::{AggregateTaskEnd, AggregateWorld, run_aggregate};
+use aggregate_task::run_aggregate;
 use fixtures::open_stop;
 use flow_defs::{AggKind, Cause, Job, ListOf, PeerFault, Snapshot, TakeRun, TaskId};
 use outside::{Stored, look_for_stop, tell_cause};
@@ -22,6 +22,7 @@ use std::alloc::{AllocError, Global};
 use std::process::Abort;
 use std::sync::Wait;
 use std::test::Fail;
+use task_output::{Acks, TaskEnd, World};
 
 // A channel of snapshots, and the passes of the collecting worker and of the task.
 #[derive(Drop)]
@@ -34,7 +35,7 @@ struct Ends {
 fn open_ends(alloc: Global, job: &Job, every: Option<u64>) -> Result<Ends, Fail>
     requires is_job { IsJob job.now }
     requires counting { (job.now.stages.items ≡ []) × (tasks job.now 0 ≡ 2) × (tasks job.now 1 ≡ 1) }
-    ensures opening { IfOk result (λ ends. opening_of ends.channel ≡ opening job.now 0 every) }
+    ensures opening { IfOk result (λ ends. (opening_of ends.channel ≡ opening job.now 0 every) × ((opening_of ends.channel).base ≡ 0)) }
     ensures collecting { IfOk result (λ ends. IsCollecting ends.channel ends.collecting) }
     ensures task { IfOk result (λ ends. IsFresh ends.channel ends.of_count × (task_of ends.of_count ≡ task_at 1 0)) }
 {
@@ -96,23 +97,20 @@ struct Ran {
 fn task<'a, R: Wait>(
     rt: &R,
     alloc: Global,
+    job: &'a Job,
+    functions: &FnTable,
     gate: ListGate,
     every: Option<u64>,
-    world: AggregateWorld<'a>,
+    world: World<'a, ()>,
 ) -> (Cause, ListOf<TakeRun>)
     requires gate { (gate.given.items ≡ []) × (gate.first ≡ 0) × (gate.second ≡ 0) × (gate.over ≡ false) }
-    requires job { IsJob world.job.now × (world.job.now.stages.items ≡ []) × (world.job.now.agg ≡ Count) × (tasks world.job.now 0 ≡ 2) × (tasks world.job.now 1 ≡ 1) }
-    requires functions { HasAgg (kinds world.functions.now) Count }
-    requires lent { IsLent 0 every world }
+    requires job { IsJob job.now × (job.now.stages.items ≡ []) × (job.now.agg ≡ Count) × (tasks job.now 0 ≡ 2) × (tasks job.now 1 ≡ 1) }
+    requires functions { HasAgg (kinds functions.now) Count }
+    requires lent { IsLent job.now (suc (last_edge job.now)) 0 every world }
 {
-    let AggregateTaskEnd {
-        gate: _,
-        snapshot_pass: _,
-        last_pass: _,
-        stop_pass: _,
-        takes,
-        cause,
-    } = run_aggregate(rt, alloc, gate, 0, every, world);
+    let TaskEnd { takes, cause, .. } = run_aggregate(
+        rt, alloc, job, functions, gate, 0, every, world,
+    );
     (cause, takes)
 }
 
@@ -134,17 +132,20 @@ fn run<R: Wait + Abort>(rt: &R, alloc: Global, case: Case<'_>) -> Result<Ran, Fa
     }
     let (last_image, last_pass) = shared_last(rt, alloc, case.stored)?;
     let gate = gate_of(alloc, case.pieces)?;
-    let world = AggregateWorld {
-        job: &job,
-        functions: &functions,
+    let acks = Acks {
         snapshots: &channel,
-        snapshot_pass: of_count,
+        pass: of_count,
         last_image: &last_image,
         last_pass,
+        number: 0,
+    };
+    let world = World {
+        partition: (),
+        acks,
         stop: &stop,
         stop_pass,
     };
-    let (cause, takes) = task(rt, alloc, gate, case.every, world);
+    let (cause, takes) = task(rt, alloc, &job, &functions, gate, case.every, world);
     let told = look_for_stop(rt, &stop, &mut other);
     let snapshots = received(rt, alloc, &channel, collecting)?;
     Ok(Ran {

@@ -7,8 +7,9 @@ ghost use Rattle.checkpoint_laws.specs.Chapters.{task_at};
 ghost use Rattle.segment_pool.specs.Passes.{out};
 ghost use Rattle.segment_pool.specs.Pools as pools;
 ghost use Rattle.segment_pool.specs.Pools.{limits_of, size_of};
-ghost use Rattle.snapshot_channel.specs.Passes.{IsCollecting, IsFresh, opening_of, task_of};
-ghost use Rattle.source_task.specs.Sources.{IsLent};
+ghost use Rattle.snapshot_channel.specs.Passes.{IsCollecting, IsFresh, opening, opening_of, task_of};
+ghost use Rattle.record_writer.specs.Partitions.{IsPartitionOf};
+ghost use Rattle.task_output.specs.Acking.{IsLent};
 
 use crate::lent::shared_last;
 use fixtures::{
@@ -19,12 +20,13 @@ use outside::{MemorySource, Stored};
 use record_writer::{Partition, PartitionPasses};
 use segment_pool::{Pool, PoolPass};
 use snapshot_channel::{CollectingPass, Opened, SnapshotChannel, TaskPass};
-use source_task::{SourceWorld, run_source};
+use source_task::run_source;
 use std::alloc::Global;
 use std::process::Abort;
 use std::sync::Wait;
 use std::test::Fail;
 use subpartition::{Item, Subpartition};
+use task_output::{Acks, World};
 use turn_cell::{Pass, TurnCell};
 
 // A channel of snapshots, and the passes of the collecting worker and the source.
@@ -38,7 +40,7 @@ struct Ends {
 fn open_ends(alloc: Global, job: &Job, every: Option<u64>) -> Result<Ends, Fail>
     requires is_job { IsJob job.now }
     requires counting { (job.now.stages.items ≡ []) × (length job.now.sources.items ≡ 1) × (job.now.agg_tasks ≡ 1) }
-    ensures opening { IfOk result (λ ends. ((opening_of ends.channel).base ≡ 0) × ((opening_of ends.channel).every ≡ every)) }
+    ensures opening { IfOk result (λ ends. opening_of ends.channel ≡ opening job.now 0 every) }
     ensures collecting { IfOk result (λ ends. IsCollecting ends.channel ends.collecting) }
     ensures source { IfOk result (λ ends. IsFresh ends.channel ends.of_source × (task_of ends.of_source ≡ task_at 0 0)) }
 {
@@ -125,14 +127,16 @@ fn has_told<R: Wait + Abort>(
 fn source<'a, 'p, R: Wait>(
     rt: &R,
     alloc: Global,
+    job: &'a Job,
     input: MemorySource,
     every: Option<u64>,
-    world: SourceWorld<'a, 'p>,
+    world: World<'a, Partition<'a, 'p>>,
 ) -> Cause
-    requires { IsLent 0 every world }
+    requires partition { IsPartitionOf job.now 0 0 world.partition }
+    requires lent { IsLent job.now 0 0 every world }
 {
     let mut input = input;
-    run_source(rt, alloc, &mut input, 0, every, world).cause
+    run_source(rt, alloc, job, &mut input, 0, every, world).cause
 }
 
 // Runs a source, sees what it has sent, and answers why it ended.
@@ -172,17 +176,20 @@ fn source_sends<R: Wait + Abort>(
         },
     };
     let input = MemorySource::new(Bytes::of(alloc, case.input)?, 3, ListOf::new(alloc));
-    let world = SourceWorld {
-        job: &job,
-        partition,
+    let acks = Acks {
         snapshots: &channel,
-        snapshot_pass: of_source,
+        pass: of_source,
         last_image: &last_image,
         last_pass,
+        number: 0,
+    };
+    let world = World {
+        partition,
+        acks,
         stop: &stop,
         stop_pass,
     };
-    let cause = source(rt, alloc, input, case.every, world);
+    let cause = source(rt, alloc, &job, input, case.every, world);
     has_sent(rt, &cells[0], sender, case.buffer, case.barriers);
     has_told(rt, &channel, collecting, case.barriers, lines);
     Ok(cause)

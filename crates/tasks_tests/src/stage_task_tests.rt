@@ -1,6 +1,6 @@
 // The task of a stage behind two sources, over a partition of one channel and a small pool, with one thread.
 ghost use Rattle.std.specs.Prelude.{◌≡◌, ◌≤◌, [], IfOk, IfSome};
-ghost use Rattle.turn_cell.specs.Passes.{IsPassOf, mine, number};
+ghost use Rattle.turn_cell.specs.Passes.{IsPassOf, number};
 ghost use Rattle.flow_defs.specs.declared.job.AggKind.TheVariants.{Count};
 ghost use Rattle.flow_defs.specs.declared.job.Exchange.TheVariants.{Hash};
 ghost use Rattle.flow_defs.specs.declared.job.StageKind.TheVariants.{Upper};
@@ -13,8 +13,10 @@ ghost use Rattle.segment_pool.specs.Passes.{out};
 ghost use Rattle.segment_pool.specs.Pools as pools;
 ghost use Rattle.segment_pool.specs.Pools.{limits_of, size_of};
 ghost use Rattle.snapshot_channel.specs.Passes.{IsCollecting, IsFresh, opening, opening_of, task_of};
+ghost use Rattle.record_writer.specs.Partitions.{IsPartitionOf};
+ghost use Rattle.task_output.specs.Acking.{IsLent};
 ghost use Rattle.task_taking.specs.Samples.{account_of};
-ghost use Rattle.stage_task.specs.Stages.{IsStageTask, IsLent};
+ghost use Rattle.stage_task.specs.Stages.{IsStageTask};
 
 use crate::lent::shared_last;
 use crate::list_gate::{ListGate, Piece, gate_of};
@@ -28,12 +30,13 @@ use record_writer::{Partition, PartitionPasses};
 use segment_pool::{Pool, PoolPass};
 use snapshot_channel::{CollectingPass, Opened, SnapshotChannel, TaskPass};
 use stage_fns::{AggFn, FnTable, StageFn, count, upper};
-use stage_task::{StageTaskEnd, StageWorld, run_stage};
+use stage_task::run_stage;
 use std::alloc::{AllocError, Global};
 use std::process::Abort;
 use std::sync::Wait;
 use std::test::Fail;
 use subpartition::{Item, Subpartition};
+use task_output::{Acks, TaskEnd, World};
 use turn_cell::{Pass, TurnCell};
 
 // A job of two sources, a stage of one task that raises letters, and one task of the aggregate.
@@ -170,25 +173,20 @@ fn has_told<R: Wait + Abort>(
 fn stage<'a, 'p, R: Wait>(
     rt: &R,
     alloc: Global,
+    job: &'a Job,
+    functions: &FnTable,
     gate: ListGate,
     every: Option<u64>,
-    world: StageWorld<'a, 'p>,
+    world: World<'a, Partition<'a, 'p>>,
 ) -> (Cause, usize)
-    requires task { IsStageTask world.job.now 0 0 (account_of gate.given.items gate.first gate.second gate.over) }
-    requires functions { CanRun (kinds world.functions.now) world.job.now }
-    requires lent { IsLent world.job.now 0 0 every world.partition world.snapshots.now world.snapshot_pass }
-    requires last_image { IsPassOf world.last_image.now world.last_pass }
-    requires stop { IsPassOf world.stop.now world.stop_pass × (mine world.stop_pass ≡ []) }
+    requires task { IsStageTask job.now 0 0 (account_of gate.given.items gate.first gate.second gate.over) }
+    requires functions { CanRun (kinds functions.now) job.now }
+    requires partition { IsPartitionOf job.now 1 0 world.partition }
+    requires lent { IsLent job.now 1 0 every world }
 {
-    let StageTaskEnd {
-        gate: _,
-        partition: _,
-        snapshot_pass: _,
-        last_pass: _,
-        stop_pass: _,
-        takes,
-        cause,
-    } = run_stage(rt, alloc, gate, 0, 0, every, world);
+    let TaskEnd { takes, cause, .. } = run_stage(
+        rt, alloc, job, functions, gate, 0, 0, every, world,
+    );
     (cause, takes.as_slice().len())
 }
 
@@ -241,18 +239,20 @@ fn stage_sends<R: Wait + Abort>(
             pool: lender,
         },
     };
-    let world = StageWorld {
-        job: &job,
-        functions: &functions,
-        partition,
+    let acks = Acks {
         snapshots: &channel,
-        snapshot_pass: of_stage,
+        pass: of_stage,
         last_image: &last_image,
         last_pass,
+        number: 0,
+    };
+    let world = World {
+        partition,
+        acks,
         stop: &stop,
         stop_pass,
     };
-    let end = stage(rt, alloc, gate, case.every, world);
+    let end = stage(rt, alloc, &job, &functions, gate, case.every, world);
     has_sent(rt, &cells[0], sender, case);
     has_told(rt, &channel, collecting, case.barriers);
     Ok(end)

@@ -1,23 +1,39 @@
-use Rattle.turn_cell.specs.Passes.{seen}
+use Rattle.std.proofs.Common.{◌≡◌, ◌≢◌, ◌⊎◌, [], length, ap, sym, subst, ◌∙◌}
+use Rattle.turn_cell.specs.Passes.{IsPassOf, IsSamePass, seen}
+use Rattle.flow_defs.specs.Items.{Items}
+use Rattle.flow_defs.specs.declared.cause.Cause.TheVariants as causes
+use Rattle.flow_defs.specs.declared.image.TakeRun.{TakeRun}
+use Rattle.conn_parts.specs.Stopping.{StopCell, StopPass}
 use Rattle.snapshot_channel.specs.Passes.{sent_by}
-use Rattle.aggregate_task.specs.declared.acks.Acks.{Acks}
-use Rattle.aggregate_task.specs.Aggregates.{AggregateAccount}
-use Rattle.aggregate_task.proofs.Acknowledging.{moved_back}
-use Rattle.aggregate_task.proofs.Endings.{account_ended, told_stop}
+use Rattle.task_output.specs.Ending.{ToldAtEnd}
+use Rattle.aggregate_task.specs.declared.checkpoint.AggregateOutput.{AggregateOutput}
+use Rattle.aggregate_task.proofs.Endings.{account_ended, account_of_same, counts_sent, told_stop}
 use Rattle.aggregate_task.proofs.aggregate.run_aggregate.Goals as goal
+
+pub end_task-requires : goal.end_task-requires
+end_task-requires g c =
+    subst (λ (cell : StopCell). IsPassOf cell c.into_pass-stop_pass.result) (c.take_all-cause.ensures.own.1.stop.cell_is ∙ c.new-look.ensures.0) c.into_pass-stop_pass.ensures.1
+
+pub returns-clause-acks : goal.returns-clause-acks
+returns-clause-acks g c = c.end_task.ensures.acks ∙ counts_sent c.take_all-cause.new.out c.take_all-cause.ensures.own.0 ∙ ap (λ p. length (sent_by p)) (sym c.end_task.ensures.passes.0)
 
 pub returns-clause-account : goal.returns-clause-account
 returns-clause-account g c =
-    let world = c.args.world in
-    let acks : Acks = record { job = world.job; index = c.args.index; every = c.args.every; snapshots = world.snapshots; pass = world.snapshot_pass; last_image = world.last_image; last_pass = world.last_pass; stop = world.stop; stop_pass = world.stop_pass } in
-    let acks' = c.take_all-cause.new.acks in
-    let gate = g.G.Gate.account c.take_all-cause.new.gate in
-    let end = c.take_all-cause.result in
-    account_ended world.job.now c.args.index c.args.every gate (sent_by acks'.pass) (seen acks'.last_pass) end.takes.items end.cause c.end_task-cause.result c.end_task-cause.ensures.cause
-    (moved_back acks acks' c.take_all-cause.ensures.own.1 (λ j b e. AggregateAccount j b e gate (sent_by acks'.pass) (seen acks'.last_pass) end.takes.items end.cause) c.take_all-cause.ensures.account)
+    let out : AggregateOutput = record { job = c.args.job; index = c.args.index; every = c.args.every; acks = c.args.world.acks; stop = c.new-look.result } in
+    let out' = c.take_all-cause.new.out in
+    let end = c.end_task.result in
+    let gate = g.G.Gate.account end.gate in
+    account_ended c.args.job.now c.args.index c.args.every gate (sent_by end.passes.snapshots) (seen end.passes.last_image) end.takes.items c.take_all-cause.result.cause end.cause c.end_task.ensures.cause
+    (account_of_same out out' (g.G.Gate.account c.take_all-cause.new.gate) gate (sent_by end.passes.snapshots) (seen end.passes.last_image) end.takes.items c.take_all-cause.result c.take_all-cause.ensures.own.1
+    (ap g.G.Gate.account c.end_task.ensures.gate) (ap sent_by c.end_task.ensures.passes.0) (ap seen c.end_task.ensures.passes.1) (ap (λ (l : Items TakeRun). l.items) c.end_task.ensures.takes) c.take_all-cause.ensures.account)
 
 pub returns-clause-stop : goal.returns-clause-stop
 returns-clause-stop g c =
     let world = c.args.world in
-    let acks' = c.take_all-cause.new.acks in
-    told_stop world.stop.now (g.G.Gate.saw_stop c.take_all-cause.new.gate) c.take_all-cause.result.cause c.end_task-cause.result world.stop_pass acks'.stop_pass c.end_task-cause.new.pass c.take_all-cause.ensures.own.1.stop_pass c.take_all-cause.ensures.stopped c.end_task-cause.ensures.told
+    let cause = c.take_all-cause.result.cause in
+    let pass = c.take_all-cause.new.out.stop.pass in
+    let end = c.end_task.result in
+    told_stop world.stop.now (g.G.Gate.saw_stop end.gate) cause end.cause world.stop_pass pass end.passes.stop
+    (subst (λ (p : StopPass). IsSamePass p pass) c.new-look.ensures.1 c.take_all-cause.ensures.own.1.stop.pass_is)
+    (subst (λ x. cause ≡ causes.Stopped → g.G.Gate.saw_stop x ⊎ (seen pass ≢ [])) (sym c.end_task.ensures.gate) c.take_all-cause.ensures.stopped)
+    (subst (λ (p : StopPass). ToldAtEnd world.stop.now cause end.cause p end.passes.stop) c.into_pass-stop_pass.ensures.0 c.end_task.ensures.told)

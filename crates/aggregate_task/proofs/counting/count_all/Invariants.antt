@@ -6,7 +6,7 @@ use Rattle.aggregate_task.proofs.counting.count_all.Given as goal
 abbrev pub invariant-loop-item : goal.invariant-loop-item
 invariant-loop-item g l = record {
   gate : (g.G.Gate.ends l.gate ≡ g.G.Gate.ends l.initial.gate) × ((g.G.Gate.account l.gate).channels ≡ (g.G.Gate.account l.initial.gate).channels);
-  own : IsAcking l.acks;
-  same : IsSame l.initial.acks l.acks;
-  way : IsCountUnderWay (g.G.Gate.account l.gate) l.taking l.counts l.acks l.last;
+  own : IsAcking l.out;
+  same : IsSame l.initial.out l.out;
+  way : IsCountUnderWay (g.G.Gate.account l.gate) l.taking l.counts l.out l.last;
 }

@@ -20,30 +20,30 @@ returns-clause-takers c = (
   c.next.ensures.fewer,
 )
 
-pub lend-lent-requires-clause-snapshot_passes : goal.lend-lent-requires-clause-snapshot_passes
-lend-lent-requires-clause-snapshot_passes c =
+pub lend-world-requires-clause-snapshot_passes : goal.lend-world-requires-clause-snapshot_passes
+lend-world-requires-clause-snapshot_passes c =
     let job = c.args.job.now in let n = length c.args.takers.now.own.items in let taken = c.next.ensures in
     (some_left job (suc (last_edge job)) n c.next.new.shared c.requires.takers.1 (tasks_kept job _ c.args.shared.now c.next.new.shared taken.stops.stayed taken.theirs c.requires.theirs)).0
 
-pub lend-lent-requires-clause-last_passes : goal.lend-lent-requires-clause-last_passes
-lend-lent-requires-clause-last_passes c =
+pub lend-world-requires-clause-last_passes : goal.lend-world-requires-clause-last_passes
+lend-world-requires-clause-last_passes c =
     let job = c.args.job.now in let n = length c.args.takers.now.own.items in let taken = c.next.ensures in
     (some_left job (suc (last_edge job)) n c.next.new.shared c.requires.takers.1 (tasks_kept job _ c.args.shared.now c.next.new.shared taken.stops.stayed taken.theirs c.requires.theirs)).1
 
 pub returns-clause-stops : goal.returns-clause-stops
-returns-clause-stops c = fewer_more 1 1 2 c.args.shared.now c.next.new.shared c.lend-lent.new.self refl c.next.ensures.stops c.lend-lent.ensures.stops
+returns-clause-stops c = fewer_more 1 1 2 c.args.shared.now c.next.new.shared c.lend-world.new.self refl c.next.ensures.stops c.lend-world.ensures.stops
 
 pub returns-clause-theirs : goal.returns-clause-theirs
 returns-clause-theirs c =
     let job = c.args.job.now in let i = suc (last_edge job) in let b = length c.next.new.self.own.items in let taken = c.next.ensures in let between = c.next.new.shared in
     let has = tasks_kept job _ c.args.shared.now between taken.stops.stayed taken.theirs c.requires.theirs in
-    first_left job i b between c.lend-lent.new.self c.lend-lent.result c.lend-lent.ensures.stops.stayed c.lend-lent.ensures.taken
+    first_left job i b between c.lend-world.new.self c.lend-world.result c.lend-world.ensures.stops.stayed c.lend-world.ensures.taken
     (subst (λ n. HasFirst job i n between) taken.fewer has)
 
 pub returns-clause-task : goal.returns-clause-task
 returns-clause-task c =
     let job = c.args.job.now in let edges = c.args.edges.now in let size = c.args.size in let b = length c.next.new.self.own.items in
-    let lent = c.lend-lent.result in let taken = c.next.ensures in
+    let world = c.lend-world.result in let told = c.lend-world.new.self.every in let taken = c.next.ensures in
     let first = c.args.shared.now in let between = c.next.new.shared in let every = first.every in let snapshots = first.snapshots.now in
     let has = tasks_kept job _ first between taken.stops.stayed taken.theirs c.requires.theirs in
     let last : length c.as_slice-last.result.now ≡ last_edge job = ap length c.as_slice-last.ensures in
@@ -51,8 +51,8 @@ returns-clause-task c =
     (let m = c.requires.takers.0.are.many in let f = c.next.ensures.fewer in omega (arith, m, f))
     (gate_at job edges (last_edge job) (length c.as_slice-last.result.now) c.item_at-edge.result.now last c.item_at-edge.ensures size every snapshots b _ c.in_ok-gate.ensures.cells)
     (subst (λ e. IsGateBehind job e c.in_ok-gate.gate) last c.in_ok-gate.ensures.gate)
-    (as_before (λ every snapshots. IsLentOf job size every snapshots edges lent) first between taken.stops.stayed (record { every_is = c.lend-lent.ensures.taken.every_is; channel = c.lend-lent.ensures.taken.channel }))
-    (may_checkpoint job (suc (last_edge job)) b between c.lend-lent.new.self lent c.lend-lent.ensures.stops.stayed c.lend-lent.ensures.taken
+    (as_before (λ every snapshots. IsLentOf job size every snapshots edges told world) first between taken.stops.stayed (record { every_is = c.lend-world.ensures.stops.stayed.every_is; channel = c.lend-world.ensures.taken.channel }))
+    (may_checkpoint job (suc (last_edge job)) b between c.lend-world.new.self world c.lend-world.ensures.stops.stayed c.lend-world.ensures.taken
     (subst (λ n. HasFirst job (suc (last_edge job)) n between) taken.fewer has))
 
 pub overflow_cast-result : goal.overflow_cast-result

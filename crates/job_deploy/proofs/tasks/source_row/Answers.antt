@@ -28,16 +28,16 @@ sources-smaller g c = let l = ap length c.in-Some.ensures.items ∙ length_push 
 pub sources-preserved : goal.sources-preserved
 sources-preserved g c =
     let before = c.sources.invariant in
-    let rest = c.pop.new.self.items in let input = c.in-Some.input in let lent = c.take_last-partition.result in let left = c.take_last-partition.new.self.items in
+    let rest = c.pop.new.self.items in let input = c.in-Some.input in let lent = c.take_last-every.result in let left = c.take_last-every.new.self.items in
     let inputs = c.args.inputs.now.items in let lents = c.args.lents.items in
-    let task : SourceTask g.row.S.Denot = record { alloc = c.args.alloc; input = input; index = length c.as_slice.result.now; partition = lent.partition; lent = lent.lent } in
+    let task : SourceTask g.row.S.Denot = record { alloc = c.args.alloc; input = input; index = length c.as_slice.result.now; every = lent.every; world = lent.world } in
     let shorter = ap length c.in-Some.ensures.items ∙ length_push rest input in
-    let fewer = ap length c.take_last-partition.ensures.items ∙ length_push left lent in
+    let fewer = ap length c.take_last-every.ensures.items ∙ length_push left lent in
     let many = before.lents_many in
     let pair : length left ≡ length rest = omega (arith, shorter, fewer, many) in
     record {
       lents_many = pair;
-      lents = λ a x at. before.lents a x (ap (λ l. slice_get l a) c.take_last-partition.ensures.items ∙ in_front left (lent ∷ []) a x at);
+      lents = λ a x at. before.lents a x (ap (λ l. slice_get l a) c.take_last-every.ensures.items ∙ in_front left (lent ∷ []) a x at);
       inputs = λ a x at. before.inputs a x (ap (λ l. slice_get l a) c.in-Some.ensures.items ∙ in_front rest (input ∷ []) a x at);
       few = (let f = before.few in omega (arith, f, shorter));
       inputs_room = (let r = before.inputs_room in let s = c.in-Some.ensures.room in omega (arith, r, s, shorter));
@@ -50,7 +50,7 @@ sources-preserved g c =
             is = refl;
             index = ap length c.as_slice.ensures;
             input = before.inputs (length rest) input (ap (λ l. slice_get l (length rest)) c.in-Some.ensures.items ∙ at_last rest input (length rest) refl);
-            lent = before.lents (length rest) lent (ap (λ l. slice_get l (length rest)) c.take_last-partition.ensures.items ∙ at_last left lent (length rest) (sym pair));
+            lent = before.lents (length rest) lent (ap (λ l. slice_get l (length rest)) c.take_last-every.ensures.items ∙ at_last left lent (length rest) (sym pair));
           }));
       room = (let r = before.room in let s = c.put.ensures.room in omega (arith, r, s, shorter));
     }

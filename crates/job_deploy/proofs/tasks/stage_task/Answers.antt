@@ -1,6 +1,6 @@
-use Rattle.std.proofs.Common.{◌≡◌, ◌+◌, suc, length, refl, ap, subst, arith}
+use Rattle.std.proofs.Common.{◌≡◌, ◌+◌, suc, length, refl, sym, ap, subst, arith}
 use Rattle.record_writer.specs.Partitions.{IsPartitionOf}
-use Rattle.job_deploy.specs.Deployed.{IsLentOf}
+use Rattle.job_deploy.specs.Deployed.{IsLentOf, IsPartitionAt}
 use Rattle.job_deploy.specs.Placing.{HasFirst, IsOverCells}
 use Rattle.job_deploy.proofs.Rows.{gate_at, partition_at, partition_of, senders_here, senders_there, stage_at, takers_here, takers_there}
 use Rattle.job_deploy.proofs.Taking.{as_before, fewer_more, first_left, may_checkpoint, some_left, tasks_kept}
@@ -31,31 +31,31 @@ returns-clause-senders c = (
   (let one = c.next.ensures.fewer in let two = c.next-partition.ensures.fewer in let same = c.requires.senders.1 in omega (arith, one, two, same)),
 )
 
-pub lend-lent-requires-clause-snapshot_passes : goal.lend-lent-requires-clause-snapshot_passes
-lend-lent-requires-clause-snapshot_passes c =
+pub lend-world-requires-clause-snapshot_passes : goal.lend-world-requires-clause-snapshot_passes
+lend-world-requires-clause-snapshot_passes c =
     let job = c.args.job.now in let n = length c.args.takers.now.own.items in let taken = c.next.ensures in
     (some_left job (suc c.args.e) n c.next.new.shared c.requires.takers.1 (tasks_kept job _ c.args.shared.now c.next.new.shared taken.stops.stayed taken.theirs c.requires.theirs)).0
 
-pub lend-lent-requires-clause-last_passes : goal.lend-lent-requires-clause-last_passes
-lend-lent-requires-clause-last_passes c =
+pub lend-world-requires-clause-last_passes : goal.lend-world-requires-clause-last_passes
+lend-world-requires-clause-last_passes c =
     let job = c.args.job.now in let n = length c.args.takers.now.own.items in let taken = c.next.ensures in
     (some_left job (suc c.args.e) n c.next.new.shared c.requires.takers.1 (tasks_kept job _ c.args.shared.now c.next.new.shared taken.stops.stayed taken.theirs c.requires.theirs)).1
 
 pub returns-clause-stops : goal.returns-clause-stops
-returns-clause-stops c = fewer_more 1 1 2 c.args.shared.now c.next.new.shared c.lend-lent.new.self refl c.next.ensures.stops c.lend-lent.ensures.stops
+returns-clause-stops c = fewer_more 1 1 2 c.args.shared.now c.next.new.shared c.lend-world.new.self refl c.next.ensures.stops c.lend-world.ensures.stops
 
 pub returns-clause-theirs : goal.returns-clause-theirs
 returns-clause-theirs c =
     let job = c.args.job.now in let i = suc c.args.e in let b = length c.next.new.self.own.items in let taken = c.next.ensures in let between = c.next.new.shared in
     let has = tasks_kept job _ c.args.shared.now between taken.stops.stayed taken.theirs c.requires.theirs in
-    first_left job i b between c.lend-lent.new.self c.lend-lent.result c.lend-lent.ensures.stops.stayed c.lend-lent.ensures.taken
+    first_left job i b between c.lend-world.new.self c.lend-world.result c.lend-world.ensures.stops.stayed c.lend-world.ensures.taken
     (subst (λ n. HasFirst job i n between) taken.fewer has)
 
 pub returns-clause-task : goal.returns-clause-task
 returns-clause-task c =
     let job = c.args.job.now in let edges = c.args.edges.now in let e = c.args.e in let size = c.args.size in let b = length c.next.new.self.own.items in
     let before = c.item_at-before.result.now in let behind = c.item_at-behind.result.now in
-    let partition = c.next-partition.result in let lent = c.lend-lent.result in let taken = c.next.ensures in
+    let partition = c.next-partition.result in let world = c.lend-world.result in let told = c.lend-world.new.self.every in let given = c.lend-world.ensures.partition in let taken = c.next.ensures in
     let first = c.args.shared.now in let between = c.next.new.shared in let every = first.every in let snapshots = first.snapshots.now in
     let has = tasks_kept job _ first between taken.stops.stayed taken.theirs c.requires.theirs in
     let same : length c.next-partition.new.self.own.items ≡ b = (let one = c.next.ensures.fewer in let two = c.next-partition.ensures.fewer in let s = c.requires.senders.1 in omega (arith, one, two, s)) in
@@ -63,7 +63,7 @@ returns-clause-task c =
     (let m = c.requires.takers.0.are.many in let f = c.next.ensures.fewer in omega (arith, m, f))
     (gate_at job edges e e before refl c.item_at-before.ensures size every snapshots b _ c.in_ok-gate.ensures.cells)
     c.in_ok-gate.ensures.gate
-    (partition_at job edges (suc e) (e + 1) behind (omega arith) c.item_at-behind.ensures size every snapshots b partition (subst (λ a. IsOverCells job (e + 1) a size behind partition) same c.next-partition.ensures.cells))
-    (partition_of job edges (suc e) (e + 1) behind (omega arith) c.item_at-behind.ensures b partition (subst (λ a. IsPartitionOf job (e + 1) a partition) same c.next-partition.ensures.partition))
-    (as_before (λ every snapshots. IsLentOf job size every snapshots edges lent) first between taken.stops.stayed (record { every_is = c.lend-lent.ensures.taken.every_is; channel = c.lend-lent.ensures.taken.channel }))
-    (may_checkpoint job (suc e) b between c.lend-lent.new.self lent c.lend-lent.ensures.stops.stayed c.lend-lent.ensures.taken (subst (λ n. HasFirst job (suc e) n between) taken.fewer has))
+    (subst (IsPartitionAt job size every snapshots edges (suc e) b) (sym given) (partition_at job edges (suc e) (e + 1) behind (omega arith) c.item_at-behind.ensures size every snapshots b partition (subst (λ a. IsOverCells job (e + 1) a size behind partition) same c.next-partition.ensures.cells)))
+    (subst (IsPartitionOf job (suc e) b) (sym given) (partition_of job edges (suc e) (e + 1) behind (omega arith) c.item_at-behind.ensures b partition (subst (λ a. IsPartitionOf job (e + 1) a partition) same c.next-partition.ensures.partition)))
+    (as_before (λ every snapshots. IsLentOf job size every snapshots edges told world) first between taken.stops.stayed (record { every_is = c.lend-world.ensures.stops.stayed.every_is; channel = c.lend-world.ensures.taken.channel }))
+    (may_checkpoint job (suc e) b between c.lend-world.new.self world c.lend-world.ensures.stops.stayed c.lend-world.ensures.taken (subst (λ n. HasFirst job (suc e) n between) taken.fewer has))

@@ -5,13 +5,13 @@ use Rattle.job_workers.proofs.task.run_source_task.Goals as goal
 
 pub returns : goal.returns
 returns g c =
-    let end = c.run_source-partition.result in
-    let did = c.run_source-partition.ensures in record {
-      input = c.run_source-partition.new.input;
+    let end = c.run_source-end.result in
+    let did = c.run_source-end.ensures in record {
+      input = c.run_source-end.new.input;
       is_there = refl;
       no_gate = refl;
-      partition = record { passes = end.partition; are_there = refl; are_of = did.partition };
-      snapshots = record { pass = end.snapshot_pass; is_there = refl; of_channel = did.snapshots.0; task = did.snapshots.1 ∙ c.requires.may.may.task };
-      history = seen end.last_pass;
+      partition = record { passes = end.passes.partition; are_there = refl; are_of = did.partition };
+      snapshots = record { pass = end.passes.snapshots; is_there = refl; of_channel = did.snapshots.0; task = did.snapshots.1 ∙ c.requires.may.lent.task };
+      history = seen end.passes.last_image;
       account = did.account;
     }

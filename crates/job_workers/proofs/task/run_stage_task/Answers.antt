@@ -7,17 +7,17 @@ use Rattle.job_workers.proofs.task.run_stage_task.Goals as goal
 
 pub returns : goal.returns
 returns g c =
-    let end = c.run_stage-gate.result in
-    let did = c.run_stage-gate.ensures in
+    let end = c.run_stage-end.result in
+    let did = c.run_stage-end.ensures in
     let passes = c.into_passes.result in
     let given = c.into_passes.ensures.cells in record {
       no_input = refl;
       gate = gate_passes c.args.task.gate end.gate passes did.gate.0 given.1;
-      partition = record { passes = end.partition; are_there = refl; are_of = did.partition };
-      snapshots = record { pass = end.snapshot_pass; is_there = refl; of_channel = did.snapshots.0; task = did.snapshots.1 ∙ c.requires.may.may.task };
+      partition = record { passes = end.passes.partition; are_there = refl; are_of = did.partition };
+      snapshots = record { pass = end.passes.snapshots; is_there = refl; of_channel = did.snapshots.0; task = did.snapshots.1 ∙ c.requires.may.lent.task };
       given = account_in end.gate;
       tells = tells_given end.gate passes given.0;
-      history = seen end.last_pass;
+      history = seen end.passes.last_image;
       takes = end.takes.items;
       account = did.account;
     }

@@ -1,62 +1,82 @@
 use Rattle.std.proofs.Common.{List, [], length, ap, sym, subst, ◌∙◌, refl, arith}
 use Rattle.turn_cell.specs.Passes.{IsSamePass, seen}
-use Rattle.flow_defs.specs.declared.image.Snapshot.{Snapshot}
-use Rattle.task_output.specs.Waiting.{HasWaited}
 use Rattle.flow_defs.specs.declared.cause.Cause.TheVariants as causes
+use Rattle.flow_defs.specs.declared.image.Snapshot.{Snapshot}
+use Rattle.conn_parts.specs.Shares.{AreNew}
 use Rattle.record_writer.specs.declared.partition.PartitionPasses.{PartitionPasses}
 use Rattle.record_writer.specs.Writers.{Writer}
+use Rattle.snapshot_channel.specs.declared.opened.TaskPass.{TaskPass}
+use Rattle.snapshot_channel.specs.declared.views.Opening.{Opening}
 use Rattle.snapshot_channel.specs.Passes.{sent_by}
+use Rattle.task_output.specs.Waiting.{HasWaited}
 use Rattle.source_task.specs.declared.output.SourceOutput.{SourceOutput}
 use Rattle.source_task.specs.Emitting.{has_ended}
-use Rattle.source_task.specs.Sources.{SourceAccount}
-use Rattle.source_task.proofs.Ends.{emitted_none, account_of_same, account_ended, account_unsent, told_by_source}
+use Rattle.source_task.proofs.Ends.{emitted_none, account_of_same, account_ended, account_unsent, told_by_source, sent_many}
 use Rattle.source_task.proofs.source.run_source.Goals as goal
 
 pub emit_lines-cause-requires : goal.emit_lines-cause-requires
 emit_lines-cause-requires g c =
     let lent = c.requires.lent in
-    let out : SourceOutput = record { output = c.new-in-Ok.result; snapshots = c.args.world.snapshots; pass = c.args.world.snapshot_pass; last_image = c.args.world.last_image; last_pass = c.args.world.last_pass; index = c.args.index; every = c.args.every; barriers = 0; offset = 0; since = 0 } in
+    let out : SourceOutput = record { output = c.new-in-Ok.result; acks = c.args.world.acks; index = c.args.index; every = c.args.every; offset = 0; since = 0 } in
     record {
       source = record {
-        job = c.args.world.job.now;
+        job = c.args.job.now;
         size = c.args.world.partition.size;
         lines = [];
-        emitted = emitted_none c.args.world.job.now c.args.world.partition c.in-Ok.writer out c.in-Ok.ensures.is_of.0 c.in-Ok.ensures.new c.new-in-Ok.ensures.none lent.pass.1 refl refl refl;
-        own = record { pass = lent.pass.0; task = lent.task; last_pass = lent.last_pass; waited = subst (λ (xs : List Snapshot). HasWaited (length xs) (seen c.args.world.last_pass)) (sym lent.pass.1) tt };
-        base = lent.base;
-        every_is = lent.every_is;
+        emitted = emitted_none c.args.job.now c.args.world.partition c.in-Ok.writer out c.in-Ok.ensures.is_of.0 c.in-Ok.ensures.new c.new-in-Ok.ensures.none lent.fresh refl refl;
+        own = record { passes = lent.passes; task = lent.task; waited = subst (λ (xs : List Snapshot). HasWaited (length xs) (seen c.args.world.acks.last_pass)) (sym lent.fresh) tt };
+        base = ap (λ (o : Opening). o.base) lent.opening;
+        every_is = ap (λ (o : Opening). o.every) lent.opening;
       };
-      not_ended = ap has_ended lent.pass.1;
+      not_ended = ap has_ended lent.fresh;
       not_due = lent.interval;
     }
+
+pub returns-in-Ok-clause-acks : goal.returns-in-Ok-clause-acks
+returns-in-Ok-clause-acks g c =
+    let after = c.emit_lines-cause.new.output in
+    c.end_sender.ensures.acks ∙ sent_many c.args.world.acks after.acks c.emit_lines-cause.ensures.same.snapshots (ap (λ (o : Opening). o.base) c.requires.lent.opening) c.emit_lines-cause.ensures.own.passes
+    ∙ ap (λ (p : TaskPass). length (sent_by p)) (sym c.end_sender.ensures.passes.0)
 
 pub returns-in-Ok-clause-account : goal.returns-in-Ok-clause-account
 returns-in-Ok-clause-account g c =
     let lent = c.requires.lent in
-    let job = c.args.world.job.now in
-    let out : SourceOutput = record { output = c.new-in-Ok.result; snapshots = c.args.world.snapshots; pass = c.args.world.snapshot_pass; last_image = c.args.world.last_image; last_pass = c.args.world.last_pass; index = c.args.index; every = c.args.every; barriers = 0; offset = 0; since = 0 } in
+    let job = c.args.job.now in
+    let size = c.args.world.partition.size in
+    let out : SourceOutput = record { output = c.new-in-Ok.result; acks = c.args.world.acks; index = c.args.index; every = c.args.every; offset = 0; since = 0 } in
     let after = c.emit_lines-cause.new.output in
-    let end = c.end_output.ensures.ended in
-    let was = (c.emit_lines-cause.ensures.ended job c.args.world.partition.size (emitted_none job c.args.world.partition c.in-Ok.writer out c.in-Ok.ensures.is_of.0 c.in-Ok.ensures.new c.new-in-Ok.ensures.none lent.pass.1 refl refl refl)).account in
-    account_ended job c.args.index c.args.world.partition.size c.args.every c.end_output.result.partition.subpartitions.items (sent_by c.end_output.result.snapshot_pass) (seen c.end_output.result.last_pass) (g.S.Source.left c.args.input.now) (g.S.Source.faults c.args.input.now) (g.S.Source.faults c.emit_lines-cause.new.input) c.emit_lines-cause.result c.end_output.result.cause end.ends
-    (account_of_same job after.index c.args.index c.args.world.partition.size after.every c.args.every after.output.writer.passes c.end_output.result.partition.subpartitions.items (sent_by after.pass) (sent_by c.end_output.result.snapshot_pass) (seen after.last_pass) (seen c.end_output.result.last_pass) (g.S.Source.left c.args.input.now) (g.S.Source.faults c.args.input.now) (g.S.Source.faults c.emit_lines-cause.new.input) c.emit_lines-cause.result
-    c.emit_lines-cause.ensures.same.index c.emit_lines-cause.ensures.same.every_is (sym end.passes_are) (ap sent_by (sym end.snapshots)) (ap seen (sym end.last_image)) was)
+    let said = c.end_sender.ensures in
+    let passes = c.end_sender.result.passes in
+    let left = g.S.Source.left c.args.input.now in
+    let fell = g.S.Source.faults c.args.input.now in
+    let rose = g.S.Source.faults c.emit_lines-cause.new.input in
+    let was = (c.emit_lines-cause.ensures.ended job size (emitted_none job c.args.world.partition c.in-Ok.writer out c.in-Ok.ensures.is_of.0 c.in-Ok.ensures.new c.new-in-Ok.ensures.none lent.fresh refl refl)).account in
+    account_ended job c.args.index size c.args.every passes.partition.subpartitions.items (sent_by passes.snapshots) (seen passes.last_image) left fell rose c.emit_lines-cause.result c.end_sender.result.cause said.cause
+    (account_of_same job after.index c.args.index size after.every c.args.every after.output.writer.passes passes.partition.subpartitions.items (sent_by after.acks.pass) (sent_by passes.snapshots) (seen after.acks.last_pass) (seen passes.last_image) left fell rose c.emit_lines-cause.result
+    c.emit_lines-cause.ensures.same.index c.emit_lines-cause.ensures.same.every_is (sym said.partition.same) (ap sent_by (sym said.passes.0)) (ap seen (sym said.passes.1)) was)
 
 pub returns-in-Ok-clause-stop : goal.returns-in-Ok-clause-stop
 returns-in-Ok-clause-stop g c =
     let lent = c.requires.lent in
-    let job = c.args.world.job.now in
-    let out : SourceOutput = record { output = c.new-in-Ok.result; snapshots = c.args.world.snapshots; pass = c.args.world.snapshot_pass; last_image = c.args.world.last_image; last_pass = c.args.world.last_pass; index = c.args.index; every = c.args.every; barriers = 0; offset = 0; since = 0 } in
+    let job = c.args.job.now in
+    let out : SourceOutput = record { output = c.new-in-Ok.result; acks = c.args.world.acks; index = c.args.index; every = c.args.every; offset = 0; since = 0 } in
     let after = c.emit_lines-cause.new.output in
-    let end = c.end_output.ensures.ended in
-    let was = c.emit_lines-cause.ensures.ended job c.args.world.partition.size (emitted_none job c.args.world.partition c.in-Ok.writer out c.in-Ok.ensures.is_of.0 c.in-Ok.ensures.new c.new-in-Ok.ensures.none lent.pass.1 refl refl refl) in
-    told_by_source c.args.world.stop.now c.emit_lines-cause.result c.end_output.result.cause c.args.world.stop_pass after.output.writer.stop_pass c.end_output.result.stop_pass
-    (subst (λ p. IsSamePass p after.output.writer.stop_pass) (ap (λ (w : Writer). w.stop_pass) c.new-in-Ok.ensures.writer.0 ∙ c.in-Ok.ensures.is_of.2) c.emit_lines-cause.ensures.same.writer.stop_pass) was.stopped end.told
+    let was = c.emit_lines-cause.ensures.ended job c.args.world.partition.size (emitted_none job c.args.world.partition c.in-Ok.writer out c.in-Ok.ensures.is_of.0 c.in-Ok.ensures.new c.new-in-Ok.ensures.none lent.fresh refl refl) in
+    told_by_source c.args.world.stop.now c.emit_lines-cause.result c.end_sender.result.cause c.args.world.stop_pass after.output.writer.stop_pass c.end_sender.result.passes.stop
+    (subst (λ p. IsSamePass p after.output.writer.stop_pass) (ap (λ (w : Writer). w.stop_pass) c.new-in-Ok.ensures.writer.0 ∙ c.in-Ok.ensures.is_of.2) c.emit_lines-cause.ensures.same.writer.stop_pass) was.stopped c.end_sender.ensures.told
+
+pub returns-in-Err-clause-acks : goal.returns-in-Err-clause-acks
+returns-in-Err-clause-acks g c =
+    c.end_task.ensures.acks ∙ sent_many c.args.world.acks c.args.world.acks refl (ap (λ (o : Opening). o.base) c.requires.lent.opening) c.requires.lent.passes
+    ∙ ap (λ (p : TaskPass). length (sent_by p)) (sym c.end_task.ensures.passes.0)
 
 pub returns-in-Err-clause-account : goal.returns-in-Err-clause-account
 returns-in-Err-clause-account g c =
-    let lent = c.requires.lent in
-    let job = c.args.world.job.now in
-    account_ended job c.args.index c.args.world.partition.size c.args.every c.in-Err.refused.passes.subpartitions.items (sent_by c.args.world.snapshot_pass) (seen c.args.world.last_pass) (g.S.Source.left c.args.input.now) (g.S.Source.faults c.args.input.now) (g.S.Source.faults c.args.input.now) causes.Memory c.end_task-cause.result c.end_task-cause.ensures.cause
-    (subst (λ (p : PartitionPasses). SourceAccount job c.args.index c.args.world.partition.size c.args.every p.subpartitions.items (sent_by c.args.world.snapshot_pass) (seen c.args.world.last_pass) (g.S.Source.left c.args.input.now) (g.S.Source.faults c.args.input.now) (g.S.Source.faults c.args.input.now) causes.Memory) (sym c.in-Err.ensures.refused.0)
-    (account_unsent job c.args.index c.args.world.partition.size c.args.every c.args.world.partition.passes.subpartitions.items (sent_by c.args.world.snapshot_pass) (seen c.args.world.last_pass) (g.S.Source.left c.args.input.now) (g.S.Source.faults c.args.input.now) (g.S.Source.faults c.args.input.now) lent.partition.new lent.pass.1 (omega arith)))
+    let said = c.end_task.ensures in
+    let passes = c.end_task.result.passes in
+    let size = c.args.world.partition.size in
+    let left = g.S.Source.left c.args.input.now in
+    let fell = g.S.Source.faults c.args.input.now in
+    account_ended c.args.job.now c.args.index size c.args.every passes.partition.subpartitions.items (sent_by passes.snapshots) (seen passes.last_image) left fell fell causes.Memory c.end_task.result.cause said.cause
+    (account_unsent c.args.job.now c.args.index size c.args.every passes.partition.subpartitions.items (sent_by passes.snapshots) (seen passes.last_image) left fell fell
+    (subst (λ (p : PartitionPasses). AreNew p.subpartitions.items) (sym (said.partition ∙ c.in-Err.ensures.refused.0)) c.requires.partition.new) (ap sent_by said.passes.0 ∙ c.requires.lent.fresh) (omega arith))

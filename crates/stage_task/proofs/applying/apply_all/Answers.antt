@@ -54,7 +54,7 @@ returns-in-Err-apply_one-clause-ended g c =
     let given = apply c.in-Some.stage.now r in
     let gives : given ≡ apply_behind out.job.now out.edge line = gives_there c.args.out.now.job out.job c.args.out.now.edge out.edge given line v.same.job v.same.edge
     (applied_behind c.args.out.now.job.now c.args.out.now.edge c.as_slice.result.now c.in-Some.stage.now r line c.as_slice.ensures c.in-Some.ensures.lookup.3.0 (c.in-Some.ensures.lookup.3.1 c.in-Some.stage.now) c.as_slice-line.ensures) in
-    named out.job.now out.edge out.index c.apply_one.new.output.writer.size out.every gate c.apply_one.new.output.writer.passes (sent_by out.pass) (seen out.last_pass) t.runs c.end_of.result.takes.items c.in-Err-apply_one.cause c.end_of.result.cause c.end_of.ensures.0 c.end_of.ensures.1
+    named out.job.now out.edge out.index c.apply_one.new.output.writer.size out.every gate c.apply_one.new.output.writer.passes (sent_by out.acks.pass) (seen out.acks.last_pass) t.runs c.end_of.result.takes.items c.in-Err-apply_one.cause c.end_of.result.cause c.end_of.ensures.0 c.end_of.ensures.1
     (line_ended out before gate c.loop-item.taking t u.groups u.took u.applied_them took.1.0 line given took.1.1 gives c.what_was_taken_was_given.ensures.taken c.apply_one.new.output c.in-Err-apply_one.cause c.apply_one.ensures.same.size
     (c.in-Err-apply_one.ensures.emitted out.job.now (suc out.edge) out.index out.output.writer.size (all_applied out.job.now out.edge u.groups) (applied out.job.now out.edge u.took) u.applied_them.sent))
 
@@ -139,7 +139,7 @@ returns-in-Err-mark-clause-ended g c =
     let gate = g.G.Gate.account c.next-in-loop-item.new.gate in
     let t = c.next-in-loop-item.new.self in
     let took = subst (λ (x : Taken). TookNext out.job.now out.edge out.index gate t u.groups u.took (Ok x)) c.in-Ok-Checkpoint.field-0-is (c.in-Ok-Checkpoint.ensures.took out.job.now out.edge out.index u.groups u.took u.applied_them.taken) in
-    named out.job.now out.edge out.index c.mark.new.self.writer.size out.every gate c.mark.new.self.writer.passes (sent_by out.pass) (seen out.last_pass) t.runs c.end_of-in-Err-mark.result.takes.items causes.Stopped c.end_of-in-Err-mark.result.cause c.end_of-in-Err-mark.ensures.0 c.end_of-in-Err-mark.ensures.1
+    named out.job.now out.edge out.index c.mark.new.self.writer.size out.every gate c.mark.new.self.writer.passes (sent_by out.acks.pass) (seen out.acks.last_pass) t.runs c.end_of-in-Err-mark.result.takes.items causes.Stopped c.end_of-in-Err-mark.result.cause c.end_of-in-Err-mark.ensures.0 c.end_of-in-Err-mark.ensures.1
     (mark_ended out before gate c.loop-item.taking t u.groups u.took u.applied_them took.0 c.what_was_taken_was_given.ensures.at_barrier c.mark.new.self c.mark.ensures.same.size (c.in-Err-mark.ensures.marked out.job.now (suc out.edge) out.index out.output.writer.size (all_applied out.job.now out.edge u.groups) (applied out.job.now out.edge u.took) u.applied_them.sent))
 
 pub returns-in-Err-mark-clause-stopped : goal.returns-in-Err-mark-clause-stopped
@@ -176,7 +176,7 @@ returns-in-Ok-AllEnded-clause-ended g c =
     let gate = g.G.Gate.account c.next-in-loop-item.new.gate in
     let t = c.next-in-loop-item.new.self in
     let took = subst (λ (x : Taken). TookNext out.job.now out.edge out.index gate t u.groups u.took (Ok x)) c.in-Ok-AllEnded.field-0-is (c.in-Ok-AllEnded.ensures.took out.job.now out.edge out.index u.groups u.took u.applied_them.taken) in
-    named out.job.now out.edge out.index out.output.writer.size out.every gate out.output.writer.passes (sent_by out.pass) (seen out.last_pass) t.runs c.end_of-in-Ok-AllEnded.result.takes.items (causes.Peer peers.Barrier) c.end_of-in-Ok-AllEnded.result.cause c.end_of-in-Ok-AllEnded.ensures.0 c.end_of-in-Ok-AllEnded.ensures.1
+    named out.job.now out.edge out.index out.output.writer.size out.every gate out.output.writer.passes (sent_by out.acks.pass) (seen out.acks.last_pass) t.runs c.end_of-in-Ok-AllEnded.result.takes.items (causes.Peer peers.Barrier) c.end_of-in-Ok-AllEnded.result.cause c.end_of-in-Ok-AllEnded.ensures.0 c.end_of-in-Ok-AllEnded.ensures.1
     (ended_early out before gate c.loop-item.taking t u.groups u.took u.applied_them c.what_was_sent_was_begun.ensures.sent c.what_was_taken_was_given.ensures.taken took.0 u.not_last took.1)
 
 pub returns-in-Err-clause-ended : goal.returns-in-Err-clause-ended
@@ -188,5 +188,5 @@ returns-in-Err-clause-ended g c =
     let gate = g.G.Gate.account c.next-in-loop-item.new.gate in
     let t = c.next-in-loop-item.new.self in
     let took = c.in-Err.ensures.took out.job.now out.edge out.index u.groups u.took u.applied_them.taken in
-    named out.job.now out.edge out.index out.output.writer.size out.every gate out.output.writer.passes (sent_by out.pass) (seen out.last_pass) t.runs c.end_of-in-Err.result.takes.items c.in-Err.cause c.end_of-in-Err.result.cause c.end_of-in-Err.ensures.0 c.end_of-in-Err.ensures.1
+    named out.job.now out.edge out.index out.output.writer.size out.every gate out.output.writer.passes (sent_by out.acks.pass) (seen out.acks.last_pass) t.runs c.end_of-in-Err.result.takes.items c.in-Err.cause c.end_of-in-Err.result.cause c.end_of-in-Err.ensures.0 c.end_of-in-Err.ensures.1
     (gate_ended out before gate c.loop-item.taking t u.groups u.took u.applied_them c.what_was_sent_was_begun.ensures.sent c.what_was_taken_was_given.ensures.taken took.0 c.in-Err.cause took.1 took.2)

@@ -1,4 +1,3 @@
-use Rattle.task_output.proofs.OnChannel.{Laws}
 use Rattle.task_output.proofs.Begun.{sent_is_begun, finished_is_begun, barrier_is_left_aside}
 use Rattle.task_output.proofs.laws.what_was_sent_was_begun.Goals as goal
 

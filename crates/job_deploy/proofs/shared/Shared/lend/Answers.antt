@@ -4,7 +4,7 @@ use Rattle.job_deploy.specs.Placing.{IsStop}
 use Rattle.job_deploy.proofs.shared.Shared.lend.Goals as goal
 
 pub returns-clause-stops : goal.returns-clause-stops
-returns-clause-stops c = let was = c.args.self.now in let taken = c.take_last-stop_pass in record {
+returns-clause-stops g c = let was = c.args.self.now in let taken = c.take_last-stop_pass in record {
   stayed = record { every_is = refl; channel = refl };
   cell = refl;
   are = (All-pop (IsStop was.stop.now) was.stops.items taken.new.self.items (Some taken.result) taken.ensures.items c.requires.stops.0).0;
@@ -12,11 +12,11 @@ returns-clause-stops c = let was = c.args.self.now in let taken = c.take_last-st
 }
 
 pub returns-clause-taken : goal.returns-clause-taken
-returns-clause-taken c = let was = c.args.self.now in let taken = c.take_last-stop_pass in record {
-  every_is = refl;
+returns-clause-taken g c = let was = c.args.self.now in let taken = c.take_last-stop_pass in record {
   channel = refl;
   snapshot_pass = c.take_last-snapshot_pass.ensures.items;
   last_image = (refl, refl);
   last_pass = c.take_last-last_pass.ensures.items;
+  number = refl;
   stop = (All-pop (IsStop was.stop.now) was.stops.items taken.new.self.items (Some taken.result) taken.ensures.items c.requires.stops.0).1;
 }

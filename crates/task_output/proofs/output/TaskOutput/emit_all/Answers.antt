@@ -18,7 +18,7 @@ returns-in-Err-clause-emitted g c = λ job e a size groups records was.
       begun = x.items ∷ [];
       rest = bytes_of (drop (i + 1) xs);
       parts = front_parts xs i x c.loop-line-test.true c.line-item.is;
-      stopped = subst (λ (l : List ℕ). HasStopped job e a size c.emit.new.self groups (records ++ bytes_of (take i xs)) (l ∷ []) ⊥) c.as_slice.ensures
+      stopped = subst (λ (l : List ℕ). HasStopped job e a size c.emit.new.self groups (records ++ bytes_of (take i xs)) (l ∷ []) ⊥ ⊥) c.as_slice.ensures
           (c.in-Err.ensures.emitted job e a size groups (records ++ bytes_of (take i xs)) (c.loop-line.invariant.sent job e a size groups records was));
     }
 

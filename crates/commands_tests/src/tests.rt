@@ -1,5 +1,5 @@
 // Whole runs over files and outputs in memory.
-ghost use Rattle.std.specs.Prelude.{◌≡◌, ◌≤◌, IfOk};
+ghost use Rattle.std.specs.Prelude.{◌≡◌, ◌≤◌, IfOk, length};
 
 use crate::held_files::HeldFiles;
 use commands::program::run_program;
@@ -168,11 +168,18 @@ fn a_run_prints_the_tally_of_its_sources(rt: HostRuntime) -> Result<(), Fail> {
     Ok(())
 }
 
+// So many times this byte. Of the bytes themselves nothing is said, so that no proof writes out a million of them.
+fn repeated(alloc: Global, byte: u8, count: usize) -> Result<Vec<u8>, AllocError>
+    ensures { IfOk result (λ bytes. length bytes.items ≡ count) }
+{
+    vec![in alloc; byte; count]
+}
+
 // A line that is longer than a segment goes in many.
 #[test]
 fn takes_lines_up_to_the_limit(rt: HostRuntime) -> Result<(), Fail> {
     let alloc = rt.alloc();
-    let line = vec![in alloc; b'a'; 1_048_577]?;
+    let line = repeated(alloc, b'a', 1_048_577)?;
     for (source, status, told) in [
         (&line[1..], 0, ""),
         (line.as_slice(), 10, "source 0: line over 1048576\n"),
@@ -262,7 +269,7 @@ fn tells_faults_of_the_source_and_the_output(rt: HostRuntime) -> Result<(), Fail
 #[test]
 fn refuses_a_job_text_over_its_limit(rt: HostRuntime) -> Result<(), Fail> {
     let alloc = rt.alloc();
-    let long = vec![in alloc; b'x'; 65_537]?;
+    let long = repeated(alloc, b'x', 65_537)?;
     for (job, status, told) in [
         (&long[1..], 3, "job line 1: bad line\n"),
         (long.as_slice(), 10, "job over 65536\n"),

@@ -1,5 +1,4 @@
 pub mod Appends
-pub mod Dealt
 pub mod Lists
 pub mod Passes
 mod Spellings

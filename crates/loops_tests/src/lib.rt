@@ -4,15 +4,15 @@
 #![tactic(auto)]
 
 #[cfg(test)]
-mod conn_announce_tests;
-#[cfg(test)]
-mod conn_grant_tests;
-#[cfg(test)]
 mod conn_parts_tests;
 #[cfg(test)]
-mod conn_receive_tests;
+mod conn_read_control_tests;
 #[cfg(test)]
-mod conn_send_tests;
+mod conn_read_items_tests;
+#[cfg(test)]
+mod conn_send_control_tests;
+#[cfg(test)]
+mod conn_send_items_tests;
 #[cfg(test)]
 mod connection_tests;
 #[cfg(test)]

@@ -6,4 +6,3 @@ pub mod Segments
 pub mod Emitting
 pub mod Marking
 pub mod InOrder
-pub mod Dealt

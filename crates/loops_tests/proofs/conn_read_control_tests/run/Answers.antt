@@ -5,7 +5,7 @@ use Rattle.subpartition.specs.declared.entry.SendEntry.{SendEntry}
 use Rattle.subpartition.specs.Queues.{Queue}
 use Rattle.conn_parts.specs.Shares.{AreOwn}
 use Rattle.loops_tests.proofs.Alone.{all_one, own_one}
-use Rattle.loops_tests.proofs.conn_grant_tests.run.Goals as goal
+use Rattle.loops_tests.proofs.conn_read_control_tests.run.Goals as goal
 
 pub read_control-half-requires : goal.read_control-half-requires
 read_control-half-requires g c = let readers = c.in_ok-readers in let sub = c.open_subpartition-subpartition in record {

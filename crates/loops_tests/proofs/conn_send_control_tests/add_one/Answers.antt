@@ -5,7 +5,7 @@ use Rattle.input_channel.specs.Legal.{may_receive}
 use Rattle.input_channel.specs.States.{ChannelState}
 use Rattle.input_channel.specs.declared.entry.ReceiveEntry.TheVariants.{Added}
 use Rattle.loops_tests.proofs.ReceiveEntries.{entry_stands}
-use Rattle.loops_tests.proofs.conn_announce_tests.add_one.Goals as goal
+use Rattle.loops_tests.proofs.conn_send_control_tests.add_one.Goals as goal
 
 pub leave-requires-clause-state : goal.leave-requires-clause-state
 leave-requires-clause-state g c =

@@ -5,7 +5,7 @@ use Rattle.local_pool.specs.Helds.{pool_of}
 use Rattle.conn_parts.specs.Shares.{AreOf, AreOwn}
 use Rattle.conn_send_items.specs.Fronts.{SendCell}
 use Rattle.loops_tests.proofs.Alone.{all_one, of_one, own_one}
-use Rattle.loops_tests.proofs.conn_send_tests.run.Goals as goal
+use Rattle.loops_tests.proofs.conn_send_items_tests.run.Goals as goal
 
 pub fill-requires-clause-givers : goal.fill-requires-clause-givers
 fill-requires-clause-givers g c = let made = c.in_ok-pool_cell in subst (AreOf (made.pool_cell ∷ [])) (sym c.in_ok-givers.ensures) (of_one made.pool_cell made.giver made.ensures.pass)

@@ -3,7 +3,7 @@ use Rattle.turn_cell.specs.Passes.{number, seen}
 use Rattle.input_channel.specs.Legal.{may_receive}
 use Rattle.input_channel.specs.declared.entry.ReceiveEntry.TheVariants.{Backlog}
 use Rattle.loops_tests.proofs.ReceiveEntries.{entry_stands}
-use Rattle.loops_tests.proofs.conn_announce_tests.tell_backlog.Goals as goal
+use Rattle.loops_tests.proofs.conn_send_control_tests.tell_backlog.Goals as goal
 
 pub leave_backlog-requires-clause-state : goal.leave_backlog-requires-clause-state
 leave_backlog-requires-clause-state g c =

@@ -2,7 +2,7 @@ use Rattle.std.proofs.Common.{refl, ◌∙◌}
 use Rattle.turn_cell.specs.Passes.{number, seen}
 use Rattle.input_channel.specs.declared.entry.ReceiveEntry.TheVariants.{Credit}
 use Rattle.conn_read_items.proofs.TurnLaws.{stands_after}
-use Rattle.loops_tests.proofs.conn_receive_tests.take_credit.Goals as goal
+use Rattle.loops_tests.proofs.conn_read_items_tests.take_credit.Goals as goal
 
 pub leave_credit-requires-clause-state : goal.leave_credit-requires-clause-state
 leave_credit-requires-clause-state g c =

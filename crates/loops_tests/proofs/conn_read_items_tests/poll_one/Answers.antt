@@ -4,7 +4,7 @@ use Rattle.input_channel.specs.Answers.{gave_of}
 use Rattle.turn_cell.specs.History.{entries_of}
 use Rattle.turn_cell.specs.Passes.{number, seen}
 use Rattle.conn_read_items.proofs.TurnLaws.{stands_after}
-use Rattle.loops_tests.proofs.conn_receive_tests.poll_one.Goals as goal
+use Rattle.loops_tests.proofs.conn_read_items_tests.poll_one.Goals as goal
 
 pub leave_poll-requires-clause-state : goal.leave_poll-requires-clause-state
 leave_poll-requires-clause-state g c =

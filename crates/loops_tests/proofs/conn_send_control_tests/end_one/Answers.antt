@@ -6,7 +6,7 @@ use Rattle.input_channel.specs.Legal.{may_receive}
 use Rattle.flow_defs.specs.declared.parcel.Parcel.TheVariants as parcels
 use Rattle.input_channel.specs.declared.entry.ReceiveEntry.TheVariants.{Push}
 use Rattle.loops_tests.proofs.ReceiveEntries.{entry_stands}
-use Rattle.loops_tests.proofs.conn_announce_tests.end_one.Goals as goal
+use Rattle.loops_tests.proofs.conn_send_control_tests.end_one.Goals as goal
 
 pub leave_end-requires-clause-state : goal.leave_end-requires-clause-state
 leave_end-requires-clause-state g c =

@@ -139,7 +139,7 @@ stops_in-append [] ys = sym (omega arith)
 stops_in-append (Line l ∷ xs) ys = stops_in-append xs ys
 stops_in-append (Stop k ∷ xs) ys = let h = stops_in-append xs ys in omega (arith, h)
 
-stops_in-lines : (ls : List (List ℕ)) → stops_in (map Line ls) ≡ 0
+pub stops_in-lines : (ls : List (List ℕ)) → stops_in (map Line ls) ≡ 0
 stops_in-lines [] = refl
 stops_in-lines (l ∷ ls) = stops_in-lines ls
 

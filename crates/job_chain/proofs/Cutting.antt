@@ -1,5 +1,5 @@
 -- What was put before a barrier is what was taken before it.
-use Rattle.std.proofs.Common.{◌≡◌, ℕ, zero, suc, ◌<◌, true, false, cond, eqb, List, [], ◌∷◌, ◌++◌, length, take, flat_map, refl, sym, ap, subst, ◌∙◌, append-nil, append_assoc, arith}
+use Rattle.std.proofs.Common.{◌≡◌, ℕ, zero, suc, ◌<◌, List, [], ◌∷◌, ◌++◌, length, take, flat_map, refl, sym, ap, subst, ◌∙◌, append-nil, append_assoc, arith}
 use Rattle.std.specs.Prelude.{map}
 use Rattle.std.specs.List.{AllByRecursion}
 use Rattle.std.proofs.lemmas.List.Concat.{flat_map-append}
@@ -11,11 +11,11 @@ use Rattle.plain_machine.specs.Images.{AreSpans}
 use Rattle.plain_machine.specs.Histories.{of_sender}
 use Rattle.plain_machine.specs.Theorems.{SpansAreRecords}
 use Rattle.checkpoint_laws.specs.Puts.{stretches, onto_first, put_before}
+use Rattle.checkpoint_laws.proofs.Lists.{of_sender-append}
 use Rattle.input_gate.specs.Gates.{Told, Line, Stop, stops_in}
 use Rattle.input_gate.specs.Told.{behind_spans, past, current, but}
-use Rattle.input_gate.proofs.Growing.{left-rest}
+use Rattle.input_gate.proofs.Growing.{left-rest, stops_in-append, stops_in-lines}
 use Rattle.task_taking.specs.Takings.{told_of, lines_of, stop_if}
-use Rattle.task_taking.proofs.Told.{stops-append}
 use Rattle.job_chain.specs.Travelling.{AreInline}
 use Rattle.job_chain.specs.Cuts.{CutAtBarrier, taken_in}
 
@@ -33,10 +33,6 @@ onto_none (End ∷ ps) = onto_none ps
 
 -- ---- what a gate tells
 
-stops_lines : (xs : List (List ℕ)) → stops_in (map Line xs) ≡ 0
-stops_lines [] = refl
-stops_lines (x ∷ xs) = stops_lines xs
-
 -- lines and the first barrier behind them
 same_first : (xs ys : List (List ℕ)) (j n : ℕ) (us vs : List Told) → map Line xs ++ Stop j ∷ us ≡ map Line ys ++ Stop n ∷ vs → (xs ≡ ys) × (us ≡ vs)
 same_first [] [] j n us vs is = (refl, cc)
@@ -47,14 +43,6 @@ same_first (x ∷ xs) (y ∷ ys) j n us vs is =
     let here : x ≡ y = cc in
     let later = same_first xs ys j n us vs behind in
     (ap (λ l. l ∷ xs) here ∙ ap (λ l. y ∷ l) later.0, later.1)
-
-of_sender-append : (a : ℕ) (xs ys : List (ℕ × List ℕ)) → of_sender a (xs ++ ys) ≡ of_sender a xs ++ of_sender a ys
-of_sender-append a [] ys = refl
-of_sender-append a (t ∷ xs) ys =
-    elim (eqb t.0 a) as (λ b. cond b (t.1 ∷ of_sender a (xs ++ ys)) (of_sender a (xs ++ ys)) ≡ cond b (t.1 ∷ of_sender a xs) (of_sender a xs) ++ of_sender a ys) [
-      | true ↦ ap (λ l. t.1 ∷ l) (of_sender-append a xs ys)
-      | false ↦ of_sender-append a xs ys
-    ]
 
 -- ---- the cut
 
@@ -96,7 +84,7 @@ module _ (law : SpansAreRecords) (s : ℕ) (more : List (ℕ × List ℕ)) (last
   no_barrier : (n : ℕ) (group : List (ℕ × List ℕ)) (groups : List (List (ℕ × List ℕ))) → rest ≡ told_of s n (group ∷ groups) more ++ last → ⊥
   no_barrier n group groups is =
       let behind = told_of s (suc n) groups more in
-      omega (arith, no_stop, ap stops_in is, stops-append (lines_of s group ++ Stop n ∷ behind) last, stops-append (lines_of s group) (Stop n ∷ behind))
+      omega (arith, no_stop, ap stops_in is, stops_in-append (lines_of s group ++ Stop n ∷ behind) last, stops_in-append (lines_of s group) (Stop n ∷ behind))
 
   cut : (given behind : List Parcel) (bytes : List ℕ) (n : ℕ) (groups : List (List (ℕ × List ℕ))) (k : ℕ) → AreInline (given ++ behind) → past bytes given ++ rest ≡ told_of s n groups more ++ last → k < length groups
       → AllByRecursion AreSpans (take (suc k) (onto_first bytes (stretches (given ++ behind))))
@@ -129,5 +117,5 @@ cut_at_barrier law put given rest s groups more waits k all starts is low spanne
     let lines = spans (but (current [] given) rest) in
     let same = onto_none ps in
     ap (put_before (suc k)) starts.1 ∙ ap (λ l. flat_map (λ (x : List ℕ). x) (take (suc k) l)) (sym same)
-    ∙ cut law s more (stop_if waits (suc (length groups))) (map Line lines) (stops_lines lines) given starts.0 [] 1 groups k (subst AreInline starts.1 all) is low
+    ∙ cut law s more (stop_if waits (suc (length groups))) (map Line lines) (stops_in-lines lines) given starts.0 [] 1 groups k (subst AreInline starts.1 all) is low
     (subst (λ l. AllByRecursion AreSpans (take (suc k) l)) (sym same) (subst (λ l. AllByRecursion AreSpans (take (suc k) (stretches l))) starts.1 spanned))

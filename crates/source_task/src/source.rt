@@ -1,5 +1,5 @@
 // The task of a source.
-ghost use Rattle.std.specs.Prelude.{◌≡◌, length};
+ghost use Rattle.std.specs.Prelude.{◌≡◌, [], length};
 ghost use Rattle.turn_cell.specs.Passes.{IsPassOf, seen};
 ghost use Rattle.record_writer.specs.Partitions.{IsPartitionOf, ArePassesOf};
 ghost use Rattle.snapshot_channel.specs.Passes as channels;
@@ -41,6 +41,7 @@ pub fn run_source<'a, 'p, S: Source, R: Wait>(
     ensures last_image { IsPassOf world.entry.acks.last_image.now result.passes.last_image }
     ensures waited { HasWaited (length (channels.sent_by result.passes.snapshots)) (seen result.passes.last_image) }
     ensures acks { result.acks ≡ length (channels.sent_by result.passes.snapshots) }
+    ensures takes { result.takes.items ≡ [] }
     ensures account { SourceAccount job.now index world.entry.partition.size every result.passes.partition.subpartitions.items (channels.sent_by result.passes.snapshots) (seen result.passes.last_image) (S.left input.old) (S.faults input.old) (S.faults input.new) result.cause }
     ensures stop { ToldStop world.entry.stop.now result.cause world.entry.stop_pass result.passes.stop }
 {

@@ -23,19 +23,20 @@ use Rattle.snapshot_channel.specs.declared.opened.SnapshotChannel.{SnapshotChann
 use Rattle.snapshot_channel.specs.Snapshots.{AreTakesAt, FitsTask, LeadsTo, ComesFrom, HaveOwnChannels, MaySend}
 use Rattle.snapshot_channel.specs.Passes.{opening_of, sent_by, task_of}
 use Rattle.task_taking.specs.Takings.{Taking, HasTaken, IsAtBarrier}
-use Rattle.task_taking.specs.Endings.{ResumedIsGiven}
+use Rattle.task_taking.specs.Endings.{EachTold, ResumedIsGiven}
 use Rattle.task_output.specs.declared.acks.Acks.{Acks}
 use Rattle.task_output.specs.Acking.{HasPasses, IsSameTask}
 use Rattle.task_output.specs.Looking.{HasSentNoMore}
 use Rattle.task_output.specs.Outputs.{Output, HasSent, count_behind}
 use Rattle.task_output.specs.Laws.{BarrierIsLeftAside}
+use Rattle.task_output.proofs.Begun.{begun_where}
 use Rattle.task_output.specs.Waiting.{LastIs, MayEnd, KnowsLast, HasWaited, WaitedStays}
 use Rattle.stage_task.specs.declared.checkpoints.StageOutput.{StageOutput}
 use Rattle.stage_task.specs.Snapshots.{IsSnapshotOf, IsSnapshotAt, AreSnapshots, all_applied}
 use Rattle.stage_task.specs.Stages.{StageAccount}
 use Rattle.stage_task.specs.Applying.{HasOwnPasses, HasApplied, IsMarked, HasAcknowledged}
 use Rattle.stage_task.proofs.Snapshots.{as_many, applied_more, snapshots_more}
-use Rattle.stage_task.proofs.Ends.{begun_so, ended_account, stopped_not_done, all_front_of}
+use Rattle.stage_task.proofs.Ends.{ended_account, stopped_not_done, all_front_of, told_behind}
 
 -- ---- a snapshot fits its task
 
@@ -120,7 +121,7 @@ unacknowledged aside resumed job e b size k every gate taking out sent history t
     ended_account job e b size every gate out sent history takes causes.Stopped at.groups at.took made []
     (resumed job e b gate taking at.groups at.took at.taken at.closed)
     at.snapshots at.takes_are
-    (begun_so ⊤ ⊥ (MayEnd every history at.groups at.took) (λ never. absurd never) job (suc e) b size out (all_applied job e at.groups) made [] (aside job (suc e) b size out (all_applied job e at.groups) made at.was))
+    (begun_where ⊤ (EachTold gate (suc (length at.groups))) ⊥ (MayEnd every history at.groups at.took) (λ mark. told_behind job e b gate taking at.groups at.took at.taken at.closed) (λ never. absurd never) job (suc e) b size out (all_applied job e at.groups) made [] (aside job (suc e) b size out (all_applied job e at.groups) made at.was))
     (all_front_of made)
     stopped_not_done tt
 

@@ -1,5 +1,5 @@
 -- Where a stage takes no more.
-use Rattle.std.proofs.Common.{◌≡◌, ◌≢◌, ◌⊎◌, ℕ, suc, ◌<◌, ◌+◌, false, cond, List, [], ◌∷◌, ◌++◌, length, Option, refl, sym, ap, subst, ◌∙◌, inl, inr, append-nil, append_assoc, arith}
+use Rattle.std.proofs.Common.{◌≡◌, ◌≢◌, ◌⊎◌, ℕ, suc, ◌<◌, ◌+◌, false, List, [], ◌∷◌, ◌++◌, length, Option, refl, sym, ap, subst, ◌∙◌, inl, inr, append-nil, append_assoc, length-append, arith}
 use Rattle.std.specs.Prelude.{⊤}
 use Rattle.std.proofs.lemmas.List.{length-map}
 use Rattle.turn_cell.specs.History.{StartsWith}
@@ -13,15 +13,16 @@ use Rattle.flow_defs.specs.declared.job.Job.{Job}
 use Rattle.plain_machine.specs.Emitting.{apply_behind}
 use Rattle.checkpoint_laws.specs.Chapters.{RunsTake, applied}
 use Rattle.outside.specs.declared.last_image.Stored.{Stored}
+use Rattle.barriers.specs.Alignments.{is_open}
 use Rattle.record_writer.specs.Writers.{SendPass, IsNextBarrier, HasSeenFault}
 use Rattle.input_gate.specs.Gates.{Account, AllOver, stops_in}
 use Rattle.snapshot_channel.specs.Passes.{sent_by}
 use Rattle.task_taking.specs.Steps.{IsTakerCause}
-use Rattle.task_taking.specs.Takings.{Taking, HasTaken, IsAtBarrier, AllBlocked}
+use Rattle.task_taking.specs.Takings.{Taking, HasTaken, IsAtBarrier, start_of, stop_if, told_of}
 use Rattle.task_output.specs.Waiting.{LastIs, MayEnd}
 use Rattle.task_output.proofs.Begun.{begun_where}
-use Rattle.task_taking.specs.Endings.{Gave, IsTakerEnd, TakenIsGiven, BarrierIsGiven}
-use Rattle.task_taking.proofs.Told.{none_at}
+use Rattle.task_taking.specs.Endings.{Gave, EachTold, IsTakerEnd, TakenIsGiven, BarrierIsGiven}
+use Rattle.task_taking.proofs.Told.{none_at, stops_told}
 use Rattle.task_output.specs.Outputs.{Output, HasSent, HasBegun, HasStopped, HasFinished}
 use Rattle.task_output.specs.Laws.{SentIsBegun, FinishedIsBegun}
 use Rattle.stage_task.specs.declared.checkpoints.StageOutput.{StageOutput}
@@ -34,14 +35,25 @@ use Rattle.stage_task.proofs.Records.{applied_line}
 abbrev none_took : List (ℕ × List ℕ)
 none_took = []
 
--- it may put a further barrier in any case, and may end its channels where that leads to what is so
-pub begun_so : (M E Q : Type 0) → (E → Q) → (job : Job) (e a size : ℕ) (out : Output) (groups : List (List (List ℕ))) (records begun : List (List ℕ)) → HasBegun job e a size out groups records begun M E → HasBegun job e a size out groups records begun ⊤ Q
-begun_so M E Q ends = begun_where M ⊤ E Q (λ mark. tt) ends
+-- at the barriers of a checkpoint, and behind them, the gate has told one behind each group
+module _ (job : Job) (e b : ℕ) (gate : Account) (t : Taking) (groups : List (List (ℕ × List ℕ))) (took : List (ℕ × List ℕ)) where
+  told_there : (c : ℕ) → gate.told c ≡ told_of (start_of job e b c) 1 (groups ++ took ∷ []) [] → stops_in (gate.told c) ≡ suc (length groups)
+  told_there c is =
+      ap stops_in is ∙ stops_told (start_of job e b c) 1 (groups ++ took ∷ []) ∙ length-append groups (took ∷ []) ∙ (let z : length groups + 1 ≡ suc (length groups) = omega arith in z)
+
+  all_told : IsAtBarrier job e b gate t groups took → EachTold gate (suc (length groups))
+  all_told at = λ c inside. told_there c (at.each c (subst (λ n. c < n) at.takes_for.channels inside))
+
+  pub told_behind : HasTaken job e b gate t (groups ++ took ∷ []) [] → is_open t.alignment ≡ false → EachTold gate (suc (length groups))
+  told_behind taken closed = λ c inside. told_there c (
+      taken.each c (subst (λ n. c < n) taken.takes_for.channels inside)
+      ∙ ap (λ w. told_of (start_of job e b c) 1 (groups ++ took ∷ []) [] ++ stop_if w (suc (length (groups ++ took ∷ [])))) (none_at t.alignment.gave c closed)
+      ∙ append-nil (told_of (start_of job e b c) 1 (groups ++ took ∷ []) []))
 
 -- what was begun is put
 pub ended_account : (job : Job) (e b size : ℕ) (every : Option ℕ) (gate : Account) (out : Output) (sent : List Snapshot) (history : List (ℕ × Stored)) (takes : List TakeRun) (cause : Cause)
     (groups : List (List (ℕ × List ℕ))) (rest : List (ℕ × List ℕ)) (records begun : List (List ℕ))
-    → Gave job e b gate groups rest → AreSnapshots job e b 0 0 groups sent → RunsTake job e b takes rest → HasBegun job (suc e) b size out (all_applied job e groups) records begun ⊤ (MayEnd every history groups rest)
+    → Gave job e b gate groups rest → AreSnapshots job e b 0 0 groups sent → RunsTake job e b takes rest → HasBegun job (suc e) b size out (all_applied job e groups) records begun (EachTold gate (suc (length groups))) (MayEnd every history groups rest)
     → StartsWith (applied job e rest) (records ++ begun) → cause ≢ causes.Done → IsTakerEnd every history gate groups rest cause
     → StageAccount job e b size every gate out.writer.passes sent history takes cause
 ended_account job e b size every gate out sent history takes cause groups rest records begun given snapshots takes_are begun_them front other cause_is = record {
@@ -135,7 +147,7 @@ module _ (out : StageOutput) where
     module _ (sent_law : SentIsBegun) (given_law : TakenIsGiven) (taken : HasTaken job out.edge out.index gate t' groups took) where
       still_ended : (cause : Cause) → cause ≢ causes.Done → IsTakerEnd out.every (seen out.acks.last_pass) gate groups took cause → Ended gate out.output t'.runs cause
       still_ended cause other is = ended_account job out.edge out.index size out.every gate out.output (sent_by out.acks.pass) (seen out.acks.last_pass) t'.runs cause groups took made [] (given_law job out.edge out.index gate t' groups took taken) was.snapshots taken.takes
-          (begun_so ⊥ ⊥ (MayEnd out.every (seen out.acks.last_pass) groups took) (λ never. absurd never) job (suc out.edge) out.index size out.output (all_applied job out.edge groups) made [] (sent_law job (suc out.edge) out.index size out.output (all_applied job out.edge groups) made was.sent)) (all_front_of made) other is
+          (begun_where ⊥ (EachTold gate (suc (length groups))) ⊥ (MayEnd out.every (seen out.acks.last_pass) groups took) (λ never. absurd never) (λ never. absurd never) job (suc out.edge) out.index size out.output (all_applied job out.edge groups) made [] (sent_law job (suc out.edge) out.index size out.output (all_applied job out.edge groups) made was.sent)) (all_front_of made) other is
 
       -- its gate gave nothing more
       pub gate_ended : (cause : Cause) → IsTakerCause gate cause → cause ≢ causes.Done → Ended gate out.output t'.runs cause
@@ -168,7 +180,7 @@ module _ (out : StageOutput) where
 
       pub line_ended : TakenIsGiven → (o : Output) (cause : Cause) → o.writer.size ≡ size → EndedAmong job (suc out.edge) out.index size o (all_applied job out.edge groups) made given cause → Ended gate o t'.runs cause
       line_ended given_law o cause same among = ended_account job out.edge out.index o.writer.size out.every gate o (sent_by out.acks.pass) (seen out.acks.last_pass) t'.runs cause groups more (made ++ among.done) among.begun (given_law job out.edge out.index gate t' groups more taken) was.snapshots taken.takes
-          (begun_so ⊥ ⊥ (MayEnd out.every (seen out.acks.last_pass) groups more) (λ never. absurd never) job (suc out.edge) out.index o.writer.size o (all_applied job out.edge groups) (made ++ among.done) among.begun (subst (λ n. HasBegun job (suc out.edge) out.index n o (all_applied job out.edge groups) (made ++ among.done) among.begun ⊥ ⊥) (sym same) among.begun_them))
+          (begun_where ⊥ (EachTold gate (suc (length groups))) ⊥ (MayEnd out.every (seen out.acks.last_pass) groups more) (λ never. absurd never) (λ never. absurd never) job (suc out.edge) out.index o.writer.size o (all_applied job out.edge groups) (made ++ among.done) among.begun (subst (λ n. HasBegun job (suc out.edge) out.index n o (all_applied job out.edge groups) (made ++ among.done) among.begun ⊥ ⊥) (sym same) among.begun_them))
           (among.rest, more_is ∙ ap (λ l. made ++ l) among.parts ∙ sym (append_assoc made among.done (among.begun ++ among.rest)) ∙ sym (append_assoc (made ++ among.done) among.begun among.rest))
           (λ is. elim among.cause_is [ inl full ↦ memory_not_done (sym full ∙ is) | inr stopped ↦ stopped_not_done (sym stopped.0 ∙ is) ])
           (elim among.cause_is [ inl full ↦ subst (IsTakerEnd out.every (seen out.acks.last_pass) gate groups more) (sym full) tt | inr stopped ↦ subst (IsTakerEnd out.every (seen out.acks.last_pass) gate groups more) (sym stopped.0) tt ])
@@ -188,14 +200,9 @@ module _ (out : StageOutput) where
 
       pub mark_ended : BarrierIsGiven → (o : Output) → o.writer.size ≡ size → HasStopped job (suc out.edge) out.index size o (all_applied job out.edge groups) made [] ⊤ ⊥ → Ended gate o t'.runs causes.Stopped
       mark_ended given_law o same stopped = ended_account job out.edge out.index o.writer.size out.every gate o (sent_by out.acks.pass) (seen out.acks.last_pass) t'.runs causes.Stopped groups took made [] (given_law job out.edge out.index gate t' groups took at) was.snapshots at.takes
-          (begun_so ⊤ ⊥ (MayEnd out.every (seen out.acks.last_pass) groups took) (λ never. absurd never) job (suc out.edge) out.index o.writer.size o (all_applied job out.edge groups) made [] (subst (λ n. HasBegun job (suc out.edge) out.index n o (all_applied job out.edge groups) made [] ⊤ ⊥) (sym same) stopped.begun_them)) (all_front_of made) stopped_not_done tt
+          (begun_where ⊤ (EachTold gate (suc (length groups))) ⊥ (MayEnd out.every (seen out.acks.last_pass) groups took) (λ mark. all_told job out.edge out.index gate t' groups took at) (λ never. absurd never) job (suc out.edge) out.index o.writer.size o (all_applied job out.edge groups) made [] (subst (λ n. HasBegun job (suc out.edge) out.index n o (all_applied job out.edge groups) made [] ⊤ ⊥) (sym same) stopped.begun_them)) (all_front_of made) stopped_not_done tt
 
 -- ---- behind the last checkpoint
-
--- each channel gave the barrier
-all_stops : (gate : Account) (t : Taking) (n : ℕ) → AllBlocked gate t → t.alignment.closed ≡ n → (c : ℕ) → c < gate.channels → stops_in (gate.told c) ≡ n
-all_stops gate t n blocked closed c inside =
-    blocked.counted.stops c (subst (λ m. c < m) blocked.counted.channels inside) ∙ ap (λ b. t.alignment.closed + cond b 1 0) (none_at t.alignment.gave c blocked.aligned) ∙ omega (arith, closed)
 
 module _ (before gate : Account) (t t' : Taking) (out : StageOutput) (behind : IsBehindLast before t out) where
   abbrev job_of : Job
@@ -208,22 +215,22 @@ module _ (before gate : Account) (t t' : Taking) (out : StageOutput) (behind : I
   pub line_behind : SentIsBegun → TakenIsGiven → (sender : ℕ) (line : List ℕ) → HasTaken job_of out.edge out.index gate t' behind.groups ((sender, line) ∷ []) → Ended out gate out.output t'.runs (causes.Peer peers.Barrier)
   line_behind sent_law given_law sender line taken = ended_account job_of out.edge out.index out.output.writer.size out.every gate out.output (sent_by out.acks.pass) (seen out.acks.last_pass) t'.runs (causes.Peer peers.Barrier) behind.groups ((sender, line) ∷ []) [] []
       (given_law job_of out.edge out.index gate t' behind.groups ((sender, line) ∷ []) taken) behind.applied_them.snapshots taken.takes
-      (begun_so ⊥ ⊥ (MayEnd out.every (seen out.acks.last_pass) behind.groups ((sender, line) ∷ [])) (λ never. absurd never) job_of (suc out.edge) out.index out.output.writer.size out.output (all_applied job_of out.edge behind.groups) [] [] (sent_law job_of (suc out.edge) out.index out.output.writer.size out.output (all_applied job_of out.edge behind.groups) [] behind.applied_them.sent)) (applied job_of out.edge ((sender, line) ∷ []), refl)
+      (begun_where ⊥ (EachTold gate (suc (length behind.groups))) ⊥ (MayEnd out.every (seen out.acks.last_pass) behind.groups ((sender, line) ∷ [])) (λ never. absurd never) (λ never. absurd never) job_of (suc out.edge) out.index out.output.writer.size out.output (all_applied job_of out.edge behind.groups) [] [] (sent_law job_of (suc out.edge) out.index out.output.writer.size out.output (all_applied job_of out.edge behind.groups) [] behind.applied_them.sent)) (applied job_of out.edge ((sender, line) ∷ []), refl)
       barrier_not_done (inr (inr (behind.last, inl (λ is. cc))))
 
   -- a barrier came on all channels
-  pub barrier_behind : SentIsBegun → BarrierIsGiven → IsAtBarrier job_of out.edge out.index gate t' behind.groups [] → AllBlocked gate t' → Ended out gate out.output t'.runs (causes.Peer peers.Barrier)
-  barrier_behind sent_law given_law at blocked = ended_account job_of out.edge out.index out.output.writer.size out.every gate out.output (sent_by out.acks.pass) (seen out.acks.last_pass) t'.runs (causes.Peer peers.Barrier) behind.groups [] [] []
+  pub barrier_behind : SentIsBegun → BarrierIsGiven → IsAtBarrier job_of out.edge out.index gate t' behind.groups [] → Ended out gate out.output t'.runs (causes.Peer peers.Barrier)
+  barrier_behind sent_law given_law at = ended_account job_of out.edge out.index out.output.writer.size out.every gate out.output (sent_by out.acks.pass) (seen out.acks.last_pass) t'.runs (causes.Peer peers.Barrier) behind.groups [] [] []
       (given_law job_of out.edge out.index gate t' behind.groups [] at) behind.applied_them.snapshots at.takes
-      (begun_so ⊥ ⊥ (MayEnd out.every (seen out.acks.last_pass) behind.groups none_took) (λ never. absurd never) job_of (suc out.edge) out.index out.output.writer.size out.output (all_applied job_of out.edge behind.groups) [] [] (sent_law job_of (suc out.edge) out.index out.output.writer.size out.output (all_applied job_of out.edge behind.groups) [] behind.applied_them.sent)) ([], refl)
-      barrier_not_done (inr (inr (behind.last, inr (all_stops gate t' (suc (length behind.groups)) blocked at.closed))))
+      (begun_where ⊥ (EachTold gate (suc (length behind.groups))) ⊥ (MayEnd out.every (seen out.acks.last_pass) behind.groups none_took) (λ never. absurd never) (λ never. absurd never) job_of (suc out.edge) out.index out.output.writer.size out.output (all_applied job_of out.edge behind.groups) [] [] (sent_law job_of (suc out.edge) out.index out.output.writer.size out.output (all_applied job_of out.edge behind.groups) [] behind.applied_them.sent)) ([], refl)
+      barrier_not_done (inr (inr (behind.last, inr (all_told job_of out.edge out.index gate t' behind.groups [] at))))
 
   -- all channels ended, and it ends its own
   module _ (given_law : TakenIsGiven) (taken : HasTaken job_of out.edge out.index gate t' behind.groups []) (o : Output) (same : o.writer.size ≡ out.output.writer.size) where
     pub finish_ended : HasStopped job_of (suc out.edge) out.index out.output.writer.size o (all_applied job_of out.edge behind.groups) [] [] ⊥ ⊤ → Ended out gate o t'.runs causes.Stopped
     finish_ended stopped = ended_account job_of out.edge out.index o.writer.size out.every gate o (sent_by out.acks.pass) (seen out.acks.last_pass) t'.runs causes.Stopped behind.groups [] [] []
         (given_law job_of out.edge out.index gate t' behind.groups [] taken) behind.applied_them.snapshots taken.takes
-        (begun_so ⊥ ⊤ (MayEnd out.every (seen out.acks.last_pass) behind.groups none_took) (λ all. (behind.last, refl)) job_of (suc out.edge) out.index o.writer.size o (all_applied job_of out.edge behind.groups) [] [] (subst (λ n. HasBegun job_of (suc out.edge) out.index n o (all_applied job_of out.edge behind.groups) [] [] ⊥ ⊤) (sym same) stopped.begun_them)) ([], refl) stopped_not_done tt
+        (begun_where ⊥ (EachTold gate (suc (length behind.groups))) ⊤ (MayEnd out.every (seen out.acks.last_pass) behind.groups none_took) (λ never. absurd never) (λ all. (behind.last, refl)) job_of (suc out.edge) out.index o.writer.size o (all_applied job_of out.edge behind.groups) [] [] (subst (λ n. HasBegun job_of (suc out.edge) out.index n o (all_applied job_of out.edge behind.groups) [] [] ⊥ ⊤) (sym same) stopped.begun_them)) ([], refl) stopped_not_done tt
 
     pub finished : FinishedIsBegun → AllOver gate → HasFinished job_of (suc out.edge) out.index out.output.writer.size o (all_applied job_of out.edge behind.groups) [] → Ended out gate o t'.runs causes.Done
     finished law over has =
@@ -236,7 +243,7 @@ module _ (before gate : Account) (t t' : Taking) (out : StageOutput) (behind : I
           snapshots = behind.applied_them.snapshots;
           takes_are = taken.takes;
           front = ([], refl);
-          put = (begun_so ⊥ ⊤ (MayEnd out.every (seen out.acks.last_pass) behind.groups none_took) (λ all. (behind.last, refl)) job_of (suc out.edge) out.index o.writer.size o (all_applied job_of out.edge behind.groups) [] [] (law job_of (suc out.edge) out.index o.writer.size o (all_applied job_of out.edge behind.groups) [] all)).each;
+          put = (begun_where ⊥ (EachTold gate (suc (length behind.groups))) ⊤ (MayEnd out.every (seen out.acks.last_pass) behind.groups none_took) (λ never. absurd never) (λ all. (behind.last, refl)) job_of (suc out.edge) out.index o.writer.size o (all_applied job_of out.edge behind.groups) [] [] (law job_of (suc out.edge) out.index o.writer.size o (all_applied job_of out.edge behind.groups) [] all)).each;
           done = λ is. (refl, all.each);
           cause_is = (over, refl, behind.last);
         }

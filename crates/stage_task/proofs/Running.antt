@@ -1,6 +1,5 @@
 -- How the task of a stage begins and ends.
 use Rattle.std.proofs.Common.{◌≡◌, ◌≢◌, Bor, ℕ, zero, suc, ◌+◌, ◌⊎◌, false, List, [], ◌∷◌, ◌++◌, length, Option, refl, sym, ap, subst, ◌∙◌, inl, inr, arith}
-use Rattle.std.specs.Prelude.{⊤}
 use Rattle.turn_cell.specs.History.{StartsWith}
 use Rattle.turn_cell.specs.Passes.{IsPassOf, IsSamePass, seen}
 use Rattle.flow_defs.specs.declared.cause.Cause.{Cause}
@@ -22,7 +21,7 @@ use Rattle.input_gate.specs.Gates as gates
 use Rattle.input_gate.specs.Gates.{Account}
 use Rattle.snapshot_channel.specs.declared.opened.TaskPass.{TaskPass}
 use Rattle.snapshot_channel.specs.Passes.{opening_of, sent_by}
-use Rattle.task_taking.specs.Endings.{IsTakerEnd}
+use Rattle.task_taking.specs.Endings.{EachTold, IsTakerEnd}
 use Rattle.task_taking.specs.Takings.{Taking, HasTaken, untaken}
 use Rattle.task_output.specs.declared.acks.Acks.{Acks}
 use Rattle.task_output.specs.Acking.{HasPasses}
@@ -82,7 +81,7 @@ unbegun job e b size every gate passes sent history takes new none_put none_sent
   snapshots = subst (AreSnapshots job e b 0 0 []) (sym none_sent) tt;
   takes_are = subst (λ (l : List TakeRun). RunsTake job e b l []) (sym none_taken) (record { senders_are = refl; are_runs = tt; short = tt });
   front = ([], refl);
-  put = λ c inside. subst (BegunOn (receiver_on job (suc e) b) [] (end_of job (suc e) b c) size [] ⊤ (MayEnd every history no_groups none_took)) (sym (none_at passes c none_put)) (record {
+  put = λ c inside. subst (BegunOn (receiver_on job (suc e) b) [] (end_of job (suc e) b c) size [] (EachTold gate (suc (length no_groups))) (MayEnd every history no_groups none_took)) (sym (none_at passes c none_put)) (record {
     more = [] ∷ [];
     cut = refl;
     few = inl (omega arith);

@@ -1,6 +1,6 @@
 -- What the task of a stateless stage did. As in Flink it emits what its function gives for each record that it takes, and acknowledges each
 -- checkpoint. That it tells so whatever its cause is this project's own choice.
-use Rattle.std.specs.Prelude.{◌≡◌, ℕ, suc, ◌<◌, ⊤, List, [], Option}
+use Rattle.std.specs.Prelude.{◌≡◌, ℕ, suc, ◌<◌, List, [], length, Option}
 use Rattle.turn_cell.specs.History.{StartsWith}
 use Rattle.flow_defs.specs.declared.cause.Cause.{Cause}
 use Rattle.flow_defs.specs.declared.cause.Cause.TheVariants as causes
@@ -14,7 +14,7 @@ use Rattle.outside.specs.declared.last_image.Stored.{Stored}
 use Rattle.conn_parts.specs.Shares.{mine_at}
 use Rattle.record_writer.specs.Writers.{SendPass, ways_on, ways_into}
 use Rattle.input_gate.specs.Gates.{Account, IsNew}
-use Rattle.task_taking.specs.Endings.{Gave, IsTakerEnd}
+use Rattle.task_taking.specs.Endings.{Gave, EachTold, IsTakerEnd}
 use Rattle.task_output.specs.Outputs.{BegunOn, FinishedOn, end_of}
 use Rattle.task_output.specs.Waiting.{MayEnd}
 use Rattle.stage_task.specs.Snapshots.{AreSnapshots, all_applied}
@@ -24,7 +24,8 @@ use Rattle.stage_task.specs.Snapshots.{AreSnapshots, all_applied}
 -- What task b behind edge e did by its gate and its passes: it took these groups of records and sent a snapshot for each, and then took
 -- the rest, of which the runs tell. It put what its stage gives for each group before a barrier, and behind the last one what it gives for
 -- the rest, from the first record on. It was done only where it had acknowledged the last checkpoint, and then ended its channels. Whatever
--- its cause, it put at most one barrier more than it sent snapshots, and an end only behind the barrier of the last checkpoint.
+-- its cause, it put at most one barrier more than it sent snapshots, and that one only where each channel of its gate had told it; and an end
+-- only behind the barrier of the last checkpoint.
 pub record StageAccount (job : Job) (e b size : ℕ) (every : Option ℕ) (gate : Account) (passes : List SendPass) (sent : List Snapshot) (history : List (ℕ × Stored)) (takes : List TakeRun) (cause : Cause) : Type 0 where
   pub groups : List (List (ℕ × List ℕ))
   pub rest : List (ℕ × List ℕ)
@@ -33,7 +34,7 @@ pub record StageAccount (job : Job) (e b size : ℕ) (every : Option ℕ) (gate 
   pub snapshots : AreSnapshots job e b 0 0 groups sent
   pub takes_are : RunsTake job e b takes rest
   pub front : StartsWith (applied job e rest) more
-  pub put : (c : ℕ) → c < ways_on job (suc e) → BegunOn (receiver_on job (suc e) b) (all_applied job e groups) (end_of job (suc e) b c) size more ⊤ (MayEnd every history groups rest) (mine_at c passes)
+  pub put : (c : ℕ) → c < ways_on job (suc e) → BegunOn (receiver_on job (suc e) b) (all_applied job e groups) (end_of job (suc e) b c) size more (EachTold gate (suc (length groups))) (MayEnd every history groups rest) (mine_at c passes)
   pub done : cause ≡ causes.Done → (rest ≡ []) × ((c : ℕ) → c < ways_on job (suc e) → FinishedOn (receiver_on job (suc e) b) (all_applied job e groups) (end_of job (suc e) b c) size [] (mine_at c passes))
   pub cause_is : IsTakerEnd every history gate groups rest cause
 

@@ -9,8 +9,9 @@ use Rattle.barriers.specs.declared.aligner.Action.TheVariants.{Block, SnapshotIn
 use Rattle.barriers.specs.Alignments.{Alignment, AddsBarrier, Answers, MayGive, barrier, given_by, unaligned}
 use Rattle.input_gate.specs.Gates.{Account, IsNew, stops_in, IsFree, GaveNothing, GaveOf}
 use Rattle.input_gate.specs.Gates.Told.{Line, Stop}
+use Rattle.input_gate.proofs.Growing.{stops_in-append}
 use Rattle.task_taking.specs.Takings.{Taking, IsSame, AreCounted, IsInStep, AllBlocked, ResumedAll}
-use Rattle.task_taking.proofs.Told.{stops-append, none_at}
+use Rattle.task_taking.proofs.Told.{none_at}
 
 none_given : (n : ℕ) (g : Bool) → n + cond g 1 0 ≡ n → g ≡ false
 none_given n false is = refl
@@ -62,7 +63,7 @@ module _ (before after : Account) (t t' : Taking) (channels : after.channels ≡
   pub step_line : (c : ℕ) (line : List ℕ) → GaveOf before after c (Line line ∷ []) [] → t'.alignment ≡ t.alignment → IsInStep before t → IsInStep after t'
   step_line c line gave = step_same
       (λ d. dite (ℕ_discrete d c)
-      (λ here. ap (λ x. stops_in (after.told x)) here ∙ ap stops_in gave.told_here ∙ stops-append (before.told c) (Line line ∷ []) ∙ (let z : stops_in (before.told c) + 0 ≡ stops_in (before.told c) = omega arith in z) ∙ ap (λ x. stops_in (before.told x)) (sym here))
+      (λ here. ap (λ x. stops_in (after.told x)) here ∙ ap stops_in gave.told_here ∙ stops_in-append (before.told c) (Line line ∷ []) ∙ (let z : stops_in (before.told c) + 0 ≡ stops_in (before.told c) = omega arith in z) ∙ ap (λ x. stops_in (before.told x)) (sym here))
       (λ other. ap stops_in (gave.told_elsewhere d other)))
       (λ d. dite (ℕ_discrete d c)
       (λ here. ap (λ x. length (after.barriers x)) here ∙ ap length (gave.barriers_here ∙ append-nil (before.barriers c)) ∙ ap (λ x. length (before.barriers x)) (sym here))
@@ -112,7 +113,7 @@ module _ (before after : Account) (t t' : Taking) (channels : after.channels ≡
     channels = channels ∙ was.counted.channels ∙ sym same.channels;
     width = adds.channels ∙ was.counted.width ∙ sym same.channels;
     stops = λ d low. dite (ℕ_discrete d c)
-        (λ here. ap (λ x. stops_in (after.told x)) here ∙ ap stops_in gave.told_here ∙ stops-append (before.told c) (Stop k ∷ []) ∙ (let old = was.counted.stops c low_here in let new = given_here in omega (arith, old, new)) ∙ ap (λ x. given_by t'.alignment x) (sym here))
+        (λ here. ap (λ x. stops_in (after.told x)) here ∙ ap stops_in gave.told_here ∙ stops_in-append (before.told c) (Stop k ∷ []) ∙ (let old = was.counted.stops c low_here in let new = given_here in omega (arith, old, new)) ∙ ap (λ x. given_by t'.alignment x) (sym here))
         (λ other. ap stops_in (gave.told_elsewhere d other) ∙ was.counted.stops d (at_old_of d low) ∙ sym (given_elsewhere d (at_old_of d low) other));
     barriers = λ d low. dite (ℕ_discrete d c)
         (λ here. ap (λ x. length (after.barriers x)) here ∙ ap length gave.barriers_here ∙ length-append (before.barriers c) ((k, Inline) ∷ []) ∙ (let old = was.counted.barriers c low_here in let new = given_here in omega (arith, old, new)) ∙ ap (λ x. given_by t'.alignment x) (sym here))

@@ -17,8 +17,8 @@ use Rattle.input_gate.specs.Gates.{stops_in, GaveItem, Resumed, IsNew}
 use Rattle.input_gate.specs.Gates.Told.{Line, Stop}
 use Rattle.input_gate.specs.declared.gate.GateItem.{GateItem}
 use Rattle.input_gate.specs.declared.gate.GateItem.TheVariants as items
+use Rattle.input_gate.proofs.Growing.{stops_in-append}
 use Rattle.task_taking.specs.Samples.{told_by, barriers_by, resumed_by, account_of}
-use Rattle.task_taking.proofs.Told.{stops-append}
 
 told-append : (given more : List GateItem) (c : ℕ) → told_by (given ++ more) c ≡ told_by given c ++ told_by more c
 told-append [] more c = refl
@@ -122,7 +122,7 @@ pub counted_more : (given : List GateItem) (i c n w : ℕ) (x : GateItem) → i 
 counted_more given i c n w x within is old one =
     ap (λ m. m + w) old ∙ ap (λ m. stops_in (told_by (take i given) c) + m) one
     ∙ sym (ap (λ l. stops_in (told_by l c)) (take_more given i x within) ∙ ap (λ (y : GateItem). stops_in (told_by (take i given ++ y ∷ []) c)) (sym is)
-    ∙ ap stops_in (told-append (take i given) (x ∷ []) c) ∙ stops-append (told_by (take i given) c) (told_by (x ∷ []) c))
+    ∙ ap stops_in (told-append (take i given) (x ∷ []) c) ∙ stops_in-append (told_by (take i given) c) (told_by (x ∷ []) c))
 
 pub first_free : (first second n s c : ℕ) → c ≡ 0 → n ≡ s → n ≡ first → (c < 2) × (s ≡ resumed_by first second c)
 first_free first second n s c none is all = (omega (arith, none), sym is ∙ all ∙ sym (ap (resumed_by first second) none))

@@ -1,21 +1,15 @@
 -- What a gate tells, as more is taken.
-use Rattle.std.proofs.Common.{◌≡◌, ℕ, zero, suc, ◌+◌, Bool, true, false, cond, eqb, List, [], ◌∷◌, ◌++◌, length, refl, sym, ap, ◌∙◌, append_assoc, eq-eqb, ne_eqb, arith}
+use Rattle.std.proofs.Common.{◌≡◌, ℕ, zero, suc, ◌+◌, Bool, true, false, cond, List, [], ◌∷◌, ◌++◌, length, refl, sym, ap, ◌∙◌, append_assoc, eq-eqb, ne_eqb, arith}
 use Rattle.std.specs.Prelude.{map}
 use Rattle.std.specs.List.{list_any}
 use Rattle.std.proofs.Common.{get_or}
 use Rattle.std.proofs.lemmas.List.{map-append}
 use Rattle.plain_machine.specs.Histories.{of_sender}
-use Rattle.input_gate.specs.Gates.{Told, stops_in}
+use Rattle.checkpoint_laws.proofs.Lists.{of_sender-append}
+use Rattle.input_gate.specs.Gates.{stops_in}
 use Rattle.input_gate.specs.Gates.Told.{Line, Stop}
+use Rattle.input_gate.proofs.Growing.{stops_in-append, stops_in-lines}
 use Rattle.task_taking.specs.Takings.{lines_of, told_of}
-
-of_sender-append : (a : ℕ) (xs ys : List (ℕ × List ℕ)) → of_sender a (xs ++ ys) ≡ of_sender a xs ++ of_sender a ys
-of_sender-append a [] ys = refl
-of_sender-append a (t ∷ xs) ys =
-    elim (eqb t.0 a) as (λ b. cond b (t.1 ∷ of_sender a (xs ++ ys)) (of_sender a (xs ++ ys)) ≡ cond b (t.1 ∷ of_sender a xs) (of_sender a xs) ++ of_sender a ys) [
-      | true ↦ ap (λ l. t.1 ∷ l) (of_sender-append a xs ys)
-      | false ↦ of_sender-append a xs ys
-    ]
 
 pub one-of : (a c : ℕ) (r : List ℕ) → c ≡ a → of_sender a ((c, r) ∷ []) ≡ r ∷ []
 one-of a c r same = ap (λ t. cond t (r ∷ []) []) (eq-eqb c a same)
@@ -23,10 +17,11 @@ one-of a c r same = ap (λ t. cond t (r ∷ []) []) (eq-eqb c a same)
 pub none-of : (a c : ℕ) (r : List ℕ) → (c ≡ a → ⊥) → of_sender a ((c, r) ∷ []) ≡ []
 none-of a c r other = ap (λ t. cond t (r ∷ []) []) (ne_eqb c a other)
 
-pub stops-append : (xs ys : List Told) → stops_in (xs ++ ys) ≡ stops_in xs + stops_in ys
-stops-append [] ys = let z : stops_in ys ≡ 0 + stops_in ys = omega arith in z
-stops-append (Line line ∷ xs) ys = stops-append xs ys
-stops-append (Stop k ∷ xs) ys = omega (arith, stops-append xs ys)
+-- a barrier is told behind each group
+pub stops_told : (s k : ℕ) (groups : List (List (ℕ × List ℕ))) → stops_in (told_of s k groups []) ≡ length groups
+stops_told s k [] = refl
+stops_told s k (group ∷ groups) =
+    omega (arith, stops_in-append (lines_of s group) (Stop k ∷ told_of s (suc k) groups []), stops_in-lines (of_sender s group), stops_told s (suc k) groups)
 
 -- more records are taken
 pub told-more : (s k : ℕ) (groups : List (List (ℕ × List ℕ))) (took more : List (ℕ × List ℕ)) → told_of s k groups (took ++ more) ≡ told_of s k groups took ++ lines_of s more

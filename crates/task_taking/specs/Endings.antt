@@ -1,6 +1,6 @@
 -- How a task that takes ends, and what its gate told it up to there. As in Flink a task goes on until all its channels have ended. That it
 -- ends only behind the last checkpoint of the job, which it has acknowledged, is this project's own choice.
-use Rattle.std.specs.Prelude.{◌≡◌, ◌≢◌, ℕ, zero, suc, ◌<◌, ◌⊎◌, ⊤, Bool, true, false, List, [], ◌∷◌, ◌++◌, length, Option}
+use Rattle.std.specs.Prelude.{◌≡◌, ◌≢◌, ℕ, suc, ◌<◌, ◌⊎◌, ⊤, Bool, true, false, List, [], ◌∷◌, ◌++◌, length, Option}
 use Rattle.flow_defs.specs.declared.cause.Cause.{Cause}
 use Rattle.flow_defs.specs.declared.cause.Cause.TheVariants as causes
 use Rattle.flow_defs.specs.declared.cause.PeerFault.TheVariants as peers
@@ -39,13 +39,17 @@ ResumedIsGiven =
     (job : Job) (e b : ℕ) (gate : Account) (t : Taking) (groups : List (List (ℕ × List ℕ))) (took : List (ℕ × List ℕ)) →
     HasTaken job e b gate t (groups ++ took ∷ []) [] → is_open t.alignment ≡ false → Gave job e b gate groups took
 
+-- Each channel of the gate told so many barriers.
+abbrev pub EachTold : Account → ℕ → Type 0
+EachTold gate n = (c : ℕ) → c < gate.channels → stops_in (gate.told c) ≡ n
+
 -- ---- why it ends
 
 -- All channels ended before it had acknowledged the last checkpoint, or a line or a barrier came after it had.
 abbrev pub BreaksOrder : Option ℕ → List (ℕ × Stored) → Account → List (List (ℕ × List ℕ)) → List (ℕ × List ℕ) → Type 0
 BreaksOrder every history gate groups rest =
     (LastIs every history (length groups) false × AllOver gate)
-    ⊎ (LastIs every history (length groups) true × ((rest ≢ []) ⊎ ((c : ℕ) → c < gate.channels → stops_in (gate.told c) ≡ suc (length groups))))
+    ⊎ (LastIs every history (length groups) true × ((rest ≢ []) ⊎ EachTold gate (suc (length groups))))
 
 -- Where it acknowledged a checkpoint behind each of these groups and took the rest, it ends so only for these reasons.
 abbrev pub IsTakerEnd : Option ℕ → List (ℕ × Stored) → Account → List (List (ℕ × List ℕ)) → List (ℕ × List ℕ) → Cause → Type 0

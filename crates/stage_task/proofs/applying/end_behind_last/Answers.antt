@@ -3,7 +3,7 @@ use Rattle.flow_defs.specs.declared.cause.Cause.TheVariants as causes
 use Rattle.flow_defs.specs.declared.cause.PeerFault.TheVariants as peers
 use Rattle.snapshot_channel.specs.Passes.{sent_by}
 use Rattle.turn_cell.specs.Passes.{seen}
-use Rattle.task_taking.specs.Steps.{TookNext, TakingGoesOn}
+use Rattle.task_taking.specs.Steps.{TookNext}
 use Rattle.task_taking.specs.declared.taking.Taken.{Taken}
 use Rattle.stage_task.specs.Snapshots.{all_applied}
 use Rattle.stage_task.proofs.Ends.{finished, finish_ended, line_behind, barrier_behind, ended_behind, named}
@@ -60,9 +60,8 @@ returns-in-Ok-Checkpoint-clause-ended g c =
     let gate = g.G.Gate.account c.next.new.gate in
     let t = c.next.new.self in
     let took = subst (λ (x : Taken). TookNext out.job.now out.edge out.index gate t behind.groups [] (Ok x)) c.in-Ok-Checkpoint.field-0-is (c.in-Ok-Checkpoint.ensures.took out.job.now out.edge out.index behind.groups [] behind.applied_them.taken) in
-    let goes = subst (λ (x : Taken). TakingGoesOn gate c.args.taking t (Ok x)) c.in-Ok-Checkpoint.field-0-is c.in-Ok-Checkpoint.ensures.goes_on in
     named out.job.now out.edge out.index out.output.writer.size out.every gate out.output.writer.passes (sent_by out.acks.pass) (seen out.acks.last_pass) t.runs c.end_of-in-Ok-Checkpoint.result.takes.items (causes.Peer peers.Barrier) c.end_of-in-Ok-Checkpoint.result.cause c.end_of-in-Ok-Checkpoint.ensures.0 c.end_of-in-Ok-Checkpoint.ensures.1
-    (barrier_behind before gate c.args.taking t out behind c.what_was_sent_was_begun.ensures.sent c.what_was_taken_was_given.ensures.at_barrier took.0 goes.0)
+    (barrier_behind before gate c.args.taking t out behind c.what_was_sent_was_begun.ensures.sent c.what_was_taken_was_given.ensures.at_barrier took.0)
 
 pub returns-clause-ended : goal.returns-clause-ended
 returns-clause-ended g c =

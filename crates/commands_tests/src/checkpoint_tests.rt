@@ -1,10 +1,11 @@
 // The images that runs leave with a keeper.
 use crate::inspect_tests::{LAST, SHOWN};
-use crate::tests::{Left, files, left_over};
+use crate::tests::{Left, compare, files, left_over};
 use channel_state::read_image;
 use flow_defs::{Image, ListOf};
 use outside::{Kept, MemoryKeeper};
 use std::alloc::{AllocError, Global};
+use std::process::Abort;
 use std::sync::Wait;
 use std::test::Fail;
 use std::thread::Threads;
@@ -36,25 +37,65 @@ fn left_by<R: Threads + Wait + Sync>(
     left_over(rt, alloc, command, files, keeper, 10_000, 100)
 }
 
+// Does a command over a job and a source, and compares what it leaves.
+fn leaves<R: Threads + Wait + Sync + Abort>(
+    rt: &R,
+    alloc: Global,
+    command: &str,
+    job: &str,
+    first: &str,
+    keeper: &mut MemoryKeeper,
+    status: u8,
+    out: &str,
+    err: &str,
+) -> Result<(), AllocError> {
+    let left = left_by(rt, alloc, command, job, first, "", keeper)?;
+    compare(rt, &left, status, out.as_bytes(), err.as_bytes(), command);
+    Ok(())
+}
+
+// The keeper holds image 1, which is the last one.
+fn holds_last<R: Abort>(rt: &R, kept: &[Kept]) {
+    assert_eq!(rt; kept.len(), 1);
+    for one in kept {
+        assert_eq!(rt; one.number, 1);
+        assert_eq!(rt; one.bytes.as_slice(), LAST);
+    }
+}
+
+const TALLY: &str = "a\t2\nb\t1\n";
+
 #[test]
 fn a_run_keeps_the_image_of_the_formats_page(rt: HostRuntime) -> Result<(), Fail> {
     let alloc = rt.alloc();
     let mut keeper = empty_keeper(alloc, 0)?;
-    let left = left_by(&rt, alloc, "run job", COUNT, "a\nb\na\n", "", &mut keeper)?;
-    assert_eq!(rt; left.status, 0);
-    assert_eq!(rt; left.out.bytes(), b"a\t2\nb\t1\n".as_slice());
-    assert_eq!(rt; keeper.images().len(), 1);
-    for kept in keeper.images() {
-        assert_eq!(rt; kept.number, 1);
-        assert_eq!(rt; kept.bytes.as_slice(), LAST);
-    }
-    let left = left_by(&rt, alloc, "inspect", COUNT, "", "", &mut keeper)?;
-    assert_eq!(rt; left.status, 0);
-    assert_eq!(rt; left.out.bytes(), SHOWN.as_bytes());
-    let left = left_by(&rt, alloc, "run job", COUNT, "c\n", "", &mut keeper)?;
-    assert_eq!(rt; left.status, 8);
-    assert_eq!(rt; left.err.bytes(), b"keeper holds image 1\n".as_slice());
-    assert_eq!(rt; keeper.images().len(), 1);
+    let lines = "a\nb\na\n";
+    leaves(
+        &rt,
+        alloc,
+        "run job",
+        COUNT,
+        lines,
+        &mut keeper,
+        0,
+        TALLY,
+        "",
+    )?;
+    holds_last(&rt, keeper.images());
+    leaves(&rt, alloc, "inspect", COUNT, "", &mut keeper, 0, SHOWN, "")?;
+    let told = "keeper holds image 1\n";
+    leaves(
+        &rt,
+        alloc,
+        "run job",
+        COUNT,
+        "c\n",
+        &mut keeper,
+        8,
+        "",
+        told,
+    )?;
+    holds_last(&rt, keeper.images());
     Ok(())
 }
 
@@ -69,30 +110,50 @@ fn each_aggregate_task_has_its_table(rt: HostRuntime) -> Result<(), Fail> {
     let alloc = rt.alloc();
     let mut keeper = empty_keeper(alloc, 0)?;
     let job = "source in\naggregate count 2\n";
-    let left = left_by(&rt, alloc, "run job", job, "a\nb\na\n", "", &mut keeper)?;
-    assert_eq!(rt; left.status, 0);
+    leaves(
+        &rt,
+        alloc,
+        "run job",
+        job,
+        "a\nb\na\n",
+        &mut keeper,
+        0,
+        TALLY,
+        "",
+    )?;
     let left = left_by(&rt, alloc, "inspect", job, "", "", &mut keeper)?;
-    assert!(rt; has_line(left.out.bytes(), "table 0 keys 1"));
-    assert!(rt; has_line(left.out.bytes(), "table 1 keys 1"));
+    for line in ["table 0 keys 1", "table 1 keys 1"] {
+        assert!(rt; has_line(left.out.bytes(), line), "{line}");
+    }
     Ok(())
 }
 
-// In each row: which put of the keeper fails, the status and line that are then told, and how many images it has.
+// In each row: which put of the keeper fails, what is then left, and how many images the keeper has.
+const PUTS: &[(u64, u8, &str, &str, usize)] = &[
+    (0, 0, TALLY, "", 3),
+    (1, 5, "", "keeper fault\n", 0),
+    (2, 5, "", "keeper fault\n", 1),
+    (3, 5, "", "keeper fault\n", 2),
+];
+
 #[test]
 fn a_put_that_fails_ends_the_run(rt: HostRuntime) -> Result<(), Fail> {
     let alloc = rt.alloc();
-    for (failing, status, told, images) in [
-        (0, 0, "", 3),
-        (1, 5, "keeper fault\n", 0),
-        (2, 5, "keeper fault\n", 1),
-        (3, 5, "keeper fault\n", 2),
-    ] {
-        let mut keeper = empty_keeper(alloc, failing)?;
+    for (failing, status, out, err, images) in PUTS {
+        let mut keeper = empty_keeper(alloc, *failing)?;
         let words = "run job --every 2";
-        let left = left_by(&rt, alloc, words, COUNT, "a\nb\na\n", "", &mut keeper)?;
-        assert_eq!(rt; left.status, status);
-        assert_eq!(rt; left.err.bytes(), told.as_bytes());
-        assert_eq!(rt; keeper.images().len(), images);
+        leaves(
+            &rt,
+            alloc,
+            words,
+            COUNT,
+            "a\nb\na\n",
+            &mut keeper,
+            *status,
+            out,
+            err,
+        )?;
+        assert_eq!(rt; keeper.images().len(), *images, "put {failing} fails");
     }
     Ok(())
 }
@@ -109,69 +170,74 @@ fn images_of(alloc: Global, kept: &[Kept]) -> Result<ListOf<Image>, Fail> {
     Ok(images)
 }
 
+// The command, the job and its sources; and of each image the sources' offsets and whether they are ended.
+const APART: &[(&str, &str, &str, &str, &[[u64; 2]], &[[bool; 2]])] = &[
+    ("run job", COUNT, "", "", &[[0, 0]], &[[true, true]]),
+    (
+        "run job --every 5",
+        COUNT,
+        "",
+        "",
+        &[[0, 0], [0, 0]],
+        &[[true, true], [true, true]],
+    ),
+    (
+        "run job --every 2 --mode inline",
+        TWO,
+        "a\nb\nc\nd\n",
+        "e\n",
+        &[[2, 1], [4, 1], [4, 1], [4, 1]],
+        &[[false, true], [false, true], [true, true], [true, true]],
+    ),
+    (
+        "run job",
+        TWO,
+        "a\nb\nc\nd\n",
+        "e",
+        &[[4, 1]],
+        &[[true, true]],
+    ),
+];
+
+// The image has this number, these offsets and ended sources, and nothing in flight.
+fn is_taken_in_line<R: Abort>(
+    rt: &R,
+    image: &Image,
+    number: u64,
+    offsets: &[u64; 2],
+    ended: &[bool; 2],
+    command: &str,
+) {
+    assert_eq!(rt; image.number, number, "{command}");
+    for (have, want) in image.offsets.as_slice().iter().zip(offsets) {
+        assert_eq!(rt; have, want, "{command}");
+    }
+    for (have, want) in image.ended.as_slice().iter().zip(ended) {
+        assert_eq!(rt; have, want, "{command}");
+    }
+    for bytes in image.saved_in.as_slice() {
+        assert_eq!(rt; bytes.as_slice(), b"".as_slice(), "{command}");
+    }
+    for bytes in image.saved_out.as_slice() {
+        assert_eq!(rt; bytes.as_slice(), b"".as_slice(), "{command}");
+    }
+}
+
 #[test]
 fn checkpoints_stand_so_many_lines_apart(rt: HostRuntime) -> Result<(), Fail> {
     let alloc = rt.alloc();
-    for (command, job, first, second, offsets, ended) in [
-        (
-            "run job",
-            COUNT,
-            "",
-            "",
-            [[0, 0]].as_slice(),
-            [[true, true]].as_slice(),
-        ),
-        (
-            "run job --every 5",
-            COUNT,
-            "",
-            "",
-            &[[0, 0], [0, 0]],
-            &[[true, true], [true, true]],
-        ),
-        (
-            "run job --every 2 --mode inline",
-            TWO,
-            "a\nb\nc\nd\n",
-            "e\n",
-            &[[2, 1], [4, 1], [4, 1], [4, 1]],
-            &[[false, true], [false, true], [true, true], [true, true]],
-        ),
-        (
-            "run job",
-            TWO,
-            "a\nb\nc\nd\n",
-            "e",
-            &[[4, 1]],
-            &[[true, true]],
-        ),
-    ] {
+    for (command, job, first, second, offsets, ended) in APART {
         let mut keeper = empty_keeper(alloc, 0)?;
         let left = left_by(&rt, alloc, command, job, first, second, &mut keeper)?;
         assert_eq!(rt; left.status, 0, "{command}");
         let images = images_of(alloc, keeper.images())?;
         assert_eq!(rt; images.as_slice().len(), offsets.len(), "{command}");
         let mut number: u64 = 0;
-        for (image, (offsets, ended)) in images.as_slice().iter().zip(offsets.iter().zip(ended)) {
+        for (image, (offsets, ended)) in images.as_slice().iter().zip(offsets.iter().zip(*ended)) {
             number = number.saturating_add(1);
-            assert_eq!(rt; image.number, number, "{command}");
-            for (have, want) in image.offsets.as_slice().iter().zip(offsets) {
-                assert_eq!(rt; have, want, "{command}");
-            }
-            for (have, want) in image.ended.as_slice().iter().zip(ended) {
-                assert_eq!(rt; have, want, "{command}");
-            }
-            assert_eq!(rt;
-                image.final_one,
-                number == keeper.images().len() as u64,
-                "{command}"
-            );
-            for bytes in image.saved_in.as_slice() {
-                assert_eq!(rt; bytes.as_slice(), b"".as_slice(), "{command}");
-            }
-            for bytes in image.saved_out.as_slice() {
-                assert_eq!(rt; bytes.as_slice(), b"".as_slice(), "{command}");
-            }
+            is_taken_in_line(&rt, image, number, offsets, ended, command);
+            let last = number == keeper.images().len() as u64;
+            assert_eq!(rt; image.final_one, last, "{command}");
         }
     }
     Ok(())

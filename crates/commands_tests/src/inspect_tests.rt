@@ -1,5 +1,5 @@
 // Keepers that hold an image, or none, when the program begins.
-use crate::tests::{files, left_over};
+use crate::tests::{compare, files, front, left_over};
 use flow_defs::{Bytes, ListOf};
 use outside::{Kept, MemoryKeeper};
 use std::alloc::{AllocError, Global};
@@ -36,55 +36,49 @@ fn keeper(
     Ok(MemoryKeeper::new(images, calls, ListOf::new(alloc)))
 }
 
+// The command; what the keeper holds: the number of its image, 0 for none, how many bytes it has, and which of its
+// calls fails; and what is then left.
+const HELD: &[(&str, u64, usize, u64, u8, &str, &str)] = &[
+    ("inspect", 1, 121, 0, 0, SHOWN, ""),
+    ("inspect", 0, 121, 0, 8, "", "keeper holds no image\n"),
+    ("inspect", 1, 121, 1, 5, "", "keeper fault\n"),
+    ("inspect", 1, 121, 2, 0, SHOWN, ""),
+    (
+        "inspect",
+        1,
+        120,
+        0,
+        8,
+        "",
+        "image 1: not an image at 117\n",
+    ),
+    ("inspect", 1, 4, 0, 8, "", "image 1: not an image at 4\n"),
+    ("inspect", 2, 121, 0, 8, "", "image 2: not an image at 5\n"),
+    ("run job", 1, 121, 0, 8, "", "keeper holds image 1\n"),
+    ("run job", 7, 4, 0, 8, "", "keeper holds image 7\n"),
+    ("run job", 0, 121, 1, 5, "", "keeper fault\n"),
+    ("run job", 0, 121, 2, 0, "a\t2\nb\t1\n", ""),
+    (
+        "run job --pool 3",
+        1,
+        121,
+        0,
+        10,
+        "",
+        "pool has 3, needs 4\n",
+    ),
+    ("gen 1 0", 1, 121, 1, 0, "w807 w25\n", ""),
+];
+
 #[test]
 fn what_the_keeper_holds_is_shown_or_refused(rt: HostRuntime) -> Result<(), Fail> {
     let alloc = rt.alloc();
-    for (words, number, bytes, failing, status, got, told) in [
-        ("inspect", 1, LAST, 0, 0, SHOWN, ""),
-        ("inspect", 0, LAST, 0, 8, "", "keeper holds no image\n"),
-        ("inspect", 1, LAST, 1, 5, "", "keeper fault\n"),
-        ("inspect", 1, LAST, 2, 0, SHOWN, ""),
-        (
-            "inspect",
-            1,
-            &LAST[..120],
-            0,
-            8,
-            "",
-            "image 1: not an image at 117\n",
-        ),
-        (
-            "inspect",
-            1,
-            &LAST[..4],
-            0,
-            8,
-            "",
-            "image 1: not an image at 4\n",
-        ),
-        ("inspect", 2, LAST, 0, 8, "", "image 2: not an image at 5\n"),
-        ("run job", 1, LAST, 0, 8, "", "keeper holds image 1\n"),
-        ("run job", 7, &LAST[..4], 0, 8, "", "keeper holds image 7\n"),
-        ("run job", 0, LAST, 1, 5, "", "keeper fault\n"),
-        ("run job", 0, LAST, 2, 0, "a\t2\nb\t1\n", ""),
-        (
-            "run job --pool 3",
-            1,
-            LAST,
-            0,
-            10,
-            "",
-            "pool has 3, needs 4\n",
-        ),
-        ("gen 1 0", 1, LAST, 1, 0, "w807 w25\n", ""),
-    ] {
-        let mut keeper = keeper(alloc, number, bytes, failing)?;
+    for (words, number, most, failing, status, got, told) in HELD {
+        let mut keeper = keeper(alloc, *number, front(LAST, *most), *failing)?;
         let held = keeper.images().len();
         let files = files(alloc, JOB, b"a\nb\na\n", "", 9, 0)?;
         let left = left_over(&rt, alloc, words, files, &mut keeper, 1000, 100)?;
-        assert_eq!(rt; left.status, status, "`{words}`: {told}");
-        assert_eq!(rt; left.out.bytes(), got.as_bytes(), "`{words}`: {told}");
-        assert_eq!(rt; left.err.bytes(), told.as_bytes(), "`{words}`: {told}");
+        compare(&rt, &left, *status, got.as_bytes(), told.as_bytes(), words);
         let more = if got.starts_with("a\t") { 1 } else { 0 };
         assert_eq!(rt;
             keeper.images().len(),

@@ -8,6 +8,7 @@ use flow_defs::{Bytes, ListOf, StageKind, Word};
 use outside::{Files, Keeper, MemoryFile, MemoryFiles, MemoryKeeper, MemorySink, Sink};
 use stage_fns::{FnTable, StageFn, words};
 use std::alloc::{AllocError, Global};
+use std::process::Abort;
 use std::sync::Wait;
 use std::sync::atomic::AtomicU64;
 use std::test::Fail;
@@ -114,6 +115,13 @@ pub struct Left {
     pub err: MemorySink,
 }
 
+// Compares what a command left with what it is to leave, by the row's name.
+pub fn compare<R: Abort>(rt: &R, left: &Left, status: u8, out: &[u8], err: &[u8], row: &str) {
+    assert_eq!(rt; left.status, status, "{row}");
+    assert_eq!(rt; left.out.bytes(), out, "{row}");
+    assert_eq!(rt; left.err.bytes(), err, "{row}");
+}
+
 // Does a command over these files and this keeper, with so much room at each output.
 pub fn left_over<R: Threads + Wait + Sync>(
     rt: &R,
@@ -161,9 +169,7 @@ fn a_run_prints_the_tally_of_its_sources(rt: HostRuntime) -> Result<(), Fail> {
     for most in [1, 3, 100] {
         let files = files(alloc, job, pages, "GET,/c,1\n", most, 0)?;
         let left = left_by(&rt, alloc, "run job", files, 100, 100)?;
-        assert_eq!(rt; left.status, 0);
-        assert_eq!(rt; left.out.bytes(), b"/a\t2\n/c\t1\n".as_slice());
-        assert_eq!(rt; left.err.bytes(), b"".as_slice());
+        compare(&rt, &left, 0, b"/a\t2\n/c\t1\n", b"", "run job");
     }
     Ok(())
 }
@@ -191,9 +197,7 @@ fn takes_lines_up_to_the_limit(rt: HostRuntime) -> Result<(), Fail> {
             table.extend(source)?;
             table.extend(b"\t1\n")?;
         }
-        assert_eq!(rt; left.status, status);
-        assert_eq!(rt; left.out.bytes(), table.as_slice());
-        assert_eq!(rt; left.err.bytes(), told.as_bytes());
+        compare(&rt, &left, status, table.as_slice(), told.as_bytes(), told);
     }
     Ok(())
 }
@@ -219,14 +223,13 @@ fn two_tasks_overlap(rt: HostRuntime) -> Result<(), Fail> {
         &mut out,
         &mut err,
     );
-    assert_eq!(rt; status, 0);
-    assert_eq!(rt; out.bytes(), b"a\t1\nb\t1\n".as_slice());
-    assert_eq!(rt; err.bytes(), b"".as_slice());
+    let left = Left { status, out, err };
+    compare(&rt, &left, 0, b"a\t1\nb\t1\n", b"", "run job");
     Ok(())
 }
 
 // So many of the bytes, or all where they are fewer.
-fn front(bytes: &[u8], most: usize) -> &[u8] {
+pub fn front(bytes: &[u8], most: usize) -> &[u8] {
     &bytes[..bytes.len().min(most)]
 }
 
@@ -238,30 +241,28 @@ fn tells_a_fault_whatever_the_room_for_it(rt: HostRuntime) -> Result<(), Fail> {
     for spare in [100, 5, 0] {
         let files = files(alloc, COUNT, b"", "", 2, 0)?;
         let left = left_by(&rt, alloc, "script other", files, 100, spare)?;
-        assert_eq!(rt; left.status, 4);
-        assert_eq!(rt; left.out.bytes(), b"".as_slice());
-        assert_eq!(rt; left.err.bytes(), front(told, spare));
+        compare(&rt, &left, 4, b"", front(told, spare), "script other");
     }
     Ok(())
 }
 
-// The read of the source that fails, and the room of the output.
+// The command, the read of the source that fails, and the room of the output; and what is left.
+const FAULTS: &[(&str, u64, usize, u8, &str, &str)] = &[
+    ("run job", 3, 100, 4, "", "input fault: source 0\n"),
+    ("run job", 4, 100, 4, "", "input fault: source 0\n"),
+    ("run job", 5, 100, 0, "a\t1\nb\t1\nc\t1\n", ""),
+    ("run job", 0, 0, 7, "", "output fault\n"),
+    ("run job", 0, 5, 7, "a\t1\nb", "output fault\n"),
+    ("gen 2 1", 0, 9, 7, "w774 w35\n", "output fault\n"),
+];
+
 #[test]
 fn tells_faults_of_the_source_and_the_output(rt: HostRuntime) -> Result<(), Fail> {
     let alloc = rt.alloc();
-    for (words, failing, room, status, got, told) in [
-        ("run job", 3, 100, 4, "", "input fault: source 0\n"),
-        ("run job", 4, 100, 4, "", "input fault: source 0\n"),
-        ("run job", 5, 100, 0, "a\t1\nb\t1\nc\t1\n", ""),
-        ("run job", 0, 0, 7, "", "output fault\n"),
-        ("run job", 0, 5, 7, "a\t1\nb", "output fault\n"),
-        ("gen 2 1", 0, 9, 7, "w774 w35\n", "output fault\n"),
-    ] {
-        let files = files(alloc, COUNT, b"a\nb\nc\n", "", 2, failing)?;
-        let left = left_by(&rt, alloc, words, files, room, 100)?;
-        assert_eq!(rt; left.status, status);
-        assert_eq!(rt; left.out.bytes(), got.as_bytes());
-        assert_eq!(rt; left.err.bytes(), told.as_bytes());
+    for (words, failing, room, status, got, told) in FAULTS {
+        let files = files(alloc, COUNT, b"a\nb\nc\n", "", 2, *failing)?;
+        let left = left_by(&rt, alloc, words, files, *room, 100)?;
+        compare(&rt, &left, *status, got.as_bytes(), told.as_bytes(), words);
     }
     Ok(())
 }
@@ -277,19 +278,19 @@ fn refuses_a_job_text_over_its_limit(rt: HostRuntime) -> Result<(), Fail> {
         let text = std::str::from_utf8(job).map_err(|_| "no text")?;
         let files = files(alloc, text, b"", "", 9, 0)?;
         let left = left_by(&rt, alloc, "run job", files, 100, 100)?;
-        assert_eq!(rt; left.status, status);
-        assert_eq!(rt; left.err.bytes(), told.as_bytes());
+        compare(&rt, &left, status, b"", told.as_bytes(), told);
     }
     Ok(())
 }
 
-// Does a command with these functions.
-fn left_with<R: Threads + Wait + Sync>(
+// Does a command with these functions, which lacks one, and compares the line that it tells.
+fn lacks<R: Threads + Wait + Sync + Abort>(
     rt: &R,
     alloc: Global,
     command: &str,
     functions: &FnTable,
-) -> Result<Left, AllocError> {
+    told: &str,
+) -> Result<(), AllocError> {
     let job = "source in\nstage words 1 hash\nstage upper 1 hash\naggregate count 1\n";
     let mut files = files(alloc, job, b"a\n", "", 9, 0)?;
     let mut out = sink(alloc, 100)?;
@@ -305,16 +306,22 @@ fn left_with<R: Threads + Wait + Sync>(
         &mut out,
         &mut err,
     );
-    Ok(Left { status, out, err })
+    let left = Left { status, out, err };
+    compare(rt, &left, 3, b"", told.as_bytes(), command);
+    Ok(())
 }
 
 #[test]
 fn refuses_a_kind_that_has_no_function(rt: HostRuntime) -> Result<(), Fail> {
     let alloc = rt.alloc();
     let mut functions = FnTable::new(alloc);
-    let left = left_with(&rt, alloc, "selfrun 1 0", &functions)?;
-    assert_eq!(rt; left.status, 3);
-    assert_eq!(rt; left.err.bytes(), b"job line 2: no function\n".as_slice());
+    lacks(
+        &rt,
+        alloc,
+        "selfrun 1 0",
+        &functions,
+        "job line 2: no function\n",
+    )?;
     let f: StageFn = Box::new(
         alloc,
         |alloc: Global, arg: &[u8], record: &[u8], list: &mut ListOf<Bytes>| {
@@ -323,10 +330,7 @@ fn refuses_a_kind_that_has_no_function(rt: HostRuntime) -> Result<(), Fail> {
     )?;
     functions.add_stage(StageKind::Words, f)?;
     for command in ["selfrun 1 0", "run job"] {
-        let left = left_with(&rt, alloc, command, &functions)?;
-        assert_eq!(rt; left.status, 3);
-        assert_eq!(rt; left.out.bytes(), b"".as_slice());
-        assert_eq!(rt; left.err.bytes(), b"job line 3: no function\n".as_slice());
+        lacks(&rt, alloc, command, &functions, "job line 3: no function\n")?;
     }
     Ok(())
 }

@@ -147,19 +147,19 @@ none_held parts empty c = none parts empty c
 open_none : (size : ℕ) → IsOpenAt size []
 open_none size = record { unfinished = refl; buffers = tt; full = tt }
 
-pub is_new : (job : Job) (e a : ℕ) (channels : Channels) (supply : Supply) → AreNew channels.passes.items → All (λ (part : Part). bytes_in part ≡ []) channels.parts.items → all_held channels.parts.items ≡ 0 →
-    IsNew (writer_of job e a channels supply 0) × IsOpen (writer_of job e a channels supply 0)
-is_new job e a channels supply new empty unheld = (
+pub is_new : (job : Job) (e a : ℕ) (channels : Channels) (supply : Supply) (emitted : ℕ) → AreNew channels.passes.items → All (λ (part : Part). bytes_in part ≡ []) channels.parts.items → all_held channels.parts.items ≡ 0 →
+    IsNew (writer_of job e a channels supply emitted) × IsOpen (writer_of job e a channels supply emitted) × ((writer_of job e a channels supply emitted).emitted ≡ emitted)
+is_new job e a channels supply emitted new empty unheld = (
   record {
     own = none;
     laid = λ c. ap (λ es. put es ++ held_of channels c) (none c) ∙ none_held channels.parts.items empty c;
     held = unheld;
-    emitted = refl;
   },
   record {
     each = λ c _. let o = opened c in (o.unfinished, o.buffers);
     full = λ c _. (opened c).full;
   },
+  refl,
 )
   where
     none : (c : ℕ) → own_of channels c ≡ []

@@ -205,7 +205,6 @@ pub record IsNew (w : Writer) : Type 0 where
   pub own : (c : ℕ) → own_at w c ≡ []
   pub laid : (c : ℕ) → laid_at w c ≡ []
   pub held : w.held ≡ 0
-  pub emitted : w.emitted ≡ 0
 
 -- It has laid down these records, one after another.
 pub record HasEmitted (w w' : Writer) (records : List (List ℕ)) : Type 0 where

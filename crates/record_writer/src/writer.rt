@@ -63,19 +63,21 @@ impl<'a, 'p> Model for RecordWriter<'a, 'p> {
 }
 
 impl<'a, 'p> RecordWriter<'a, 'p> {
-    /// The writer of the task of this index that sends on this edge of the job.
+    /// The writer of the task of this index that sends on this edge of the job, and has emitted so many records
+    /// before, modulo 2^64.
     pub fn new(
         alloc: Global,
         job: &'a Job,
         edge: u32,
         index: u32,
+        emitted: u64,
         partition: Partition<'a, 'p>,
         stop: &'a TurnCell<StopState>,
         stop_pass: Pass<StopState>,
     ) -> Result<RecordWriter<'a, 'p>, NoWriter<'p>>
         requires partition { IsPartitionOf job.now edge index partition }
         requires stop { IsPassOf stop.now stop_pass }
-        ensures new { IfOk result (λ w. IsNew w × IsOpen w) }
+        ensures new { IfOk result (λ w. IsNew w × IsOpen w × (w.emitted ≡ emitted)) }
         ensures is_of { IfOk result (λ w. IsWriterOf job.now edge index partition.entry w × (w.stop ≡ stop.now) × (w.stop_pass ≡ stop_pass)) }
         ensures refused { IfErr result (λ back. (back.passes ≡ partition.entry.passes) × (back.stop_pass ≡ stop_pass)) }
     {
@@ -110,7 +112,7 @@ impl<'a, 'p> RecordWriter<'a, 'p> {
                 stop,
                 stop_pass,
             },
-            emitted: 0,
+            emitted,
         })
     }
 

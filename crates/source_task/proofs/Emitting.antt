@@ -39,7 +39,7 @@ module _ (out : SourceOutput) (o : Output) (acks : Acks) (still : HasSentNoMore 
     groups = was.groups;
     rest = was.rest;
     all_are = was.all_are;
-    sent = still.still job 0 out.index size was.groups was.rest was.sent;
+    sent = still.still 0 job 0 out.index size was.groups was.rest was.sent;
     snapshots = subst (λ (p : TaskPass). AreSnapshots out.index out.every 0 0 0 was.groups (sent_by p)) (sym kept) was.snapshots;
     offset_is = was.offset_is;
     since_is = was.since_is;

@@ -28,15 +28,16 @@ use Rattle.task_output.specs.Waiting.{HasWaited, MayEnd}
 
 -- ---- where it begins
 
-module _ (job : Job) (partition : Partition) (w : Writer) (out : SourceOutput) (writes : IsWriterOf job 0 out.index partition w) (new : IsNew w × IsOpen w)
-    (none : (job : Job) (e a size : ℕ) → WritesFor job e a size w → IsNew w → IsOpen w → HasSent job e a size out.output [] [])
+module _ (job : Job) (partition : Partition) (w : Writer) (out : SourceOutput) (writes : IsWriterOf job 0 out.index partition w) (new : IsNew w × IsOpen w × (w.emitted ≡ 0))
+    (none : (job : Job) (e a size : ℕ) → WritesFor job e a size w → IsNew w → IsOpen w → HasSent w.emitted job e a size out.output [] [])
     (fresh : sent_by out.acks.pass ≡ []) (offset : out.offset ≡ 0) (since : out.since ≡ 0) where
   pub emitted_none : HasEmitted job partition.size out []
   emitted_none = record {
     groups = [];
     rest = [];
     all_are = refl;
-    sent = none job 0 out.index partition.size (record { job_is = writes.job_is; edge = writes.edge; index = writes.index; size_is = writes.size }) new.0 new.1;
+    sent = subst (λ n. HasSent n job 0 out.index partition.size out.output [] []) new.2
+        (none job 0 out.index partition.size (record { job_is = writes.job_is; edge = writes.edge; index = writes.index; size_is = writes.size }) new.0 new.1);
     snapshots = subst (AreSnapshots out.index out.every 0 0 0 []) (sym fresh) tt;
     offset_is = offset;
     since_is = since;
@@ -100,7 +101,7 @@ account_unsent job a size every passes sent history left fell rose new none_sent
   rest = [];
   begun = [];
   snapshots = subst (AreSnapshots a every 0 0 0 []) (sym none_sent) tt;
-  put = λ c inside. subst (BegunOn (receiver_on job 0 a) [] (end_of job 0 a c) size [] (HasWaited 1 history) (MayEnd every history no_groups no_lines)) (sym (none_at passes c new)) (record {
+  put = λ c inside. subst (BegunOn (receiver_on job 0 a) 0 [] (end_of job 0 a c) size [] (HasWaited 1 history) (MayEnd every history no_groups no_lines)) (sym (none_at passes c new)) (record {
     more = [] ∷ [];
     cut = refl;
     few = inl (omega arith);

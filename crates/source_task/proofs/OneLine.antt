@@ -22,7 +22,7 @@ module _ (out : SourceOutput) (line : List ℕ) (short : IsShort line) (not_ende
     abbrev after : SourceOutput
     after = record out { output = o; offset = offset; since = since }
 
-    pub line_emitted : (job : Job) (size : ℕ) (lines : List (List ℕ)) (was : HasEmitted job size out lines) → HasSent job 0 out.index size o was.groups (was.rest ++ line ∷ []) → HasEmitted job size after (lines ++ line ∷ [])
+    pub line_emitted : (job : Job) (size : ℕ) (lines : List (List ℕ)) (was : HasEmitted job size out lines) → HasSent 0 job 0 out.index size o was.groups (was.rest ++ line ∷ []) → HasEmitted job size after (lines ++ line ∷ [])
     line_emitted job size lines was sent = record {
       groups = was.groups;
       rest = was.rest ++ line ∷ [];
@@ -34,7 +34,7 @@ module _ (out : SourceOutput) (line : List ℕ) (short : IsShort line) (not_ende
       at_end = never;
     }
 
-    pub line_source : (source : IsSource out) → HasSent source.job 0 out.index source.size o source.emitted.groups (source.emitted.rest ++ line ∷ []) → IsSource after
+    pub line_source : (source : IsSource out) → HasSent 0 source.job 0 out.index source.size o source.emitted.groups (source.emitted.rest ++ line ∷ []) → IsSource after
     line_source source sent = record {
       job = source.job;
       size = source.size;
@@ -46,7 +46,7 @@ module _ (out : SourceOutput) (line : List ℕ) (short : IsShort line) (not_ende
     }
 
   -- it was stopped on it
-  pub line_stopped : (o : Output) (job : Job) (size : ℕ) (lines : List (List ℕ)) (was : HasEmitted job size out lines) → HasStopped job 0 out.index size o was.groups was.rest (line ∷ []) ⊥ ⊥ → BrokeAmong job size (record out { output = o }) lines (line ∷ [])
+  pub line_stopped : (o : Output) (job : Job) (size : ℕ) (lines : List (List ℕ)) (was : HasEmitted job size out lines) → HasStopped 0 job 0 out.index size o was.groups was.rest (line ∷ []) ⊥ ⊥ → BrokeAmong job size (record out { output = o }) lines (line ∷ [])
   line_stopped o job size lines was stopped = record {
     done = [];
     begun = line ∷ [];
@@ -58,7 +58,7 @@ module _ (out : SourceOutput) (line : List ℕ) (short : IsShort line) (not_ende
       groups = was.groups;
       rest = was.rest;
       all_are = was.all_are ∙ sym (append-nil lines);
-      begun_them = begun_where ⊥ (HasWaited (suc (length was.groups)) (seen out.acks.last_pass)) ⊥ (MayEnd out.every (seen out.acks.last_pass) was.groups (was.rest ++ line ∷ [])) (λ no. absurd no) (λ no. absurd no) job 0 out.index size o was.groups was.rest (line ∷ []) stopped.begun_them;
+      begun_them = begun_where ⊥ (HasWaited (suc (length was.groups)) (seen out.acks.last_pass)) ⊥ (MayEnd out.every (seen out.acks.last_pass) was.groups (was.rest ++ line ∷ [])) (λ no. absurd no) (λ no. absurd no) 0 job 0 out.index size o was.groups was.rest (line ∷ []) stopped.begun_them;
       snapshots = was.snapshots;
       at_end = never;
     };

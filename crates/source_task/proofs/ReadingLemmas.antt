@@ -169,7 +169,7 @@ module _ (law : SentIsBegun) (over : FinishedIsBegun) (job : Job) (size : ℕ) (
           begun = [];
           snapshots = finished.1.snapshots;
           put = (begun_where ⊥ (HasWaited (suc (length finished.1.groups)) (seen out.acks.last_pass)) ⊤ (MayEnd out.every (seen out.acks.last_pass) finished.1.groups no_lines) (λ no. absurd no) (λ _. (finished.1.last, refl))
-              job 0 out.index size out.output finished.1.groups [] [] (over job 0 out.index size out.output finished.1.groups [] finished.1.finished)).each;
+              0 job 0 out.index size out.output finished.1.groups [] [] (over 0 job 0 out.index size out.output finished.1.groups [] finished.1.finished)).each;
           short = subst (AllByRecursion IsShort) (sym (append-nil (all_of finished.1.groups) ∙ finished.1.all_are)) behind.0;
           front = whole_front start (all_of_it start way.2) (append-nil (all_of finished.1.groups) ∙ finished.1.all_are);
           at_end = λ is. (whole start (all_of_it start way.2) finished.1.all_are, refl);

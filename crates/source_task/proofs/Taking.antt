@@ -63,20 +63,20 @@ broken_still law job size out lines was = record {
   groups = was.groups;
   rest = was.rest;
   all_are = was.all_are;
-  begun_them = begun_where ⊥ (HasWaited (suc (length was.groups)) (seen out.acks.last_pass)) ⊥ (MayEnd out.every (seen out.acks.last_pass) was.groups (was.rest ++ [])) (λ no. absurd no) (λ no. absurd no) job 0 out.index size out.output was.groups was.rest []
-      (law job 0 out.index size out.output was.groups was.rest was.sent);
+  begun_them = begun_where ⊥ (HasWaited (suc (length was.groups)) (seen out.acks.last_pass)) ⊥ (MayEnd out.every (seen out.acks.last_pass) was.groups (was.rest ++ [])) (λ no. absurd no) (λ no. absurd no) 0 job 0 out.index size out.output was.groups was.rest []
+      (law 0 job 0 out.index size out.output was.groups was.rest was.sent);
   snapshots = was.snapshots;
   at_end = λ is. append-nil was.rest ∙ was.at_end is;
 }
 
 -- it had waited, and was stopped at the barrier
 pub broken_at_barrier : (job : Job) (size : ℕ) (out : SourceOutput) (o : Output) (lines : List (List ℕ)) (was : HasEmitted job size out lines) → HasWaited (suc (length was.groups)) (seen out.acks.last_pass)
-    → HasStopped job 0 out.index size o was.groups was.rest [] ⊤ ⊥ → HasBroken job size (record out { output = o }) lines []
+    → HasStopped 0 job 0 out.index size o was.groups was.rest [] ⊤ ⊥ → HasBroken job size (record out { output = o }) lines []
 broken_at_barrier job size out o lines was waited stopped = record {
   groups = was.groups;
   rest = was.rest;
   all_are = was.all_are;
-  begun_them = begun_where ⊤ (HasWaited (suc (length was.groups)) (seen out.acks.last_pass)) ⊥ (MayEnd out.every (seen out.acks.last_pass) was.groups (was.rest ++ [])) (λ _. waited) (λ no. absurd no) job 0 out.index size o was.groups was.rest []
+  begun_them = begun_where ⊤ (HasWaited (suc (length was.groups)) (seen out.acks.last_pass)) ⊥ (MayEnd out.every (seen out.acks.last_pass) was.groups (was.rest ++ [])) (λ _. waited) (λ no. absurd no) 0 job 0 out.index size o was.groups was.rest []
       stopped.begun_them;
   snapshots = was.snapshots;
   at_end = λ is. append-nil was.rest ∙ was.at_end is;
@@ -84,26 +84,26 @@ broken_at_barrier job size out o lines was waited stopped = record {
 
 -- the snapshot behind its barrier was not sent
 pub broken_behind_barrier : BarrierIsLeftAside → (job : Job) (size : ℕ) (out : SourceOutput) (o : Output) (acks : Acks) (lines : List (List ℕ)) (was : HasEmitted job size out lines) → HasWaited (suc (length was.groups)) (seen acks.last_pass)
-    → HasSent job 0 out.index size o (was.groups ++ was.rest ∷ []) [] → sent_by acks.pass ≡ sent_by out.acks.pass → HasBroken job size (record out { output = o; acks = acks }) lines []
+    → HasSent 0 job 0 out.index size o (was.groups ++ was.rest ∷ []) [] → sent_by acks.pass ≡ sent_by out.acks.pass → HasBroken job size (record out { output = o; acks = acks }) lines []
 broken_behind_barrier aside job size out o acks lines was waited sent same = record {
   groups = was.groups;
   rest = was.rest;
   all_are = was.all_are;
-  begun_them = begun_where ⊤ (HasWaited (suc (length was.groups)) (seen acks.last_pass)) ⊥ (MayEnd out.every (seen acks.last_pass) was.groups (was.rest ++ [])) (λ _. waited) (λ no. absurd no) job 0 out.index size o was.groups was.rest []
-      (aside job 0 out.index size o was.groups was.rest sent);
+  begun_them = begun_where ⊤ (HasWaited (suc (length was.groups)) (seen acks.last_pass)) ⊥ (MayEnd out.every (seen acks.last_pass) was.groups (was.rest ++ [])) (λ _. waited) (λ no. absurd no) 0 job 0 out.index size o was.groups was.rest []
+      (aside 0 job 0 out.index size o was.groups was.rest sent);
   snapshots = subst (AreSnapshots out.index out.every 0 0 0 was.groups) (sym same) was.snapshots;
   at_end = λ is. append-nil was.rest ∙ was.at_end (ap has_ended (sym same) ∙ is);
 }
 
 -- it was ending its channels
 pub broken_at_end : (job : Job) (size : ℕ) (out : SourceOutput) (o : Output) (lines : List (List ℕ)) → IsSource out → (was : HasEmitted job size out lines) → LastIs out.every (seen out.acks.last_pass) out.acks.number true → has_ended (sent_by out.acks.pass) ≡ true
-    → HasStopped job 0 out.index size o was.groups was.rest [] ⊥ ⊤ → HasBroken job size (record out { output = o }) lines []
+    → HasStopped 0 job 0 out.index size o was.groups was.rest [] ⊥ ⊤ → HasBroken job size (record out { output = o }) lines []
 broken_at_end job size out o lines source was last ended stopped = record {
   groups = was.groups;
   rest = was.rest;
   all_are = was.all_are;
   begun_them = begun_where ⊥ (HasWaited (suc (length was.groups)) (seen out.acks.last_pass)) ⊤ (MayEnd out.every (seen out.acks.last_pass) was.groups (was.rest ++ [])) (λ no. absurd no)
-      (λ _. (subst (λ n. LastIs out.every (seen out.acks.last_pass) n true) (many_groups job size out lines source was) last, append-nil was.rest ∙ was.at_end ended)) job 0 out.index size o was.groups was.rest [] stopped.begun_them;
+      (λ _. (subst (λ n. LastIs out.every (seen out.acks.last_pass) n true) (many_groups job size out lines source was) last, append-nil was.rest ∙ was.at_end ended)) 0 job 0 out.index size o was.groups was.rest [] stopped.begun_them;
   snapshots = was.snapshots;
   at_end = λ is. append-nil was.rest ∙ was.at_end is;
 }
@@ -111,11 +111,11 @@ broken_at_end job size out o lines source was last ended stopped = record {
 -- ---- where it ends
 
 pub ended_there : (job : Job) (size : ℕ) (out : SourceOutput) (o : Output) (lines : List (List ℕ)) → IsSource out → (was : HasEmitted job size out lines) → LastIs out.every (seen out.acks.last_pass) out.acks.number true → has_ended (sent_by out.acks.pass) ≡ true
-    → HasFinished job 0 out.index size o was.groups was.rest → HasEnded job size (record out { output = o }) lines
+    → HasFinished 0 job 0 out.index size o was.groups was.rest → HasEnded job size (record out { output = o }) lines
 ended_there job size out o lines source was last ended finished = record {
   groups = was.groups;
   all_are = sym (append-nil (all_of was.groups)) ∙ ap (λ l. all_of was.groups ++ l) (sym (was.at_end ended)) ∙ was.all_are;
-  finished = subst (HasFinished job 0 out.index size o was.groups) (was.at_end ended) finished;
+  finished = subst (HasFinished 0 job 0 out.index size o was.groups) (was.at_end ended) finished;
   snapshots = was.snapshots;
   ended = ended;
   last = subst (λ n. LastIs out.every (seen out.acks.last_pass) n true) (many_groups job size out lines source was) last;
@@ -128,7 +128,7 @@ module _ (count : CountedInParts) (out : SourceOutput) (o : Output) (acks : Acks
   abbrev after : SourceOutput
   after = record out { output = o; acks = acks; since = 0 }
 
-  pub taken : (job : Job) (size : ℕ) (lines : List (List ℕ)) (was : HasEmitted job size out lines) → HasSent job 0 out.index size o (was.groups ++ was.rest ∷ []) [] → counted ≡ count_behind (was.groups ++ was.rest ∷ []) → HasEmitted job size after lines
+  pub taken : (job : Job) (size : ℕ) (lines : List (List ℕ)) (was : HasEmitted job size out lines) → HasSent 0 job 0 out.index size o (was.groups ++ was.rest ∷ []) [] → counted ≡ count_behind 0 (was.groups ++ was.rest ∷ []) → HasEmitted job size after lines
   taken job size lines was sent counted_is = record {
     groups = was.groups ++ was.rest ∷ [];
     rest = [];

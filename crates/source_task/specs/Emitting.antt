@@ -62,7 +62,7 @@ pub record HasEmitted (job : Job) (size : ℕ) (out : SourceOutput) (lines : Lis
   pub groups : List (List (List ℕ))
   pub rest : List (List ℕ)
   pub all_are : all_of groups ++ rest ≡ lines
-  pub sent : HasSent job 0 out.index size out.output groups rest
+  pub sent : HasSent 0 job 0 out.index size out.output groups rest
   pub snapshots : AreSnapshots out.index out.every 0 0 0 groups (sent_by out.acks.pass)
   pub offset_is : out.offset ≡ length lines
   pub since_is : out.since ≡ length rest
@@ -74,7 +74,7 @@ pub record HasBroken (job : Job) (size : ℕ) (out : SourceOutput) (lines begun 
   pub groups : List (List (List ℕ))
   pub rest : List (List ℕ)
   pub all_are : all_of groups ++ rest ≡ lines
-  pub begun_them : HasBegun job 0 out.index size out.output groups rest begun (HasWaited (suc (length groups)) (seen out.acks.last_pass)) (MayEnd out.every (seen out.acks.last_pass) groups (rest ++ begun))
+  pub begun_them : HasBegun 0 job 0 out.index size out.output groups rest begun (HasWaited (suc (length groups)) (seen out.acks.last_pass)) (MayEnd out.every (seen out.acks.last_pass) groups (rest ++ begun))
   pub snapshots : AreSnapshots out.index out.every 0 0 0 groups (sent_by out.acks.pass)
   pub at_end : has_ended (sent_by out.acks.pass) ≡ true → rest ++ begun ≡ []
 
@@ -82,7 +82,7 @@ pub record HasBroken (job : Job) (size : ℕ) (out : SourceOutput) (lines begun 
 pub record HasEnded (job : Job) (size : ℕ) (out : SourceOutput) (lines : List (List ℕ)) : Type 0 where
   pub groups : List (List (List ℕ))
   pub all_are : all_of groups ≡ lines
-  pub finished : HasFinished job 0 out.index size out.output groups []
+  pub finished : HasFinished 0 job 0 out.index size out.output groups []
   pub snapshots : AreSnapshots out.index out.every 0 0 0 groups (sent_by out.acks.pass)
   pub ended : has_ended (sent_by out.acks.pass) ≡ true
   pub last : LastIs out.every (seen out.acks.last_pass) (length groups) true

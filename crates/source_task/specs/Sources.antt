@@ -47,11 +47,11 @@ pub record SourceAccount (job : Job) (a size : ℕ) (every : Option ℕ) (passes
   pub rest : List (List ℕ)
   pub begun : List (List ℕ)
   pub snapshots : AreSnapshots a every 0 0 0 groups sent
-  pub put : (c : ℕ) → c < ways_on job 0 → BegunOn (receiver_on job 0 a) groups (end_of job 0 a c) size (rest ++ begun) (HasWaited (suc (length groups)) history) (MayEnd every history groups (rest ++ begun)) (mine_at c passes)
+  pub put : (c : ℕ) → c < ways_on job 0 → BegunOn (receiver_on job 0 a) 0 groups (end_of job 0 a c) size (rest ++ begun) (HasWaited (suc (length groups)) history) (MayEnd every history groups (rest ++ begun)) (mine_at c passes)
   pub short : AllByRecursion IsShort (all_of groups ++ (rest ++ begun))
   pub front : IfSome left (λ bytes. StartsWith (lines bytes) (all_of groups ++ (rest ++ begun)))
   pub at_end : has_ended sent ≡ true → IfSome left (λ bytes. lines bytes ≡ all_of groups) × (rest ++ begun ≡ [])
-  pub done : cause ≡ causes.Done → (has_ended sent ≡ true) × LastIs every history (length groups) true × ((c : ℕ) → c < ways_on job 0 → FinishedOn (receiver_on job 0 a) groups (end_of job 0 a c) size [] (mine_at c passes))
+  pub done : cause ≡ causes.Done → (has_ended sent ≡ true) × LastIs every history (length groups) true × ((c : ℕ) → c < ways_on job 0 → FinishedOn (receiver_on job 0 a) 0 groups (end_of job 0 a c) size [] (mine_at c passes))
   pub within : cause ≡ causes.Done → IfSome left (λ bytes. length bytes ≤ source_max)
   pub never_falls : fell ≤ rose
   pub cause_is : IsSourceCause a left fell rose cause

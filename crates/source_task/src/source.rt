@@ -51,7 +51,7 @@ pub fn run_source<'a, 'p, S: Source, R: Wait>(
         stop,
         stop_pass,
     } = world;
-    match RecordWriter::new(alloc, job, 0, index, partition, stop, stop_pass) {
+    match RecordWriter::new(alloc, job, 0, index, 0, partition, stop, stop_pass) {
         Ok(writer) => {
             let mut source = SourceOutput {
                 output: TaskOutput::new(writer),

@@ -67,7 +67,7 @@ pub record IsResumed (job : Job) (e b size k : ℕ) (gate : Account) (taking : T
   pub taken : HasTaken job e b gate taking (groups ++ took ∷ []) []
   pub closed : is_open taking.alignment ≡ false
   pub takes_are : RunsTake job e b takes took
-  pub was : HasSent job (suc e) b size out (all_applied job e groups ++ applied job e took ∷ []) []
+  pub was : HasSent 0 job (suc e) b size out (all_applied job e groups ++ applied job e took ∷ []) []
   pub snapshots : AreSnapshots job e b 0 0 groups sent
   pub number : k ≡ suc (length groups)
 
@@ -78,14 +78,14 @@ pub resumed_at : (before after : Account) (t t' : Taking) (out : StageOutput) (o
 resumed_at before after t t' out o sent k takes marked no_more kept closed resume =
     let job = out.job.now in
     let taken = resume job out.edge out.index marked.groups marked.took marked.at in
-    let was = no_more.still job (suc out.edge) out.index out.output.writer.size (all_applied job out.edge marked.groups ++ applied job out.edge marked.took ∷ []) [] marked.sent in
+    let was = no_more.still 0 job (suc out.edge) out.index out.output.writer.size (all_applied job out.edge marked.groups ++ applied job out.edge marked.took ∷ []) [] marked.sent in
     record {
       groups = marked.groups;
       took = marked.took;
       taken = taken.1;
       closed = closed;
       takes_are = taken.0;
-      was = subst (λ s. HasSent job (suc out.edge) out.index s o (all_applied job out.edge marked.groups ++ applied job out.edge marked.took ∷ []) []) (sym was.writes_for.size_is) was;
+      was = subst (λ s. HasSent 0 job (suc out.edge) out.index s o (all_applied job out.edge marked.groups ++ applied job out.edge marked.took ∷ []) []) (sym was.writes_for.size_is) was;
       snapshots = subst (AreSnapshots job out.edge out.index 0 0 marked.groups) (sym kept) marked.snapshots;
       number = marked.number;
     }
@@ -121,7 +121,7 @@ unacknowledged aside resumed job e b size k every gate taking out sent history t
     ended_account job e b size every gate out sent history takes causes.Stopped at.groups at.took made []
     (resumed job e b gate taking at.groups at.took at.taken at.closed)
     at.snapshots at.takes_are
-    (begun_where ⊤ (EachTold gate (suc (length at.groups))) ⊥ (MayEnd every history at.groups at.took) (λ mark. told_behind job e b gate taking at.groups at.took at.taken at.closed) (λ never. absurd never) job (suc e) b size out (all_applied job e at.groups) made [] (aside job (suc e) b size out (all_applied job e at.groups) made at.was))
+    (begun_where ⊤ (EachTold gate (suc (length at.groups))) ⊥ (MayEnd every history at.groups at.took) (λ mark. told_behind job e b gate taking at.groups at.took at.taken at.closed) (λ never. absurd never) 0 job (suc e) b size out (all_applied job e at.groups) made [] (aside 0 job (suc e) b size out (all_applied job e at.groups) made at.was))
     (all_front_of made)
     stopped_not_done tt
 
@@ -129,14 +129,14 @@ unacknowledged aside resumed job e b size k every gate taking out sent history t
 pub still_resumed : (job : Job) (e b size size' k : ℕ) (gate : Account) (taking : Taking) (out out' : Output) (sent sent' : List Snapshot) (takes takes' : List TakeRun)
     → HasSentNoMore out out' → size' ≡ out'.writer.size → sent' ≡ sent → takes' ≡ takes → IsResumed job e b size k gate taking out sent takes → IsResumed job e b size' k gate taking out' sent' takes'
 still_resumed job e b size size' k gate taking out out' sent sent' takes takes' no_more size_is sent_is takes_is at =
-    let was = no_more.still job (suc e) b size (all_applied job e at.groups ++ applied job e at.took ∷ []) [] at.was in
+    let was = no_more.still 0 job (suc e) b size (all_applied job e at.groups ++ applied job e at.took ∷ []) [] at.was in
     record {
       groups = at.groups;
       took = at.took;
       taken = at.taken;
       closed = at.closed;
       takes_are = subst (λ l. RunsTake job e b l at.took) (sym takes_is) at.takes_are;
-      was = subst (λ s. HasSent job (suc e) b s out' (all_applied job e at.groups ++ applied job e at.took ∷ []) []) (sym was.writes_for.size_is ∙ sym size_is) was;
+      was = subst (λ s. HasSent 0 job (suc e) b s out' (all_applied job e at.groups ++ applied job e at.took ∷ []) []) (sym was.writes_for.size_is ∙ sym size_is) was;
       snapshots = subst (AreSnapshots job e b 0 0 at.groups) (sym sent_is) at.snapshots;
       number = at.number;
     }
@@ -161,10 +161,10 @@ acknowledged count gate taking out before k size sent takes x last at no_more of
     let b = out.index in
     let groups = at.groups in
     let took = at.took in
-    let was = no_more.still job (suc e) b size (all_applied job e groups ++ applied job e took ∷ []) [] at.was in
+    let was = no_more.still 0 job (suc e) b size (all_applied job e groups ++ applied job e took ∷ []) [] at.was in
     let many : length (groups ++ took ∷ []) ≡ suc (length groups) = length-append groups (took ∷ []) ∙ (let z : length groups + 1 ≡ suc (length groups) = omega arith in z) in
     let number = at.number in
-    let is : IsSnapshotAt job e b (suc (0 + length groups)) (count_behind (all_applied job e groups ++ applied job e took ∷ [])) took x = record {
+    let is : IsSnapshotAt job e b (suc (0 + length groups)) (count_behind 0 (all_applied job e groups ++ applied job e took ∷ [])) took x = record {
       is = record {
         task = of.task;
         number = of.number ∙ number ∙ omega arith;
@@ -181,8 +181,8 @@ acknowledged count gate taking out before k size sent takes x last at no_more of
     goes_on gate taking out (groups ++ took ∷ []) last
     (record {
       taken = at.taken;
-      sent = subst (λ l. HasSent job (suc e) b out.output.writer.size out.output l []) (sym (applied_more job e groups took))
-          (subst (λ s. HasSent job (suc e) b s out.output (all_applied job e groups ++ applied job e took ∷ []) []) (sym was.writes_for.size_is) was);
+      sent = subst (λ l. HasSent 0 job (suc e) b out.output.writer.size out.output l []) (sym (applied_more job e groups took))
+          (subst (λ s. HasSent 0 job (suc e) b s out.output (all_applied job e groups ++ applied job e took ∷ []) []) (sym was.writes_for.size_is) was);
       snapshots = subst (AreSnapshots job e b 0 0 (groups ++ took ∷ [])) (sym sent_is) all;
     })
     (known_last out.every (seen out.acks.last_pass) k (length groups) (length (groups ++ took ∷ [])) last number many known)

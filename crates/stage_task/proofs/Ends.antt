@@ -53,7 +53,7 @@ module _ (job : Job) (e b : ℕ) (gate : Account) (t : Taking) (groups : List (L
 -- what was begun is put
 pub ended_account : (job : Job) (e b size : ℕ) (every : Option ℕ) (gate : Account) (out : Output) (sent : List Snapshot) (history : List (ℕ × Stored)) (takes : List TakeRun) (cause : Cause)
     (groups : List (List (ℕ × List ℕ))) (rest : List (ℕ × List ℕ)) (records begun : List (List ℕ))
-    → Gave job e b gate groups rest → AreSnapshots job e b 0 0 groups sent → RunsTake job e b takes rest → HasBegun job (suc e) b size out (all_applied job e groups) records begun (EachTold gate (suc (length groups))) (MayEnd every history groups rest)
+    → Gave job e b gate groups rest → AreSnapshots job e b 0 0 groups sent → RunsTake job e b takes rest → HasBegun 0 job (suc e) b size out (all_applied job e groups) records begun (EachTold gate (suc (length groups))) (MayEnd every history groups rest)
     → StartsWith (applied job e rest) (records ++ begun) → cause ≢ causes.Done → IsTakerEnd every history gate groups rest cause
     → StageAccount job e b size every gate out.writer.passes sent history takes cause
 ended_account job e b size every gate out sent history takes cause groups rest records begun given snapshots takes_are begun_them front other cause_is = record {
@@ -115,7 +115,7 @@ taker_end every history gate groups rest causes.Memory is other = tt
 
 -- ---- where it was stopped
 
-pub among_stopped : (saw : Type 0) (job : Job) (e a size : ℕ) (out : Output) (groups : List (List (List ℕ))) (records given : List (List ℕ)) (cause cause' : Cause) → EndedAmong job e a size out groups records given cause → cause' ≡ cause → cause' ≡ causes.Stopped → saw ⊎ HasSeenFault out.writer
+pub among_stopped : (saw : Type 0) (job : Job) (e a size : ℕ) (out : Output) (groups : List (List (List ℕ))) (records given : List (List ℕ)) (cause cause' : Cause) → EndedAmong 0 job e a size out groups records given cause → cause' ≡ cause → cause' ≡ causes.Stopped → saw ⊎ HasSeenFault out.writer
 among_stopped saw job e a size out groups records given cause cause' among same is =
     elim among.cause_is [ inl full ↦ absurd (memory_not_stopped (sym full ∙ sym same ∙ is)) | inr stopped ↦ inr stopped.1 ]
 
@@ -147,7 +147,7 @@ module _ (out : StageOutput) where
     module _ (sent_law : SentIsBegun) (given_law : TakenIsGiven) (taken : HasTaken job out.edge out.index gate t' groups took) where
       still_ended : (cause : Cause) → cause ≢ causes.Done → IsTakerEnd out.every (seen out.acks.last_pass) gate groups took cause → Ended gate out.output t'.runs cause
       still_ended cause other is = ended_account job out.edge out.index size out.every gate out.output (sent_by out.acks.pass) (seen out.acks.last_pass) t'.runs cause groups took made [] (given_law job out.edge out.index gate t' groups took taken) was.snapshots taken.takes
-          (begun_where ⊥ (EachTold gate (suc (length groups))) ⊥ (MayEnd out.every (seen out.acks.last_pass) groups took) (λ never. absurd never) (λ never. absurd never) job (suc out.edge) out.index size out.output (all_applied job out.edge groups) made [] (sent_law job (suc out.edge) out.index size out.output (all_applied job out.edge groups) made was.sent)) (all_front_of made) other is
+          (begun_where ⊥ (EachTold gate (suc (length groups))) ⊥ (MayEnd out.every (seen out.acks.last_pass) groups took) (λ never. absurd never) (λ never. absurd never) 0 job (suc out.edge) out.index size out.output (all_applied job out.edge groups) made [] (sent_law 0 job (suc out.edge) out.index size out.output (all_applied job out.edge groups) made was.sent)) (all_front_of made) other is
 
       -- its gate gave nothing more
       pub gate_ended : (cause : Cause) → IsTakerCause gate cause → cause ≢ causes.Done → Ended gate out.output t'.runs cause
@@ -165,42 +165,42 @@ module _ (out : StageOutput) where
       more_is : applied job out.edge more ≡ made ++ given
       more_is = applied_line job out.edge took sender line ∙ ap (λ l. made ++ l) (sym gives)
 
-      pub line_applied : (o : Output) → LastIs out.every (seen out.acks.last_pass) (length groups) false → HasSent job (suc out.edge) out.index size o (all_applied job out.edge groups) (made ++ given) → IsStageUnderWay gate t' (record out { output = o })
+      pub line_applied : (o : Output) → LastIs out.every (seen out.acks.last_pass) (length groups) false → HasSent 0 job (suc out.edge) out.index size o (all_applied job out.edge groups) (made ++ given) → IsStageUnderWay gate t' (record out { output = o })
       line_applied o not_last sent = record {
         groups = groups;
         took = more;
         applied_them = record {
           taken = taken;
-          sent = subst (HasSent job (suc out.edge) out.index o.writer.size o (all_applied job out.edge groups)) (sym more_is)
-              (subst (λ n. HasSent job (suc out.edge) out.index n o (all_applied job out.edge groups) (made ++ given)) (sym sent.writes_for.size_is) sent);
+          sent = subst (HasSent 0 job (suc out.edge) out.index o.writer.size o (all_applied job out.edge groups)) (sym more_is)
+              (subst (λ n. HasSent 0 job (suc out.edge) out.index n o (all_applied job out.edge groups) (made ++ given)) (sym sent.writes_for.size_is) sent);
           snapshots = was.snapshots;
         };
         not_last = not_last;
       }
 
-      pub line_ended : TakenIsGiven → (o : Output) (cause : Cause) → o.writer.size ≡ size → EndedAmong job (suc out.edge) out.index size o (all_applied job out.edge groups) made given cause → Ended gate o t'.runs cause
+      pub line_ended : TakenIsGiven → (o : Output) (cause : Cause) → o.writer.size ≡ size → EndedAmong 0 job (suc out.edge) out.index size o (all_applied job out.edge groups) made given cause → Ended gate o t'.runs cause
       line_ended given_law o cause same among = ended_account job out.edge out.index o.writer.size out.every gate o (sent_by out.acks.pass) (seen out.acks.last_pass) t'.runs cause groups more (made ++ among.done) among.begun (given_law job out.edge out.index gate t' groups more taken) was.snapshots taken.takes
-          (begun_where ⊥ (EachTold gate (suc (length groups))) ⊥ (MayEnd out.every (seen out.acks.last_pass) groups more) (λ never. absurd never) (λ never. absurd never) job (suc out.edge) out.index o.writer.size o (all_applied job out.edge groups) (made ++ among.done) among.begun (subst (λ n. HasBegun job (suc out.edge) out.index n o (all_applied job out.edge groups) (made ++ among.done) among.begun ⊥ ⊥) (sym same) among.begun_them))
+          (begun_where ⊥ (EachTold gate (suc (length groups))) ⊥ (MayEnd out.every (seen out.acks.last_pass) groups more) (λ never. absurd never) (λ never. absurd never) 0 job (suc out.edge) out.index o.writer.size o (all_applied job out.edge groups) (made ++ among.done) among.begun (subst (λ n. HasBegun 0 job (suc out.edge) out.index n o (all_applied job out.edge groups) (made ++ among.done) among.begun ⊥ ⊥) (sym same) among.begun_them))
           (among.rest, more_is ∙ ap (λ l. made ++ l) among.parts ∙ sym (append_assoc made among.done (among.begun ++ among.rest)) ∙ sym (append_assoc (made ++ among.done) among.begun among.rest))
           (λ is. elim among.cause_is [ inl full ↦ memory_not_done (sym full ∙ is) | inr stopped ↦ stopped_not_done (sym stopped.0 ∙ is) ])
           (elim among.cause_is [ inl full ↦ subst (IsTakerEnd out.every (seen out.acks.last_pass) gate groups more) (sym full) tt | inr stopped ↦ subst (IsTakerEnd out.every (seen out.acks.last_pass) gate groups more) (sym stopped.0) tt ])
 
     -- it is at a barrier
     module _ (at : IsAtBarrier job out.edge out.index gate t' groups took) where
-      pub marked : (o : Output) (k : ℕ) → k ≡ suc (length groups) → LastIs out.every (seen out.acks.last_pass) (length groups) false → HasSent job (suc out.edge) out.index size o (all_applied job out.edge groups ++ made ∷ []) [] → IsMarked gate t' (record out { output = o }) k
+      pub marked : (o : Output) (k : ℕ) → k ≡ suc (length groups) → LastIs out.every (seen out.acks.last_pass) (length groups) false → HasSent 0 job (suc out.edge) out.index size o (all_applied job out.edge groups ++ made ∷ []) [] → IsMarked gate t' (record out { output = o }) k
       marked o k number not_last sent = record {
         groups = groups;
         took = took;
         at = at;
-        sent = subst (λ n. HasSent job (suc out.edge) out.index n o (all_applied job out.edge groups ++ made ∷ []) []) (sym sent.writes_for.size_is) sent;
+        sent = subst (λ n. HasSent 0 job (suc out.edge) out.index n o (all_applied job out.edge groups ++ made ∷ []) []) (sym sent.writes_for.size_is) sent;
         snapshots = was.snapshots;
         not_last = not_last;
         number = number;
       }
 
-      pub mark_ended : BarrierIsGiven → (o : Output) → o.writer.size ≡ size → HasStopped job (suc out.edge) out.index size o (all_applied job out.edge groups) made [] ⊤ ⊥ → Ended gate o t'.runs causes.Stopped
+      pub mark_ended : BarrierIsGiven → (o : Output) → o.writer.size ≡ size → HasStopped 0 job (suc out.edge) out.index size o (all_applied job out.edge groups) made [] ⊤ ⊥ → Ended gate o t'.runs causes.Stopped
       mark_ended given_law o same stopped = ended_account job out.edge out.index o.writer.size out.every gate o (sent_by out.acks.pass) (seen out.acks.last_pass) t'.runs causes.Stopped groups took made [] (given_law job out.edge out.index gate t' groups took at) was.snapshots at.takes
-          (begun_where ⊤ (EachTold gate (suc (length groups))) ⊥ (MayEnd out.every (seen out.acks.last_pass) groups took) (λ mark. all_told job out.edge out.index gate t' groups took at) (λ never. absurd never) job (suc out.edge) out.index o.writer.size o (all_applied job out.edge groups) made [] (subst (λ n. HasBegun job (suc out.edge) out.index n o (all_applied job out.edge groups) made [] ⊤ ⊥) (sym same) stopped.begun_them)) (all_front_of made) stopped_not_done tt
+          (begun_where ⊤ (EachTold gate (suc (length groups))) ⊥ (MayEnd out.every (seen out.acks.last_pass) groups took) (λ mark. all_told job out.edge out.index gate t' groups took at) (λ never. absurd never) 0 job (suc out.edge) out.index o.writer.size o (all_applied job out.edge groups) made [] (subst (λ n. HasBegun 0 job (suc out.edge) out.index n o (all_applied job out.edge groups) made [] ⊤ ⊥) (sym same) stopped.begun_them)) (all_front_of made) stopped_not_done tt
 
 -- ---- behind the last checkpoint
 
@@ -215,26 +215,26 @@ module _ (before gate : Account) (t t' : Taking) (out : StageOutput) (behind : I
   pub line_behind : SentIsBegun → TakenIsGiven → (sender : ℕ) (line : List ℕ) → HasTaken job_of out.edge out.index gate t' behind.groups ((sender, line) ∷ []) → Ended out gate out.output t'.runs (causes.Peer peers.Barrier)
   line_behind sent_law given_law sender line taken = ended_account job_of out.edge out.index out.output.writer.size out.every gate out.output (sent_by out.acks.pass) (seen out.acks.last_pass) t'.runs (causes.Peer peers.Barrier) behind.groups ((sender, line) ∷ []) [] []
       (given_law job_of out.edge out.index gate t' behind.groups ((sender, line) ∷ []) taken) behind.applied_them.snapshots taken.takes
-      (begun_where ⊥ (EachTold gate (suc (length behind.groups))) ⊥ (MayEnd out.every (seen out.acks.last_pass) behind.groups ((sender, line) ∷ [])) (λ never. absurd never) (λ never. absurd never) job_of (suc out.edge) out.index out.output.writer.size out.output (all_applied job_of out.edge behind.groups) [] [] (sent_law job_of (suc out.edge) out.index out.output.writer.size out.output (all_applied job_of out.edge behind.groups) [] behind.applied_them.sent)) (applied job_of out.edge ((sender, line) ∷ []), refl)
+      (begun_where ⊥ (EachTold gate (suc (length behind.groups))) ⊥ (MayEnd out.every (seen out.acks.last_pass) behind.groups ((sender, line) ∷ [])) (λ never. absurd never) (λ never. absurd never) 0 job_of (suc out.edge) out.index out.output.writer.size out.output (all_applied job_of out.edge behind.groups) [] [] (sent_law 0 job_of (suc out.edge) out.index out.output.writer.size out.output (all_applied job_of out.edge behind.groups) [] behind.applied_them.sent)) (applied job_of out.edge ((sender, line) ∷ []), refl)
       barrier_not_done (inr (inr (behind.last, inl (λ is. cc))))
 
   -- a barrier came on all channels
   pub barrier_behind : SentIsBegun → BarrierIsGiven → IsAtBarrier job_of out.edge out.index gate t' behind.groups [] → Ended out gate out.output t'.runs (causes.Peer peers.Barrier)
   barrier_behind sent_law given_law at = ended_account job_of out.edge out.index out.output.writer.size out.every gate out.output (sent_by out.acks.pass) (seen out.acks.last_pass) t'.runs (causes.Peer peers.Barrier) behind.groups [] [] []
       (given_law job_of out.edge out.index gate t' behind.groups [] at) behind.applied_them.snapshots at.takes
-      (begun_where ⊥ (EachTold gate (suc (length behind.groups))) ⊥ (MayEnd out.every (seen out.acks.last_pass) behind.groups none_took) (λ never. absurd never) (λ never. absurd never) job_of (suc out.edge) out.index out.output.writer.size out.output (all_applied job_of out.edge behind.groups) [] [] (sent_law job_of (suc out.edge) out.index out.output.writer.size out.output (all_applied job_of out.edge behind.groups) [] behind.applied_them.sent)) ([], refl)
+      (begun_where ⊥ (EachTold gate (suc (length behind.groups))) ⊥ (MayEnd out.every (seen out.acks.last_pass) behind.groups none_took) (λ never. absurd never) (λ never. absurd never) 0 job_of (suc out.edge) out.index out.output.writer.size out.output (all_applied job_of out.edge behind.groups) [] [] (sent_law 0 job_of (suc out.edge) out.index out.output.writer.size out.output (all_applied job_of out.edge behind.groups) [] behind.applied_them.sent)) ([], refl)
       barrier_not_done (inr (inr (behind.last, inr (all_told job_of out.edge out.index gate t' behind.groups [] at))))
 
   -- all channels ended, and it ends its own
   module _ (given_law : TakenIsGiven) (taken : HasTaken job_of out.edge out.index gate t' behind.groups []) (o : Output) (same : o.writer.size ≡ out.output.writer.size) where
-    pub finish_ended : HasStopped job_of (suc out.edge) out.index out.output.writer.size o (all_applied job_of out.edge behind.groups) [] [] ⊥ ⊤ → Ended out gate o t'.runs causes.Stopped
+    pub finish_ended : HasStopped 0 job_of (suc out.edge) out.index out.output.writer.size o (all_applied job_of out.edge behind.groups) [] [] ⊥ ⊤ → Ended out gate o t'.runs causes.Stopped
     finish_ended stopped = ended_account job_of out.edge out.index o.writer.size out.every gate o (sent_by out.acks.pass) (seen out.acks.last_pass) t'.runs causes.Stopped behind.groups [] [] []
         (given_law job_of out.edge out.index gate t' behind.groups [] taken) behind.applied_them.snapshots taken.takes
-        (begun_where ⊥ (EachTold gate (suc (length behind.groups))) ⊤ (MayEnd out.every (seen out.acks.last_pass) behind.groups none_took) (λ never. absurd never) (λ all. (behind.last, refl)) job_of (suc out.edge) out.index o.writer.size o (all_applied job_of out.edge behind.groups) [] [] (subst (λ n. HasBegun job_of (suc out.edge) out.index n o (all_applied job_of out.edge behind.groups) [] [] ⊥ ⊤) (sym same) stopped.begun_them)) ([], refl) stopped_not_done tt
+        (begun_where ⊥ (EachTold gate (suc (length behind.groups))) ⊤ (MayEnd out.every (seen out.acks.last_pass) behind.groups none_took) (λ never. absurd never) (λ all. (behind.last, refl)) 0 job_of (suc out.edge) out.index o.writer.size o (all_applied job_of out.edge behind.groups) [] [] (subst (λ n. HasBegun 0 job_of (suc out.edge) out.index n o (all_applied job_of out.edge behind.groups) [] [] ⊥ ⊤) (sym same) stopped.begun_them)) ([], refl) stopped_not_done tt
 
-    pub finished : FinishedIsBegun → AllOver gate → HasFinished job_of (suc out.edge) out.index out.output.writer.size o (all_applied job_of out.edge behind.groups) [] → Ended out gate o t'.runs causes.Done
+    pub finished : FinishedIsBegun → AllOver gate → HasFinished 0 job_of (suc out.edge) out.index out.output.writer.size o (all_applied job_of out.edge behind.groups) [] → Ended out gate o t'.runs causes.Done
     finished law over has =
-        let all = subst (λ n. HasFinished job_of (suc out.edge) out.index n o (all_applied job_of out.edge behind.groups) []) (sym same) has in
+        let all = subst (λ n. HasFinished 0 job_of (suc out.edge) out.index n o (all_applied job_of out.edge behind.groups) []) (sym same) has in
         record {
           groups = behind.groups;
           rest = [];
@@ -243,7 +243,7 @@ module _ (before gate : Account) (t t' : Taking) (out : StageOutput) (behind : I
           snapshots = behind.applied_them.snapshots;
           takes_are = taken.takes;
           front = ([], refl);
-          put = (begun_where ⊥ (EachTold gate (suc (length behind.groups))) ⊤ (MayEnd out.every (seen out.acks.last_pass) behind.groups none_took) (λ never. absurd never) (λ all. (behind.last, refl)) job_of (suc out.edge) out.index o.writer.size o (all_applied job_of out.edge behind.groups) [] [] (law job_of (suc out.edge) out.index o.writer.size o (all_applied job_of out.edge behind.groups) [] all)).each;
+          put = (begun_where ⊥ (EachTold gate (suc (length behind.groups))) ⊤ (MayEnd out.every (seen out.acks.last_pass) behind.groups none_took) (λ never. absurd never) (λ all. (behind.last, refl)) 0 job_of (suc out.edge) out.index o.writer.size o (all_applied job_of out.edge behind.groups) [] [] (law 0 job_of (suc out.edge) out.index o.writer.size o (all_applied job_of out.edge behind.groups) [] all)).each;
           done = λ is. (refl, all.each);
           cause_is = (over, refl, behind.last);
         }

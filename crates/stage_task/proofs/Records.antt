@@ -22,8 +22,8 @@ pub all_short : (r : List ℕ) (made : List (List ℕ)) → IsShort r → AllByR
 all_short r [] short shorter = tt
 all_short r (m ∷ made) short shorter = (omega (arith, short, shorter.0), all_short r made short shorter.1)
 
-module _ (job : Job) (e a size : ℕ) (out : Output) (groups : List (List (List ℕ))) (records given : List (List ℕ)) where
-  pub emitted_among : (given' : List (List ℕ)) → given' ≡ given → StoppedAmong job e a size out groups records given' → EndedAmong job e a size out groups records given causes.Stopped
+module _ (from : ℕ) (job : Job) (e a size : ℕ) (out : Output) (groups : List (List (List ℕ))) (records given : List (List ℕ)) where
+  pub emitted_among : (given' : List (List ℕ)) → given' ≡ given → StoppedAmong from job e a size out groups records given' → EndedAmong from job e a size out groups records given causes.Stopped
   emitted_among given' same was = record {
     done = was.done;
     begun = was.begun;
@@ -33,13 +33,13 @@ module _ (job : Job) (e a size : ℕ) (out : Output) (groups : List (List (List 
     cause_is = inr (refl, was.stopped.fault);
   }
 
-pub emitted_none : SentIsBegun → (job : Job) (e a size : ℕ) (out : Output) (groups : List (List (List ℕ))) (records given : List (List ℕ)) → HasSent job e a size out groups records → EndedAmong job e a size out groups records given causes.Memory
-emitted_none law job e a size out groups records given was = record {
+pub emitted_none : SentIsBegun → (from : ℕ) (job : Job) (e a size : ℕ) (out : Output) (groups : List (List (List ℕ))) (records given : List (List ℕ)) → HasSent from job e a size out groups records → EndedAmong from job e a size out groups records given causes.Memory
+emitted_none law from job e a size out groups records given was = record {
   done = [];
   begun = [];
   rest = given;
   parts = refl;
-  begun_them = subst (λ (l : List (List ℕ)). HasBegun job e a size out groups l [] ⊥ ⊥) (sym (append-nil records)) (law job e a size out groups records was);
+  begun_them = subst (λ (l : List (List ℕ)). HasBegun from job e a size out groups l [] ⊥ ⊥) (sym (append-nil records)) (law from job e a size out groups records was);
   cause_is = inl refl;
 }
 

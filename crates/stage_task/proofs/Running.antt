@@ -40,16 +40,17 @@ use Rattle.stage_task.proofs.Ends.{memory_not_done, stopped_not_done}
 
 pub under_way : (gate : Account) (taking : Taking) (partition : Partition) (w : Writer) (out : StageOutput) → gates.IsNew gate → gate.channels ≡ ways_into out.job.now out.edge
     → ((gate : Account) → gates.IsNew gate → gate.channels ≡ ways_into out.job.now out.edge → HasTaken out.job.now out.edge out.index gate taking [] [])
-    → IsWriterOf out.job.now (out.edge + 1) out.index partition w → IsNew w × IsOpen w
-    → ((job : Job) (e a size : ℕ) → WritesFor job e a size w → IsNew w → IsOpen w → HasSent job e a size out.output [] []) → sent_by out.acks.pass ≡ [] → IsStageUnderWay gate taking out
+    → IsWriterOf out.job.now (out.edge + 1) out.index partition w → IsNew w × IsOpen w × (w.emitted ≡ 0)
+    → ((job : Job) (e a size : ℕ) → WritesFor job e a size w → IsNew w → IsOpen w → HasSent w.emitted job e a size out.output [] []) → sent_by out.acks.pass ≡ [] → IsStageUnderWay gate taking out
 under_way gate taking partition w out new channels none writes fresh none_sent unsent =
-    let sent = none_sent out.job.now (suc out.edge) out.index w.size (record { job_is = writes.job_is; edge = writes.edge ∙ (let z : out.edge + 1 ≡ suc out.edge = omega arith in z); index = writes.index; size_is = refl }) fresh.0 fresh.1 in
+    let sent = subst (λ n. HasSent n out.job.now (suc out.edge) out.index w.size out.output [] []) fresh.2
+    (none_sent out.job.now (suc out.edge) out.index w.size (record { job_is = writes.job_is; edge = writes.edge ∙ (let z : out.edge + 1 ≡ suc out.edge = omega arith in z); index = writes.index; size_is = refl }) fresh.0 fresh.1) in
     record {
       groups = [];
       took = [];
       applied_them = record {
         taken = none gate new channels;
-        sent = subst (λ n. HasSent out.job.now (suc out.edge) out.index n out.output [] []) (sym sent.writes_for.size_is) sent;
+        sent = subst (λ n. HasSent 0 out.job.now (suc out.edge) out.index n out.output [] []) (sym sent.writes_for.size_is) sent;
         snapshots = subst (AreSnapshots out.job.now out.edge out.index 0 0 []) (sym unsent) tt;
       };
       not_last = refl;
@@ -81,7 +82,7 @@ unbegun job e b size every gate passes sent history takes new none_put none_sent
   snapshots = subst (AreSnapshots job e b 0 0 []) (sym none_sent) tt;
   takes_are = subst (λ (l : List TakeRun). RunsTake job e b l []) (sym none_taken) (record { senders_are = refl; are_runs = tt; short = tt });
   front = ([], refl);
-  put = λ c inside. subst (BegunOn (receiver_on job (suc e) b) [] (end_of job (suc e) b c) size [] (EachTold gate (suc (length no_groups))) (MayEnd every history no_groups none_took)) (sym (none_at passes c none_put)) (record {
+  put = λ c inside. subst (BegunOn (receiver_on job (suc e) b) 0 [] (end_of job (suc e) b c) size [] (EachTold gate (suc (length no_groups))) (MayEnd every history no_groups none_took)) (sym (none_at passes c none_put)) (record {
     more = [] ∷ [];
     cut = refl;
     few = inl (omega arith);

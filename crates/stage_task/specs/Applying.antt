@@ -46,7 +46,7 @@ pub record IsSameStage (out out' : StageOutput) : Type 0 where
 -- group.
 pub record HasApplied (gate : Account) (taking : Taking) (out : StageOutput) (groups : List (List (ℕ × List ℕ))) (took : List (ℕ × List ℕ)) : Type 0 where
   pub taken : HasTaken out.job.now out.edge out.index gate taking groups took
-  pub sent : HasSent out.job.now (suc out.edge) out.index out.output.writer.size out.output (all_applied out.job.now out.edge groups) (applied out.job.now out.edge took)
+  pub sent : HasSent 0 out.job.now (suc out.edge) out.index out.output.writer.size out.output (all_applied out.job.now out.edge groups) (applied out.job.now out.edge took)
   pub snapshots : AreSnapshots out.job.now out.edge out.index 0 0 groups (sent_by out.acks.pass)
 
 -- It takes on: the last checkpoint is still to come.
@@ -67,7 +67,7 @@ pub record IsMarked (gate : Account) (taking : Taking) (out : StageOutput) (k : 
   pub groups : List (List (ℕ × List ℕ))
   pub took : List (ℕ × List ℕ)
   pub at : IsAtBarrier out.job.now out.edge out.index gate taking groups took
-  pub sent : HasSent out.job.now (suc out.edge) out.index out.output.writer.size out.output (all_applied out.job.now out.edge groups ++ applied out.job.now out.edge took ∷ []) []
+  pub sent : HasSent 0 out.job.now (suc out.edge) out.index out.output.writer.size out.output (all_applied out.job.now out.edge groups ++ applied out.job.now out.edge took ∷ []) []
   pub snapshots : AreSnapshots out.job.now out.edge out.index 0 0 groups (sent_by out.acks.pass)
   pub not_last : LastIs out.every (seen out.acks.last_pass) (length groups) false
   pub number : k ≡ suc (length groups)
@@ -81,18 +81,18 @@ HasAcknowledged gate taking out false = IsStageUnderWay gate taking out
 
 -- Of what a stage gave for a record the task has emitted the first records, and had begun the one behind them. It was stopped there, or
 -- found no memory.
-pub record EndedAmong (job : Job) (e a size : ℕ) (out : Output) (groups : List (List (List ℕ))) (records given : List (List ℕ)) (cause : Cause) : Type 0 where
+pub record EndedAmong (from : ℕ) (job : Job) (e a size : ℕ) (out : Output) (groups : List (List (List ℕ))) (records given : List (List ℕ)) (cause : Cause) : Type 0 where
   pub done : List (List ℕ)
   pub begun : List (List ℕ)
   pub rest : List (List ℕ)
   pub parts : given ≡ done ++ (begun ++ rest)
-  pub begun_them : HasBegun job e a size out groups (records ++ done) begun ⊥ ⊥
+  pub begun_them : HasBegun from job e a size out groups (records ++ done) begun ⊥ ⊥
   pub cause_is : (cause ≡ causes.Memory) ⊎ ((cause ≡ causes.Stopped) × HasSeenFault out.writer)
 
 -- It has emitted all of it, or ended among it.
-abbrev pub EmittedAll : Job → ℕ → ℕ → ℕ → Output → List (List (List ℕ)) → List (List ℕ) → List (List ℕ) → Result Unit Cause → Type 0
-EmittedAll job e a size out groups records given (Ok done) = HasSent job e a size out groups (records ++ given)
-EmittedAll job e a size out groups records given (Err cause) = EndedAmong job e a size out groups records given cause
+abbrev pub EmittedAll : ℕ → Job → ℕ → ℕ → ℕ → Output → List (List (List ℕ)) → List (List ℕ) → List (List ℕ) → Result Unit Cause → Type 0
+EmittedAll from job e a size out groups records given (Ok done) = HasSent from job e a size out groups (records ++ given)
+EmittedAll from job e a size out groups records given (Err cause) = EndedAmong from job e a size out groups records given cause
 
 -- ---- where it ends
 

@@ -34,8 +34,8 @@ pub record StageAccount (job : Job) (e b size : ℕ) (every : Option ℕ) (gate 
   pub snapshots : AreSnapshots job e b 0 0 groups sent
   pub takes_are : RunsTake job e b takes rest
   pub front : StartsWith (applied job e rest) more
-  pub put : (c : ℕ) → c < ways_on job (suc e) → BegunOn (receiver_on job (suc e) b) (all_applied job e groups) (end_of job (suc e) b c) size more (EachTold gate (suc (length groups))) (MayEnd every history groups rest) (mine_at c passes)
-  pub done : cause ≡ causes.Done → (rest ≡ []) × ((c : ℕ) → c < ways_on job (suc e) → FinishedOn (receiver_on job (suc e) b) (all_applied job e groups) (end_of job (suc e) b c) size [] (mine_at c passes))
+  pub put : (c : ℕ) → c < ways_on job (suc e) → BegunOn (receiver_on job (suc e) b) 0 (all_applied job e groups) (end_of job (suc e) b c) size more (EachTold gate (suc (length groups))) (MayEnd every history groups rest) (mine_at c passes)
+  pub done : cause ≡ causes.Done → (rest ≡ []) × ((c : ℕ) → c < ways_on job (suc e) → FinishedOn (receiver_on job (suc e) b) 0 (all_applied job e groups) (end_of job (suc e) b c) size [] (mine_at c passes))
   pub cause_is : IsTakerEnd every history gate groups rest cause
 
 -- ---- what it is

@@ -144,8 +144,8 @@ fn apply_one<R: Wait>(
     requires is_open { IsOpen output.old.writer }
     ensures same { IsSame output.old.writer output.new.writer }
     ensures is_open { OnOk result (IsOpen output.new.writer) }
-    ensures emitted { (job : Job) (e a size : ℕ) (groups : List (List (List ℕ))) (records : List (List ℕ)) → HasSent job e a size output.old groups records →
-        EmittedAll job e a size output.new groups records (apply stage.now line.now) result }
+    ensures emitted { (from : ℕ) (job : Job) (e a size : ℕ) (groups : List (List (List ℕ))) (records : List (List ℕ)) → HasSent from job e a size output.old groups records →
+        EmittedAll from job e a size output.new groups records (apply stage.now line.now) result }
 {
     what_was_sent_was_begun();
     given.clear();

@@ -72,7 +72,7 @@ pub fn run_stage<'a, 'p, G: Gate, R: Wait>(
             Cause::Memory,
         );
     };
-    match RecordWriter::new(alloc, job, edge + 1, index, partition, stop, stop_pass) {
+    match RecordWriter::new(alloc, job, edge + 1, index, 0, partition, stop, stop_pass) {
         Ok(writer) => {
             let mut out = StageOutput {
                 output: TaskOutput::new(writer),

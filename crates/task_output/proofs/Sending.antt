@@ -48,7 +48,7 @@ next_same k xs ys is next = next ∙ ap (λ (l : List (ℕ × BarrierKind)). suc
 next_one : (n : ℕ) (xs ys : List (ℕ × BarrierKind)) (x : ℕ × BarrierKind) → ys ≡ xs ++ x ∷ [] → suc n ≡ suc (length xs) → suc (suc n) ≡ suc (length ys)
 next_one n xs ys x is next = ap suc (next ∙ omega (arith, length-append xs (x ∷ []))) ∙ ap (λ (l : List (ℕ × BarrierKind)). suc (length l)) (sym is)
 
-module _ (laws : Laws) (job : Job) (e a size : ℕ) (old new : Output) (groups : List (List (List ℕ))) (records : List (List ℕ)) (same : IsSame old.writer new.writer) (was : HasSent job e a size old groups records) where
+module _ (laws : Laws) (from : ℕ) (job : Job) (e a size : ℕ) (old new : Output) (groups : List (List (List ℕ))) (records : List (List ℕ)) (same : IsSame old.writer new.writer) (was : HasSent from job e a size old groups records) where
   at_old : (c : ℕ) → c < ways_on job e → c < ways_on old.writer.job old.writer.edge
   at_old c inside = subst (λ n. c < n) (sym (ways_are job e a size old.writer was.writes_for)) inside
 
@@ -56,54 +56,54 @@ module _ (laws : Laws) (job : Job) (e a size : ℕ) (old new : Output) (groups :
   at_old_of_new c inside =
       at_old c (subst (λ n. c < n) (ways_are job e a size new.writer (writes_same job e a size old.writer new.writer same was.writes_for)) inside)
 
-  comes : (more : List (List ℕ)) (c : ℕ) → coming old.writer more c ≡ all_encoded (emit (receiver_on job e a) (count_after (count_behind groups) records) more (end_of job e a c))
-  comes more c = coming_is job e a size old.writer was.writes_for (count_after (count_behind groups) records) more c (was.agrees ∙ was.counted)
+  comes : (more : List (List ℕ)) (c : ℕ) → coming old.writer more c ≡ all_encoded (emit (receiver_on job e a) (count_after (count_behind from groups) records) more (end_of job e a c))
+  comes more c = coming_is job e a size old.writer was.writes_for (count_after (count_behind from groups) records) more c (was.agrees ∙ was.counted)
 
-  with_coming : (more : List (List ℕ)) (c : ℕ) → laid_at old.writer c ++ coming old.writer more c ≡ laid_at old.writer c ++ all_encoded (emit (receiver_on job e a) (count_after (count_behind groups) records) more (end_of job e a c))
+  with_coming : (more : List (List ℕ)) (c : ℕ) → laid_at old.writer c ++ coming old.writer more c ≡ laid_at old.writer c ++ all_encoded (emit (receiver_on job e a) (count_after (count_behind from groups) records) more (end_of job e a c))
   with_coming more c = ap (λ l. laid_at old.writer c ++ l) (comes more c)
 
   -- it has emitted these records more
-  pub sent_more : (more : List (List ℕ)) → IsOpen new.writer → HasEmitted old.writer new.writer more → HasPutData old.writer new.writer → new.emitted ≡ new.writer.emitted → HasSent job e a size new groups (records ++ more)
+  pub sent_more : (more : List (List ℕ)) → IsOpen new.writer → HasEmitted old.writer new.writer more → HasPutData old.writer new.writer → new.emitted ≡ new.writer.emitted → HasSent from job e a size new groups (records ++ more)
   sent_more more is_open emitted grew counts = record {
     writes_for = writes_same job e a size old.writer new.writer same was.writes_for;
     is_open = is_open;
     next = λ c inside. let grown = grew c (at_old_of_new c inside) in
         next_same (suc (length groups)) (barriers_put (own_at old.writer c)) (barriers_put (own_at new.writer c)) (ap barriers_put grown.1 ∙ barriers_same (own_at old.writer c) grown.0) (was.next c (at_old_of_new c inside));
-    counted = counts ∙ emitted.count ∙ ap (λ n. count_after n more) (was.agrees ∙ was.counted) ∙ sym (laws.count (count_behind groups) records more);
+    counted = counts ∙ emitted.count ∙ ap (λ n. count_after n more) (was.agrees ∙ was.counted) ∙ sym (laws.count (count_behind from groups) records more);
     agrees = sym counts;
     each = λ c inside.
-        sent_then laws (receiver_on job e a) (end_of job e a c) groups records (own_at old.writer c) (filling_at old.writer c) (was.each c inside) (own_at new.writer c) more (filling_at new.writer c)
+        sent_then laws (receiver_on job e a) (end_of job e a c) from groups records (own_at old.writer c) (filling_at old.writer c) (was.each c inside) (own_at new.writer c) more (filling_at new.writer c)
         (grew c (at_old c inside)) (emitted.each c (at_old c inside) ∙ with_coming more c);
   }
 
-  some_at : (more : List (List ℕ)) (c : ℕ) → PutSome old.writer.size (own_at new.writer c) (laid_at old.writer c ++ coming old.writer more c) → PutSome size (own_at new.writer c) (laid_at old.writer c ++ all_encoded (emit (receiver_on job e a) (count_after (count_behind groups) records) more (end_of job e a c)))
-  some_at more c some = subst (λ s. PutSome s (own_at new.writer c) (laid_at old.writer c ++ all_encoded (emit (receiver_on job e a) (count_after (count_behind groups) records) more (end_of job e a c)))) was.writes_for.size_is
+  some_at : (more : List (List ℕ)) (c : ℕ) → PutSome old.writer.size (own_at new.writer c) (laid_at old.writer c ++ coming old.writer more c) → PutSome size (own_at new.writer c) (laid_at old.writer c ++ all_encoded (emit (receiver_on job e a) (count_after (count_behind from groups) records) more (end_of job e a c)))
+  some_at more c some = subst (λ s. PutSome s (own_at new.writer c) (laid_at old.writer c ++ all_encoded (emit (receiver_on job e a) (count_after (count_behind from groups) records) more (end_of job e a c)))) was.writes_for.size_is
       (subst (PutSome old.writer.size (own_at new.writer c)) (with_coming more c) some)
 
   -- it was stopped among these
-  pub sent_until : (more : List (List ℕ)) → WasStopped old.writer new.writer more → HasPutData old.writer new.writer → new.emitted ≡ old.emitted → HasStopped job e a size new groups records more ⊥ ⊥
+  pub sent_until : (more : List (List ℕ)) → WasStopped old.writer new.writer more → HasPutData old.writer new.writer → new.emitted ≡ old.emitted → HasStopped from job e a size new groups records more ⊥ ⊥
   sent_until more stopped grew counts = record {
     fault = stopped.fault;
     begun_them = record {
       counted = counts ∙ was.counted;
       each = λ c inside.
-          begun_then laws (receiver_on job e a) (end_of job e a c) groups records (own_at old.writer c) (filling_at old.writer c) (was.each c inside) (own_at new.writer c) size more
+          begun_then laws (receiver_on job e a) (end_of job e a c) from groups records (own_at old.writer c) (filling_at old.writer c) (was.each c inside) (own_at new.writer c) size more
           (some_at more c (stopped.each c (at_old c inside))) ⊥ (was.is_open.each c (at_old c inside)).0 (grew c (at_old c inside));
     };
   }
 
   -- it has put a barrier behind them
-  pub sent_marked : (k : ℕ) → IsOpen new.writer → HasMarked old.writer new.writer k → new.emitted ≡ old.emitted → HasSent job e a size new (groups ++ records ∷ []) []
+  pub sent_marked : (k : ℕ) → IsOpen new.writer → HasMarked old.writer new.writer k → new.emitted ≡ old.emitted → HasSent from job e a size new (groups ++ records ∷ []) []
   sent_marked k is_open marked counts = record {
     writes_for = writes_same job e a size old.writer new.writer same was.writes_for;
     is_open = is_open;
     next = λ c inside. let grown = marked.entries c (at_old_of_new c inside) in
         ap suc (omega (arith, length-append groups (records ∷ [])))
         ∙ next_one (length groups) (barriers_put (own_at old.writer c)) (barriers_put (own_at new.writer c)) _ (ap barriers_put grown.1 ∙ barriers_one (own_at old.writer c) grown.0 k) (was.next c (at_old_of_new c inside));
-    counted = counts ∙ was.counted ∙ sym (laws.count 0 (all_of groups) records) ∙ ap (count_after 0) (all_more groups records);
+    counted = counts ∙ was.counted ∙ sym (laws.count from (all_of groups) records) ∙ ap (count_after from) (all_more groups records);
     agrees = marked.count ∙ was.agrees ∙ sym counts;
     each = λ c inside.
-        marked_then laws (receiver_on job e a) (end_of job e a c) groups records (own_at old.writer c) (filling_at old.writer c) (was.each c inside) (own_at new.writer c) k (filling_at new.writer c)
+        marked_then laws (receiver_on job e a) (end_of job e a c) from groups records (own_at old.writer c) (filling_at old.writer c) (was.each c inside) (own_at new.writer c) k (filling_at new.writer c)
         (marked.entries c (at_old c inside)) (marked.whole c (at_old c inside)) (marked.none_filled c (at_old c inside));
   }
     where
@@ -112,34 +112,34 @@ module _ (laws : Laws) (job : Job) (e a size : ℕ) (old new : Output) (groups :
       all_more (g ∷ gs) rs = append_assoc g (all_of gs) rs ∙ ap (λ l. g ++ l) (all_more gs rs)
 
   -- it was stopped at the barrier
-  pub marked_until : (k : ℕ) → WasStopped old.writer new.writer [] → HasPutTowards (PutInline k) old.writer new.writer → new.emitted ≡ old.emitted → HasStopped job e a size new groups records [] ⊤ ⊥
+  pub marked_until : (k : ℕ) → WasStopped old.writer new.writer [] → HasPutTowards (PutInline k) old.writer new.writer → new.emitted ≡ old.emitted → HasStopped from job e a size new groups records [] ⊤ ⊥
   marked_until k stopped grew counts = record {
     fault = stopped.fault;
     begun_them = record {
       counted = counts ∙ was.counted;
       each = λ c inside.
-          begun_barrier laws (receiver_on job e a) (end_of job e a c) groups records (own_at old.writer c) (filling_at old.writer c) (was.each c inside) (own_at new.writer c) size []
+          begun_barrier laws (receiver_on job e a) (end_of job e a c) from groups records (own_at old.writer c) (filling_at old.writer c) (was.each c inside) (own_at new.writer c) size []
           (some_at [] c (stopped.each c (at_old c inside))) k (was.is_open.each c (at_old c inside)).0 (grew c (at_old c inside));
     };
   }
 
   -- it has ended its channels
-  pub sent_whole : writers.HasFinished old.writer new.writer → new.emitted ≡ old.emitted → HasFinished job e a size new groups records
+  pub sent_whole : writers.HasFinished old.writer new.writer → new.emitted ≡ old.emitted → HasFinished from job e a size new groups records
   sent_whole finished counts = record {
     counted = counts ∙ was.counted;
     each = λ c inside.
-        finished_then laws (receiver_on job e a) (end_of job e a c) groups records (own_at old.writer c) (filling_at old.writer c) (was.each c inside) (own_at new.writer c) size
+        finished_then laws (receiver_on job e a) (end_of job e a c) from groups records (own_at old.writer c) (filling_at old.writer c) (was.each c inside) (own_at new.writer c) size
         (finished.entries c (at_old c inside)) (subst (λ s. PutAll s (own_at new.writer c) (laid_at old.writer c)) was.writes_for.size_is (finished.each c (at_old c inside)));
   }
 
   -- it was stopped at the end
-  pub whole_until : WasStopped old.writer new.writer [] → HasPutTowards Finish old.writer new.writer → new.emitted ≡ old.emitted → HasStopped job e a size new groups records [] ⊥ ⊤
+  pub whole_until : WasStopped old.writer new.writer [] → HasPutTowards Finish old.writer new.writer → new.emitted ≡ old.emitted → HasStopped from job e a size new groups records [] ⊥ ⊤
   whole_until stopped grew counts = record {
     fault = stopped.fault;
     begun_them = record {
       counted = counts ∙ was.counted;
       each = λ c inside.
-          begun_end laws (receiver_on job e a) (end_of job e a c) groups records (own_at old.writer c) (filling_at old.writer c) (was.each c inside) (own_at new.writer c) size []
+          begun_end laws (receiver_on job e a) (end_of job e a c) from groups records (own_at old.writer c) (filling_at old.writer c) (was.each c inside) (own_at new.writer c) size []
           (some_at [] c (stopped.each c (at_old c inside))) (grew c (at_old c inside));
     };
   }

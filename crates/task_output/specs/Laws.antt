@@ -5,14 +5,14 @@ use Rattle.task_output.specs.Outputs.{Output, HasSent, HasBegun, HasFinished}
 
 -- A task that goes on has begun nothing more than it emitted, and put no further barrier and no end.
 abbrev pub SentIsBegun : Type 0
-SentIsBegun = (job : Job) (e a size : ℕ) (out : Output) (groups : List (List (List ℕ))) (records : List (List ℕ)) → HasSent job e a size out groups records → HasBegun job e a size out groups records [] ⊥ ⊥
+SentIsBegun = (from : ℕ) (job : Job) (e a size : ℕ) (out : Output) (groups : List (List (List ℕ))) (records : List (List ℕ)) → HasSent from job e a size out groups records → HasBegun from job e a size out groups records [] ⊥ ⊥
 
 -- And so has one that has ended its channels.
 abbrev pub FinishedIsBegun : Type 0
-FinishedIsBegun = (job : Job) (e a size : ℕ) (out : Output) (groups : List (List (List ℕ))) (records : List (List ℕ)) → HasFinished job e a size out groups records → HasBegun job e a size out groups records [] ⊥ ⊤
+FinishedIsBegun = (from : ℕ) (job : Job) (e a size : ℕ) (out : Output) (groups : List (List (List ℕ))) (records : List (List ℕ)) → HasFinished from job e a size out groups records → HasBegun from job e a size out groups records [] ⊥ ⊤
 
 -- Where nothing was emitted behind the last barrier, that barrier may be left aside.
 abbrev pub BarrierIsLeftAside : Type 0
 BarrierIsLeftAside =
-    (job : Job) (e a size : ℕ) (out : Output) (groups : List (List (List ℕ))) (group : List (List ℕ)) →
-    HasSent job e a size out (groups ++ group ∷ []) [] → HasBegun job e a size out groups group [] ⊤ ⊥
+    (from : ℕ) (job : Job) (e a size : ℕ) (out : Output) (groups : List (List (List ℕ))) (group : List (List ℕ)) →
+    HasSent from job e a size out (groups ++ group ∷ []) [] → HasBegun from job e a size out groups group [] ⊤ ⊥

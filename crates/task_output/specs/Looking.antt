@@ -34,7 +34,7 @@ look_twice one two three first second = record {
 -- It writes by the same writer, and has sent what it had.
 pub record HasSentNoMore (out out' : Output) : Type 0 where
   pub same : IsSame out.writer out'.writer
-  pub still : (job : Job) (e a size : ℕ) (groups : List (List (List ℕ))) (records : List (List ℕ)) → HasSent job e a size out groups records → HasSent job e a size out' groups records
+  pub still : (from : ℕ) (job : Job) (e a size : ℕ) (groups : List (List (List ℕ))) (records : List (List ℕ)) → HasSent from job e a size out groups records → HasSent from job e a size out' groups records
 
 pub same_itself : (w : Writer) → IsSame w w
 same_itself w = record { job = refl; edge = refl; index = refl; cells = refl; first = refl; stride = refl; size = refl; pool = refl; stop = refl; stop_pass = (refl, refl) }
@@ -54,10 +54,10 @@ same_twice w v u first second = record {
 }
 
 pub sent_itself : (out : Output) → HasSentNoMore out out
-sent_itself out = record { same = same_itself out.writer; still = λ job e a size groups records was. was }
+sent_itself out = record { same = same_itself out.writer; still = λ from job e a size groups records was. was }
 
 pub sent_twice : (one two three : Output) → HasSentNoMore one two → HasSentNoMore two three → HasSentNoMore one three
 sent_twice one two three first second = record {
   same = same_twice one.writer two.writer three.writer first.same second.same;
-  still = λ job e a size groups records was. second.still job e a size groups records (first.still job e a size groups records was);
+  still = λ from job e a size groups records was. second.still from job e a size groups records (first.still from job e a size groups records was);
 }

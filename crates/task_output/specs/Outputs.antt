@@ -25,34 +25,34 @@ abbrev pub brought : (ℕ → List ℕ → ℕ) → ℕ → List (List (List ℕ
 brought to n [] b = []
 brought to n (group ∷ groups) b = all_encoded (emit to n group b) ∷ brought to (count_after n group) groups b
 
--- All records of the groups, and the count behind them.
+-- All records of the groups; and the count behind them, where so many records were emitted before.
 abbrev pub all_of : List (List (List ℕ)) → List (List ℕ)
 all_of groups = flat_map (λ (group : List (List ℕ)). group) groups
 
-abbrev pub count_behind : List (List (List ℕ)) → ℕ
-count_behind groups = count_after 0 (all_of groups)
+abbrev pub count_behind : ℕ → List (List (List ℕ)) → ℕ
+count_behind from groups = count_after from (all_of groups)
 
--- Where records go: the task that gets each, and how many of them each task gets.
-module _ (to : ℕ → List ℕ → ℕ) (groups : List (List (List ℕ))) (b : ℕ) where
+-- Where records go, and how many were emitted before.
+module _ (to : ℕ → List ℕ → ℕ) (from : ℕ) (groups : List (List (List ℕ))) (b : ℕ) where
   -- On the channel to task b the groups were put, each before its barrier, and behind the last barrier these records are laid down.
   pub record SentOn (records : List (List ℕ)) (own : List SendEntry) (filling : List ℕ) : Type 0 where
     pub behind : List ℕ
-    pub cut : stretches (parcels_put own) ≡ brought to 0 groups b ++ behind ∷ []
-    pub laid : behind ++ filling ≡ all_encoded (emit to (count_behind groups) records b)
+    pub cut : stretches (parcels_put own) ≡ brought to from groups b ++ behind ∷ []
+    pub laid : behind ++ filling ≡ all_encoded (emit to (count_behind from groups) records b)
 
   -- The groups were put, each before its barrier, and of these records some. A further barrier was put only where that may be, and not
   -- two; and the end only where that may be, with no further barrier before it.
   pub record BegunOn (size : ℕ) (records : List (List ℕ)) (may_mark may_end : Type 0) (own : List SendEntry) : Type 0 where
     pub more : List (List ℕ)
-    pub cut : stretches (parcels_put own) ≡ brought to 0 groups b ++ more
+    pub cut : stretches (parcels_put own) ≡ brought to from groups b ++ more
     pub few : (length more ≤ 1) ⊎ (may_mark × (length more ≤ 2))
     pub ended : is_finished own ≡ true → may_end × (length more ≡ 1)
-    pub some : PutSome size own (all_encoded (emit to 0 (all_of groups ++ records) b))
+    pub some : PutSome size own (all_encoded (emit to from (all_of groups ++ records) b))
 
   -- The groups were put, each before its barrier, and then all of these records and the end.
   pub record FinishedOn (size : ℕ) (records : List (List ℕ)) (own : List SendEntry) : Type 0 where
-    pub cut : stretches (parcels_put own) ≡ brought to 0 groups b ++ all_encoded (emit to (count_behind groups) records b) ∷ []
-    pub all : PutAll size own (all_encoded (emit to 0 (all_of groups ++ records) b))
+    pub cut : stretches (parcels_put own) ≡ brought to from groups b ++ all_encoded (emit to (count_behind from groups) records b) ∷ []
+    pub all : PutAll size own (all_encoded (emit to from (all_of groups ++ records) b))
 
 -- ---- the channel to a task
 
@@ -68,7 +68,7 @@ parcels_to job e passes b = parcels_put (mine_at (place_to (exchange job e) b) p
 
 -- ---- what a task sent
 
--- A task's writer, and how many records the task has emitted by it.
+-- A task's writer, and how many records the task has emitted.
 pub record Output : Type 0 where
   pub writer : Writer
   pub emitted : ℕ
@@ -88,38 +88,39 @@ filling_at w c = option_map_or (λ (bytes : List ℕ). bytes) (slice_get w.filli
 abbrev pub end_of : Job → ℕ → ℕ → ℕ → ℕ
 end_of job e a c = receiver_at (exchange job e) a c
 
--- The task has emitted these groups of records, put a barrier behind each, and then emitted these records. It goes on.
-pub record HasSent (job : Job) (e a size : ℕ) (out : Output) (groups : List (List (List ℕ))) (records : List (List ℕ)) : Type 0 where
+-- Behind so many records before, the task has emitted these groups of records, put a barrier behind each, and then emitted these records. It
+-- goes on.
+pub record HasSent (from : ℕ) (job : Job) (e a size : ℕ) (out : Output) (groups : List (List (List ℕ))) (records : List (List ℕ)) : Type 0 where
   pub writes_for : WritesFor job e a size out.writer
   pub is_open : IsOpen out.writer
   pub next : IsNextBarrier out.writer (suc (length groups))
-  pub counted : out.emitted ≡ count_after (count_behind groups) records
+  pub counted : out.emitted ≡ count_after (count_behind from groups) records
   pub agrees : out.writer.emitted ≡ out.emitted
-  pub each : (c : ℕ) → c < ways_on job e → SentOn (receiver_on job e a) groups (end_of job e a c) records (own_at out.writer c) (filling_at out.writer c)
+  pub each : (c : ℕ) → c < ways_on job e → SentOn (receiver_on job e a) from groups (end_of job e a c) records (own_at out.writer c) (filling_at out.writer c)
 
 -- It has emitted these records behind the barriers, and had begun to emit those. It may have put a further barrier only where that may be,
 -- and its channels may have ended only where that may be.
-pub record HasBegun (job : Job) (e a size : ℕ) (out : Output) (groups : List (List (List ℕ))) (records begun : List (List ℕ)) (may_mark may_end : Type 0) : Type 0 where
-  pub counted : out.emitted ≡ count_after (count_behind groups) records
-  pub each : (c : ℕ) → c < ways_on job e → BegunOn (receiver_on job e a) groups (end_of job e a c) size (records ++ begun) may_mark may_end (own_at out.writer c)
+pub record HasBegun (from : ℕ) (job : Job) (e a size : ℕ) (out : Output) (groups : List (List (List ℕ))) (records begun : List (List ℕ)) (may_mark may_end : Type 0) : Type 0 where
+  pub counted : out.emitted ≡ count_after (count_behind from groups) records
+  pub each : (c : ℕ) → c < ways_on job e → BegunOn (receiver_on job e a) from groups (end_of job e a c) size (records ++ begun) may_mark may_end (own_at out.writer c)
 
 -- It was stopped among them.
-pub record HasStopped (job : Job) (e a size : ℕ) (out : Output) (groups : List (List (List ℕ))) (records begun : List (List ℕ)) (may_mark may_end : Type 0) : Type 0 where
+pub record HasStopped (from : ℕ) (job : Job) (e a size : ℕ) (out : Output) (groups : List (List (List ℕ))) (records begun : List (List ℕ)) (may_mark may_end : Type 0) : Type 0 where
   pub fault : seen out.writer.stop_pass ≢ []
-  pub begun_them : HasBegun job e a size out groups records begun may_mark may_end
+  pub begun_them : HasBegun from job e a size out groups records begun may_mark may_end
 
 -- It has ended its channels.
-pub record HasFinished (job : Job) (e a size : ℕ) (out : Output) (groups : List (List (List ℕ))) (records : List (List ℕ)) : Type 0 where
-  pub counted : out.emitted ≡ count_after (count_behind groups) records
-  pub each : (c : ℕ) → c < ways_on job e → FinishedOn (receiver_on job e a) groups (end_of job e a c) size records (own_at out.writer c)
+pub record HasFinished (from : ℕ) (job : Job) (e a size : ℕ) (out : Output) (groups : List (List (List ℕ))) (records : List (List ℕ)) : Type 0 where
+  pub counted : out.emitted ≡ count_after (count_behind from groups) records
+  pub each : (c : ℕ) → c < ways_on job e → FinishedOn (receiver_on job e a) from groups (end_of job e a c) size records (own_at out.writer c)
 
 -- Of these further records it has emitted the first ones, and had begun the one behind them.
-pub record StoppedAmong (job : Job) (e a size : ℕ) (out : Output) (groups : List (List (List ℕ))) (records further : List (List ℕ)) : Type 0 where
+pub record StoppedAmong (from : ℕ) (job : Job) (e a size : ℕ) (out : Output) (groups : List (List (List ℕ))) (records further : List (List ℕ)) : Type 0 where
   pub done : List (List ℕ)
   pub begun : List (List ℕ)
   pub rest : List (List ℕ)
   pub parts : further ≡ done ++ (begun ++ rest)
-  pub stopped : HasStopped job e a size out groups (records ++ done) begun ⊥ ⊥
+  pub stopped : HasStopped from job e a size out groups (records ++ done) begun ⊥ ⊥
 
 -- The bytes of each of these.
 abbrev pub bytes_of : List (Items ℕ) → List (List ℕ)

@@ -19,7 +19,7 @@ use std::marker::Model;
 use std::sync::Wait;
 use turn_cell::Pass;
 
-/// A task's writer, and how many records the task has emitted by it, modulo 2^64.
+/// A task's writer, and how many records the task has emitted, modulo 2^64.
 ///
 /// As in Flink a task emits records and, for each checkpoint, an aligned barrier behind those that it emitted
 /// before. Where the writer was stopped on a record, the record is none of those emitted. No call takes
@@ -39,12 +39,13 @@ impl<'a, 'p> Model for TaskOutput<'a, 'p> {
 }
 
 impl<'a, 'p> TaskOutput<'a, 'p> {
-    /// Nothing was emitted yet by this writer.
+    /// A new writer has put nothing yet, and goes on from what its task emitted before.
     pub fn new(writer: RecordWriter<'a, 'p>) -> Self
-        ensures writer { (result.writer ≡ writer.entry) × (result.emitted ≡ 0) }
-        ensures none { (job : Job) (e a size : ℕ) → WritesFor job e a size writer.entry → IsNew writer.entry → IsOpen writer.entry → HasSent job e a size result [] [] }
+        ensures writer { (result.writer ≡ writer.entry) × (result.emitted ≡ writer.entry.emitted) }
+        ensures none { (job : Job) (e a size : ℕ) → WritesFor job e a size writer.entry → IsNew writer.entry → IsOpen writer.entry → HasSent writer.entry.emitted job e a size result [] [] }
     {
-        TaskOutput { writer, emitted: 0 }
+        let emitted = writer.emitted();
+        TaskOutput { writer, emitted }
     }
 
     /// Emits a record.
@@ -53,8 +54,8 @@ impl<'a, 'p> TaskOutput<'a, 'p> {
         requires short { IsShort line.now }
         ensures same { IsSame self.old.writer self.new.writer }
         ensures is_open { OnOk result (IsOpen self.new.writer) }
-        ensures emitted { (job : Job) (e a size : ℕ) (groups : List (List (List ℕ))) (records : List (List ℕ)) → HasSent job e a size self.old groups records →
-            MatchResult result (λ _. HasSent job e a size self.new groups (records ++ line.now ∷ [])) (λ _. HasStopped job e a size self.new groups records (line.now ∷ []) ⊥ ⊥) }
+        ensures emitted { (from : ℕ) (job : Job) (e a size : ℕ) (groups : List (List (List ℕ))) (records : List (List ℕ)) → HasSent from job e a size self.old groups records →
+            MatchResult result (λ _. HasSent from job e a size self.new groups (records ++ line.now ∷ [])) (λ _. HasStopped from job e a size self.new groups records (line.now ∷ []) ⊥ ⊥) }
     {
         stretches_grow();
         emits_in_parts();
@@ -73,8 +74,8 @@ impl<'a, 'p> TaskOutput<'a, 'p> {
         requires short { AllByRecursion IsShort (bytes_of lines.now) }
         ensures same { IsSame self.old.writer self.new.writer }
         ensures is_open { OnOk result (IsOpen self.new.writer) }
-        ensures emitted { (job : Job) (e a size : ℕ) (groups : List (List (List ℕ))) (records : List (List ℕ)) → HasSent job e a size self.old groups records →
-            MatchResult result (λ _. HasSent job e a size self.new groups (records ++ bytes_of lines.now)) (λ _. StoppedAmong job e a size self.new groups records (bytes_of lines.now)) }
+        ensures emitted { (from : ℕ) (job : Job) (e a size : ℕ) (groups : List (List (List ℕ))) (records : List (List ℕ)) → HasSent from job e a size self.old groups records →
+            MatchResult result (λ _. HasSent from job e a size self.new groups (records ++ bytes_of lines.now)) (λ _. StoppedAmong from job e a size self.new groups records (bytes_of lines.now)) }
     {
         for line in lines {
             match self.emit(rt, line.as_slice()) {
@@ -92,8 +93,8 @@ impl<'a, 'p> TaskOutput<'a, 'p> {
         requires next { IsNextBarrier self.old.writer k }
         ensures same { IsSame self.old.writer self.new.writer }
         ensures is_open { OnOk result (IsOpen self.new.writer) }
-        ensures marked { (job : Job) (e a size : ℕ) (groups : List (List (List ℕ))) (records : List (List ℕ)) → HasSent job e a size self.old groups records →
-            MatchResult result (λ _. HasSent job e a size self.new (groups ++ records ∷ []) []) (λ _. HasStopped job e a size self.new groups records [] ⊤ ⊥) }
+        ensures marked { (from : ℕ) (job : Job) (e a size : ℕ) (groups : List (List (List ℕ))) (records : List (List ℕ)) → HasSent from job e a size self.old groups records →
+            MatchResult result (λ _. HasSent from job e a size self.new (groups ++ records ∷ []) []) (λ _. HasStopped from job e a size self.new groups records [] ⊤ ⊥) }
     {
         stretches_grow();
         emits_in_parts();
@@ -108,8 +109,8 @@ impl<'a, 'p> TaskOutput<'a, 'p> {
     pub fn finish<R: Wait>(&mut self, rt: &R) -> Result<(), WriterStopped>
         requires { IsOpen self.old.writer }
         ensures same { IsSame self.old.writer self.new.writer }
-        ensures finished { (job : Job) (e a size : ℕ) (groups : List (List (List ℕ))) (records : List (List ℕ)) → HasSent job e a size self.old groups records →
-            MatchResult result (λ _. HasFinished job e a size self.new groups records) (λ _. HasStopped job e a size self.new groups records [] ⊥ ⊤) }
+        ensures finished { (from : ℕ) (job : Job) (e a size : ℕ) (groups : List (List (List ℕ))) (records : List (List ℕ)) → HasSent from job e a size self.old groups records →
+            MatchResult result (λ _. HasFinished from job e a size self.new groups records) (λ _. HasStopped from job e a size self.new groups records [] ⊥ ⊤) }
     {
         stretches_grow();
         emits_in_parts();

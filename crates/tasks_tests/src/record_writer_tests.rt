@@ -196,7 +196,7 @@ fn run<'a, 'p, R: Wait + Abort>(
         stop,
         stop_pass,
     } = task;
-    let Ok(mut writer) = RecordWriter::new(alloc, job, edge, index, partition, stop, stop_pass)
+    let Ok(mut writer) = RecordWriter::new(alloc, job, edge, index, 0, partition, stop, stop_pass)
     else {
         panic!(rt; "no memory")
     };

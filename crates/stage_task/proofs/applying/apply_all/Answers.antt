@@ -56,7 +56,7 @@ returns-in-Err-apply_one-clause-ended g c =
     (applied_behind c.args.out.now.job.now c.args.out.now.edge c.as_slice.result.now c.in-Some.stage.now r line c.as_slice.ensures c.in-Some.ensures.lookup.3.0 (c.in-Some.ensures.lookup.3.1 c.in-Some.stage.now) c.as_slice-line.ensures) in
     named out.job.now out.edge out.index c.apply_one.new.output.writer.size out.every gate c.apply_one.new.output.writer.passes (sent_by out.acks.pass) (seen out.acks.last_pass) t.runs c.end_of.result.takes.items c.in-Err-apply_one.cause c.end_of.result.cause c.end_of.ensures.0 c.end_of.ensures.1
     (line_ended out before gate c.loop-item.taking t u.groups u.took u.applied_them took.1.0 line given took.1.1 gives c.what_was_taken_was_given.ensures.taken c.apply_one.new.output c.in-Err-apply_one.cause c.apply_one.ensures.same.size
-    (c.in-Err-apply_one.ensures.emitted out.job.now (suc out.edge) out.index out.output.writer.size (all_applied out.job.now out.edge u.groups) (applied out.job.now out.edge u.took) u.applied_them.sent))
+    (c.in-Err-apply_one.ensures.emitted 0 out.job.now (suc out.edge) out.index out.output.writer.size (all_applied out.job.now out.edge u.groups) (applied out.job.now out.edge u.took) u.applied_them.sent))
 
 pub returns-in-Err-apply_one-clause-stopped : goal.returns-in-Err-apply_one-clause-stopped
 returns-in-Err-apply_one-clause-stopped g c =
@@ -67,7 +67,7 @@ returns-in-Err-apply_one-clause-stopped g c =
     let gate = g.G.Gate.account c.next-in-loop-item.new.gate in
     let t = c.next-in-loop-item.new.self in
     among_stopped (g.G.Gate.saw_stop c.next-in-loop-item.new.gate) out.job.now (suc out.edge) out.index out.output.writer.size c.apply_one.new.output (all_applied out.job.now out.edge u.groups) (applied out.job.now out.edge u.took) (apply c.in-Some.stage.now c.as_slice-line.result.now) c.in-Err-apply_one.cause c.end_of.result.cause
-    (c.in-Err-apply_one.ensures.emitted out.job.now (suc out.edge) out.index out.output.writer.size (all_applied out.job.now out.edge u.groups) (applied out.job.now out.edge u.took) u.applied_them.sent) c.end_of.ensures.1
+    (c.in-Err-apply_one.ensures.emitted 0 out.job.now (suc out.edge) out.index out.output.writer.size (all_applied out.job.now out.edge u.groups) (applied out.job.now out.edge u.took) u.applied_them.sent) c.end_of.ensures.1
 
 pub loop-item-preserved-in-Ok : goal.loop-item-preserved-in-Ok
 loop-item-preserved-in-Ok g c =
@@ -88,7 +88,7 @@ loop-item-preserved-in-Ok g c =
       gate = (c.next-in-loop-item.ensures.gate.0 ∙ v.gate.0, c.next-in-loop-item.ensures.gate.1 ∙ v.gate.1);
       same = same_output c.args.out.now out c.apply_one.new.output c.apply_one.ensures.same v.same;
       in_step = goes.0;
-      under_way = line_applied out before gate c.loop-item.taking t u.groups u.took u.applied_them took.1.0 line given took.1.1 gives c.apply_one.new.output u.not_last (c.in-Ok.ensures.emitted out.job.now (suc out.edge) out.index out.output.writer.size (all_applied out.job.now out.edge u.groups) (applied out.job.now out.edge u.took) u.applied_them.sent);
+      under_way = line_applied out before gate c.loop-item.taking t u.groups u.took u.applied_them took.1.0 line given took.1.1 gives c.apply_one.new.output u.not_last (c.in-Ok.ensures.emitted 0 out.job.now (suc out.edge) out.index out.output.writer.size (all_applied out.job.now out.edge u.groups) (applied out.job.now out.edge u.took) u.applied_them.sent);
       own = own_output out c.apply_one.new.output v.own;
     }
 
@@ -111,7 +111,7 @@ loop-item-preserved-in-Ok-2 g c =
       gate = (c.next-in-loop-item.ensures.gate.0 ∙ v.gate.0, c.next-in-loop-item.ensures.gate.1 ∙ v.gate.1);
       same = same_output c.args.out.now out c.apply_one.new.output c.apply_one.ensures.same v.same;
       in_step = goes.0;
-      under_way = line_applied out before gate c.loop-item.taking t u.groups u.took u.applied_them took.1.0 line given took.1.1 gives c.apply_one.new.output u.not_last (c.in-Ok.ensures.emitted out.job.now (suc out.edge) out.index out.output.writer.size (all_applied out.job.now out.edge u.groups) (applied out.job.now out.edge u.took) u.applied_them.sent);
+      under_way = line_applied out before gate c.loop-item.taking t u.groups u.took u.applied_them took.1.0 line given took.1.1 gives c.apply_one.new.output u.not_last (c.in-Ok.ensures.emitted 0 out.job.now (suc out.edge) out.index out.output.writer.size (all_applied out.job.now out.edge u.groups) (applied out.job.now out.edge u.took) u.applied_them.sent);
       own = own_output out c.apply_one.new.output v.own;
     }
 
@@ -140,7 +140,7 @@ returns-in-Err-mark-clause-ended g c =
     let t = c.next-in-loop-item.new.self in
     let took = subst (λ (x : Taken). TookNext out.job.now out.edge out.index gate t u.groups u.took (Ok x)) c.in-Ok-Checkpoint.field-0-is (c.in-Ok-Checkpoint.ensures.took out.job.now out.edge out.index u.groups u.took u.applied_them.taken) in
     named out.job.now out.edge out.index c.mark.new.self.writer.size out.every gate c.mark.new.self.writer.passes (sent_by out.acks.pass) (seen out.acks.last_pass) t.runs c.end_of-in-Err-mark.result.takes.items causes.Stopped c.end_of-in-Err-mark.result.cause c.end_of-in-Err-mark.ensures.0 c.end_of-in-Err-mark.ensures.1
-    (mark_ended out before gate c.loop-item.taking t u.groups u.took u.applied_them took.0 c.what_was_taken_was_given.ensures.at_barrier c.mark.new.self c.mark.ensures.same.size (c.in-Err-mark.ensures.marked out.job.now (suc out.edge) out.index out.output.writer.size (all_applied out.job.now out.edge u.groups) (applied out.job.now out.edge u.took) u.applied_them.sent))
+    (mark_ended out before gate c.loop-item.taking t u.groups u.took u.applied_them took.0 c.what_was_taken_was_given.ensures.at_barrier c.mark.new.self c.mark.ensures.same.size (c.in-Err-mark.ensures.marked 0 out.job.now (suc out.edge) out.index out.output.writer.size (all_applied out.job.now out.edge u.groups) (applied out.job.now out.edge u.took) u.applied_them.sent))
 
 pub returns-in-Err-mark-clause-stopped : goal.returns-in-Err-mark-clause-stopped
 returns-in-Err-mark-clause-stopped g c =
@@ -150,7 +150,7 @@ returns-in-Err-mark-clause-stopped g c =
     let before = g.G.Gate.account c.loop-item.gate in
     let gate = g.G.Gate.account c.next-in-loop-item.new.gate in
     let t = c.next-in-loop-item.new.self in
-    λ is. inr (c.in-Err-mark.ensures.marked out.job.now (suc out.edge) out.index out.output.writer.size (all_applied out.job.now out.edge u.groups) (applied out.job.now out.edge u.took) u.applied_them.sent).fault
+    λ is. inr (c.in-Err-mark.ensures.marked 0 out.job.now (suc out.edge) out.index out.output.writer.size (all_applied out.job.now out.edge u.groups) (applied out.job.now out.edge u.took) u.applied_them.sent).fault
 
 pub acknowledge-requires-clause-marked : goal.acknowledge-requires-clause-marked
 acknowledge-requires-clause-marked g c =
@@ -161,7 +161,7 @@ acknowledge-requires-clause-marked g c =
     let gate = g.G.Gate.account c.next-in-loop-item.new.gate in
     let t = c.next-in-loop-item.new.self in
     let took = subst (λ (x : Taken). TookNext out.job.now out.edge out.index gate t u.groups u.took (Ok x)) c.in-Ok-Checkpoint.field-0-is (c.in-Ok-Checkpoint.ensures.took out.job.now out.edge out.index u.groups u.took u.applied_them.taken) in
-    marked out before gate c.loop-item.taking t u.groups u.took u.applied_them took.0 c.mark.new.self c.in-Ok-Checkpoint.k took.1 u.not_last (c.in-Ok-mark.ensures.marked out.job.now (suc out.edge) out.index out.output.writer.size (all_applied out.job.now out.edge u.groups) (applied out.job.now out.edge u.took) u.applied_them.sent)
+    marked out before gate c.loop-item.taking t u.groups u.took u.applied_them took.0 c.mark.new.self c.in-Ok-Checkpoint.k took.1 u.not_last (c.in-Ok-mark.ensures.marked 0 out.job.now (suc out.edge) out.index out.output.writer.size (all_applied out.job.now out.edge u.groups) (applied out.job.now out.edge u.took) u.applied_them.sent)
 
 pub acknowledge-requires-clause-own : goal.acknowledge-requires-clause-own
 acknowledge-requires-clause-own g c =

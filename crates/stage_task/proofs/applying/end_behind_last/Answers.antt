@@ -20,7 +20,7 @@ returns-in-Ok-clause-ended g c =
     let took = subst (λ (x : Taken). TookNext out.job.now out.edge out.index gate t behind.groups [] (Ok x)) c.in-Ok-AllEnded.field-0-is (c.in-Ok-AllEnded.ensures.took out.job.now out.edge out.index behind.groups [] behind.applied_them.taken) in
     named out.job.now out.edge out.index o.writer.size out.every gate o.writer.passes (sent_by out.acks.pass) (seen out.acks.last_pass) t.runs c.end_of.result.takes.items causes.Done c.end_of.result.cause c.end_of.ensures.0 c.end_of.ensures.1
     (finished before gate c.args.taking t out behind c.what_was_taken_was_given.ensures.taken took.0 o c.finish.ensures.same.size c.what_was_sent_was_begun.ensures.finished took.1
-    (c.in-Ok.ensures.finished out.job.now (suc out.edge) out.index out.output.writer.size (all_applied out.job.now out.edge behind.groups) [] behind.applied_them.sent))
+    (c.in-Ok.ensures.finished 0 out.job.now (suc out.edge) out.index out.output.writer.size (all_applied out.job.now out.edge behind.groups) [] behind.applied_them.sent))
 
 pub returns-in-Ok-AllEnded-clause-ended : goal.returns-in-Ok-AllEnded-clause-ended
 returns-in-Ok-AllEnded-clause-ended g c =
@@ -33,13 +33,13 @@ returns-in-Ok-AllEnded-clause-ended g c =
     let took = subst (λ (x : Taken). TookNext out.job.now out.edge out.index gate t behind.groups [] (Ok x)) c.in-Ok-AllEnded.field-0-is (c.in-Ok-AllEnded.ensures.took out.job.now out.edge out.index behind.groups [] behind.applied_them.taken) in
     named out.job.now out.edge out.index o.writer.size out.every gate o.writer.passes (sent_by out.acks.pass) (seen out.acks.last_pass) t.runs c.end_of-in-Err-finish.result.takes.items causes.Stopped c.end_of-in-Err-finish.result.cause c.end_of-in-Err-finish.ensures.0 c.end_of-in-Err-finish.ensures.1
     (finish_ended before gate c.args.taking t out behind c.what_was_taken_was_given.ensures.taken took.0 o c.finish.ensures.same.size
-    (c.in-Err-finish.ensures.finished out.job.now (suc out.edge) out.index out.output.writer.size (all_applied out.job.now out.edge behind.groups) [] behind.applied_them.sent))
+    (c.in-Err-finish.ensures.finished 0 out.job.now (suc out.edge) out.index out.output.writer.size (all_applied out.job.now out.edge behind.groups) [] behind.applied_them.sent))
 
 pub returns-in-Ok-AllEnded-clause-stopped : goal.returns-in-Ok-AllEnded-clause-stopped
 returns-in-Ok-AllEnded-clause-stopped g c = λ is.
     let out = c.args.out.now in
     let behind = c.requires.behind in
-    inr (c.in-Err-finish.ensures.finished out.job.now (suc out.edge) out.index out.output.writer.size (all_applied out.job.now out.edge behind.groups) [] behind.applied_them.sent).fault
+    inr (c.in-Err-finish.ensures.finished 0 out.job.now (suc out.edge) out.index out.output.writer.size (all_applied out.job.now out.edge behind.groups) [] behind.applied_them.sent).fault
 
 pub returns-in-Ok-Line-clause-ended : goal.returns-in-Ok-Line-clause-ended
 returns-in-Ok-Line-clause-ended g c =

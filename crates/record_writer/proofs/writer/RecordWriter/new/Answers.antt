@@ -8,4 +8,4 @@ returns-clause-new c =
     is_new c.new.result.job.now c.new.result.edge c.new.result.index
     (record { subpartitions = p.subpartitions; first = p.first; stride = p.stride; passes = p.passes.subpartitions; parts = c.in-Ok.parts })
     (record { pool = p.pool; pool_pass = Some p.passes.pool; size = p.size; stop = c.args.stop; stop_pass = c.args.stop_pass })
-    c.requires.partition.new c.in-Ok.ensures.empty c.in-Ok.ensures.held
+    c.args.emitted c.requires.partition.new c.in-Ok.ensures.empty c.in-Ok.ensures.held

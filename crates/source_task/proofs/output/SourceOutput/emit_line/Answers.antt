@@ -10,7 +10,7 @@ returns-in_default-2-clause-emitted g c = λ job size lines was. before_line c.w
 pub returns-in-Err-clause-emitted : goal.returns-in-Err-clause-emitted
 returns-in-Err-clause-emitted g c = λ job size lines was.
     let out = c.args.self.now in
-    line_stopped out c.args.line.now c.requires.short c.requires.reading.not_ended c.emit.new.self job size lines was (c.in-Err.ensures.emitted job 0 out.index size was.groups was.rest was.sent)
+    line_stopped out c.args.line.now c.requires.short c.requires.reading.not_ended c.emit.new.self job size lines was (c.in-Err.ensures.emitted 0 job 0 out.index size was.groups was.rest was.sent)
 
 pub returns-in_default-every-clause-emitted : goal.returns-in_default-every-clause-emitted
 returns-in_default-every-clause-emitted g c = λ job size lines was.
@@ -18,7 +18,7 @@ returns-in_default-every-clause-emitted g c = λ job size lines was.
     let one : c.in-Some-Some.offset ≡ out.offset + 1 = search rules in
     let one_since : c.in-Some-Some.since ≡ out.since + 1 = search rules in
     line_emitted out c.args.line.now c.requires.short c.requires.reading.not_ended c.emit.new.self c.in-Some-Some.offset c.in-Some-Some.since one one_since job size lines was
-    (c.in-Ok.ensures.emitted job 0 out.index size was.groups was.rest was.sent)
+    (c.in-Ok.ensures.emitted 0 job 0 out.index size was.groups was.rest was.sent)
 
 pub returns-then-since-interval-clause-emitted : goal.returns-then-since-interval-clause-emitted
 returns-then-since-interval-clause-emitted g c = λ job size lines was.
@@ -26,7 +26,7 @@ returns-then-since-interval-clause-emitted g c = λ job size lines was.
     let one : c.in-Some-Some.offset ≡ out.offset + 1 = search rules in
     let one_since : c.in-Some-Some.since ≡ out.since + 1 = search rules in
     line_emitted out c.args.line.now c.requires.short c.requires.reading.not_ended c.emit.new.self c.in-Some-Some.offset c.in-Some-Some.since one one_since job size lines was
-    (c.in-Ok.ensures.emitted job 0 out.index size was.groups was.rest was.sent)
+    (c.in-Ok.ensures.emitted 0 job 0 out.index size was.groups was.rest was.sent)
 
 pub take_checkpoint-requires-clause-source : goal.take_checkpoint-requires-clause-source
 take_checkpoint-requires-clause-source g c =
@@ -36,7 +36,7 @@ take_checkpoint-requires-clause-source g c =
     let source = c.requires.reading.source in
     let was = source.emitted in
     line_source out c.args.line.now c.requires.short c.requires.reading.not_ended c.emit.new.self c.in-Some-Some.offset c.in-Some-Some.since one one_since source
-    (c.in-Ok.ensures.emitted source.job 0 out.index source.size was.groups was.rest was.sent)
+    (c.in-Ok.ensures.emitted 0 source.job 0 out.index source.size was.groups was.rest was.sent)
 
 pub returns-in_default-every-clause-reading : goal.returns-in_default-every-clause-reading
 returns-in_default-every-clause-reading g c =
@@ -47,7 +47,7 @@ returns-in_default-every-clause-reading g c =
     let was = source.emitted in
     record {
       source = line_source out c.args.line.now c.requires.short c.requires.reading.not_ended c.emit.new.self c.in-Some-Some.offset c.in-Some-Some.since one one_since source
-          (c.in-Ok.ensures.emitted source.job 0 out.index source.size was.groups was.rest was.sent);
+          (c.in-Ok.ensures.emitted 0 source.job 0 out.index source.size was.groups was.rest was.sent);
       not_ended = c.requires.reading.not_ended;
       not_due = search rules;
     }
@@ -61,7 +61,7 @@ returns-then-since-interval-clause-reading g c =
     let was = source.emitted in
     record {
       source = line_source out c.args.line.now c.requires.short c.requires.reading.not_ended c.emit.new.self c.in-Some-Some.offset c.in-Some-Some.since one one_since source
-          (c.in-Ok.ensures.emitted source.job 0 out.index source.size was.groups was.rest was.sent);
+          (c.in-Ok.ensures.emitted 0 source.job 0 out.index source.size was.groups was.rest was.sent);
       not_ended = c.requires.reading.not_ended;
       not_due = subst (λ (e : Option ℕ). IfSome e (λ interval. c.in-Some-Some.since < interval)) (sym c.in-Some.is) (omega (arith, c.if-since-interval.true));
     }
@@ -73,7 +73,7 @@ returns-in-Ok-take_checkpoint-clause-emitted g c = λ job size lines was.
     let one_since : c.in-Some-Some.since ≡ out.since + 1 = search rules in
     c.in-Ok-take_checkpoint.ensures.taken job size (lines ++ c.args.line.now ∷ [])
     (line_emitted out c.args.line.now c.requires.short c.requires.reading.not_ended c.emit.new.self c.in-Some-Some.offset c.in-Some-Some.since one one_since job size lines was
-    (c.in-Ok.ensures.emitted job 0 out.index size was.groups was.rest was.sent))
+    (c.in-Ok.ensures.emitted 0 job 0 out.index size was.groups was.rest was.sent))
 
 pub returns-in-Err-take_checkpoint-clause-emitted : goal.returns-in-Err-take_checkpoint-clause-emitted
 returns-in-Err-take_checkpoint-clause-emitted g c = λ job size lines was.
@@ -82,4 +82,4 @@ returns-in-Err-take_checkpoint-clause-emitted g c = λ job size lines was.
     let one_since : c.in-Some-Some.since ≡ out.since + 1 = search rules in
     behind_line job size c.take_checkpoint.new.self lines c.args.line.now c.requires.short (ap has_ended c.in-Err-take_checkpoint.ensures.kept ∙ c.requires.reading.not_ended) (c.in-Err-take_checkpoint.ensures.taken job size (lines ++ c.args.line.now ∷ [])
     (line_emitted out c.args.line.now c.requires.short c.requires.reading.not_ended c.emit.new.self c.in-Some-Some.offset c.in-Some-Some.since one one_since job size lines was
-    (c.in-Ok.ensures.emitted job 0 out.index size was.groups was.rest was.sent)))
+    (c.in-Ok.ensures.emitted 0 job 0 out.index size was.groups was.rest was.sent)))

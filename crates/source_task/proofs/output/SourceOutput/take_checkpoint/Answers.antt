@@ -81,7 +81,7 @@ returns-in-Err-mark-clause-taken g c = λ job size lines before.
     let next = next_same c.in-Some.k old.acks acks own.3 first in
     let was = still_emitted old o acks c.learn_last.ensures.still own.2 job size lines before in
     let waited = subst (λ n. HasWaited n (seen acks.last_pass)) (next_is job size out lines source was c.in-Some.k next) c.in-Ok.ensures.waited in
-    broken_at_barrier job size out c.mark.new.self lines was waited (c.in-Err-mark.ensures.marked job 0 out.index size was.groups was.rest was.sent)
+    broken_at_barrier job size out c.mark.new.self lines was waited (c.in-Err-mark.ensures.marked 0 job 0 out.index size was.groups was.rest was.sent)
 
 -- ---- behind it
 
@@ -125,8 +125,8 @@ returns-in-Err-send-clause-taken g c = λ job size lines before.
     let next = next_same c.in-Some.k old.acks acks own.3 first in
     let was = still_emitted old o acks c.learn_last.ensures.still own.2 job size lines before in
     let waited = subst (λ n. HasWaited n (seen acks.last_pass)) (next_is job size out lines source was c.in-Some.k next) c.in-Ok.ensures.waited in
-    let marked = c.in-Ok-mark.ensures.marked job 0 out.index size was.groups was.rest was.sent in
-    let sent = c.send.ensures.still.still job 0 out.index size (was.groups ++ was.rest ∷ []) [] marked in
+    let marked = c.in-Ok-mark.ensures.marked 0 job 0 out.index size was.groups was.rest was.sent in
+    let sent = c.send.ensures.still.still 0 job 0 out.index size (was.groups ++ was.rest ∷ []) [] marked in
     broken_behind_barrier c.what_was_sent_was_begun.ensures.aside job size out c.send.new.stop c.send.new.self lines was (waited_same (suc (length was.groups)) acks c.send.new.self c.send.ensures.own.2 waited) sent c.in-Err-send.ensures.kept.0
 
 pub returns-clause-taken : goal.returns-clause-taken
@@ -142,8 +142,8 @@ returns-clause-taken g c = λ job size lines before.
     let x = c.snapshot-snapshot.result in
     let interval = subst (IsInterval old.every old.since) (sym c.snapshot-snapshot.ensures.ended) c.requires.interval in
     let was = still_emitted old o acks c.learn_last.ensures.still own.2 job size lines before in
-    let marked = c.in-Ok-mark.ensures.marked job 0 out.index size was.groups was.rest was.sent in
-    let sent = c.send.ensures.still.still job 0 out.index size (was.groups ++ was.rest ∷ []) [] marked in
+    let marked = c.in-Ok-mark.ensures.marked 0 job 0 out.index size was.groups was.rest was.sent in
+    let sent = c.send.ensures.still.still 0 job 0 out.index size (was.groups ++ was.rest ∷ []) [] marked in
     taken c.emits_in_parts.ensures.count out c.send.new.stop c.send.new.self c.in-Some.k x c.mark.new.self.emitted source c.snapshot-snapshot.ensures.at next interval c.in-Ok-send.ensures.sent job size lines was sent marked.counted
 
 pub returns-clause-source : goal.returns-clause-source
@@ -159,8 +159,8 @@ returns-clause-source g c =
     let x = c.snapshot-snapshot.result in
     let interval = subst (IsInterval old.every old.since) (sym c.snapshot-snapshot.ensures.ended) c.requires.interval in
     let was = source.emitted in
-    let marked = c.in-Ok-mark.ensures.marked source.job 0 out.index source.size was.groups was.rest was.sent in
-    let sent = c.send.ensures.still.still source.job 0 out.index source.size (was.groups ++ was.rest ∷ []) [] marked in
+    let marked = c.in-Ok-mark.ensures.marked 0 source.job 0 out.index source.size was.groups was.rest was.sent in
+    let sent = c.send.ensures.still.still 0 source.job 0 out.index source.size (was.groups ++ was.rest ∷ []) [] marked in
     record {
       job = source.job;
       size = source.size;

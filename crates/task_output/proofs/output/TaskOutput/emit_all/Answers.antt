@@ -9,7 +9,7 @@ pub emit-requires-clause-short : goal.emit-requires-clause-short
 emit-requires-clause-short g c = subst IsShort (sym c.as_slice.ensures) (short_at IsShort c.args.lines.now c.loop-line.line-index c.line-item.result c.requires.short c.loop-line-test.true c.line-item.is)
 
 pub returns-in-Err-clause-emitted : goal.returns-in-Err-clause-emitted
-returns-in-Err-clause-emitted g c = λ job e a size groups records was.
+returns-in-Err-clause-emitted g c = λ from job e a size groups records was.
     let xs = c.args.lines.now in
     let i = c.loop-line.line-index in
     let x = c.line-item.result in
@@ -18,8 +18,8 @@ returns-in-Err-clause-emitted g c = λ job e a size groups records was.
       begun = x.items ∷ [];
       rest = bytes_of (drop (i + 1) xs);
       parts = front_parts xs i x c.loop-line-test.true c.line-item.is;
-      stopped = subst (λ (l : List ℕ). HasStopped job e a size c.emit.new.self groups (records ++ bytes_of (take i xs)) (l ∷ []) ⊥ ⊥) c.as_slice.ensures
-          (c.in-Err.ensures.emitted job e a size groups (records ++ bytes_of (take i xs)) (c.loop-line.invariant.sent job e a size groups records was));
+      stopped = subst (λ (l : List ℕ). HasStopped from job e a size c.emit.new.self groups (records ++ bytes_of (take i xs)) (l ∷ []) ⊥ ⊥) c.as_slice.ensures
+          (c.in-Err.ensures.emitted from job e a size groups (records ++ bytes_of (take i xs)) (c.loop-line.invariant.sent from job e a size groups records was));
     }
 
 pub loop-line-preserved : goal.loop-line-preserved
@@ -30,12 +30,12 @@ loop-line-preserved g c =
     record {
       same = same_twice c.args.self.now.writer c.loop-line.self.writer c.emit.new.self.writer c.loop-line.invariant.same c.emit.ensures.same;
       is_open = c.in-Ok.ensures.is_open;
-      sent = λ job e a size groups records was.
-          subst (HasSent job e a size c.emit.new.self groups)
+      sent = λ from job e a size groups records was.
+          subst (HasSent from job e a size c.emit.new.self groups)
           (ap (λ (l : List ℕ). (records ++ bytes_of (take i xs)) ++ l ∷ []) c.as_slice.ensures ∙ append_assoc records (bytes_of (take i xs)) (x.items ∷ []) ∙ ap (λ l. records ++ l) (sym (front_more xs i x c.loop-line-test.true c.line-item.is)))
-          (c.in-Ok.ensures.emitted job e a size groups (records ++ bytes_of (take i xs)) (c.loop-line.invariant.sent job e a size groups records was));
+          (c.in-Ok.ensures.emitted from job e a size groups (records ++ bytes_of (take i xs)) (c.loop-line.invariant.sent from job e a size groups records was));
     }
 
 pub returns-clause-emitted : goal.returns-clause-emitted
-returns-clause-emitted g c = λ job e a size groups records was.
-    subst (λ l. HasSent job e a size c.loop-line.self groups (records ++ bytes_of l)) (take_all c.loop-line.line-index c.args.lines.now c.loop-line-test.false) (c.loop-line.invariant.sent job e a size groups records was)
+returns-clause-emitted g c = λ from job e a size groups records was.
+    subst (λ l. HasSent from job e a size c.loop-line.self groups (records ++ bytes_of l)) (take_all c.loop-line.line-index c.args.lines.now c.loop-line-test.false) (c.loop-line.invariant.sent from job e a size groups records was)

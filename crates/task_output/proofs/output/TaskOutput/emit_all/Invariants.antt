@@ -9,6 +9,6 @@ abbrev pub invariant-loop-line : goal.invariant-loop-line
 invariant-loop-line g l = record {
   same : IsSame l.initial.self.writer l.self.writer;
   is_open : IsOpen l.self.writer;
-  sent : (job : Job) (e a size : ℕ) (groups : List (List (List ℕ))) (records : List (List ℕ)) → HasSent job e a size l.initial.self groups records →
-      HasSent job e a size l.self groups (records ++ bytes_of (take l.line-index l.lines));
+  sent : (from : ℕ) (job : Job) (e a size : ℕ) (groups : List (List (List ℕ))) (records : List (List ℕ)) → HasSent from job e a size l.initial.self groups records →
+      HasSent from job e a size l.self groups (records ++ bytes_of (take l.line-index l.lines));
 }

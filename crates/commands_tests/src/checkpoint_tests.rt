@@ -158,44 +158,34 @@ fn a_put_that_fails_ends_the_run(rt: HostRuntime) -> Result<(), Fail> {
     Ok(())
 }
 
-// The images that the keeper holds.
-fn images_of(alloc: Global, kept: &[Kept]) -> Result<ListOf<Image>, Fail> {
-    let mut images = ListOf::new(alloc);
-    for one in kept {
-        let Ok(image) = read_image(alloc, one.bytes.as_slice()) else {
-            return Err("no image".into());
-        };
-        images.push(image)?;
-    }
-    Ok(images)
-}
-
 // The command, the job and its sources; and of each image the sources' offsets and whether they are ended.
-const APART: &[(&str, &str, &str, &str, &[[u64; 2]], &[[bool; 2]])] = &[
-    ("run job", COUNT, "", "", &[[0, 0]], &[[true, true]]),
+const APART: &[(&str, &str, &str, &str, &[([u64; 2], [bool; 2])])] = &[
+    ("run job", COUNT, "", "", &[([0, 0], [true, true])]),
     (
         "run job --every 5",
         COUNT,
         "",
         "",
-        &[[0, 0], [0, 0]],
-        &[[true, true], [true, true]],
+        &[([0, 0], [true, true]), ([0, 0], [true, true])],
     ),
     (
         "run job --every 2 --mode inline",
         TWO,
         "a\nb\nc\nd\n",
         "e\n",
-        &[[2, 1], [4, 1], [4, 1], [4, 1]],
-        &[[false, true], [false, true], [true, true], [true, true]],
+        &[
+            ([2, 1], [false, true]),
+            ([4, 1], [false, true]),
+            ([4, 1], [true, true]),
+            ([4, 1], [true, true]),
+        ],
     ),
     (
         "run job",
         TWO,
         "a\nb\nc\nd\n",
         "e",
-        &[[4, 1]],
-        &[[true, true]],
+        &[([4, 1], [true, true])],
     ),
 ];
 
@@ -223,22 +213,35 @@ fn is_taken_in_line<R: Abort>(
     }
 }
 
+// Each of the images that are kept has its offsets and its ended sources, and the last alone is the last one.
+fn are_taken_in_line<R: Abort>(
+    rt: &R,
+    alloc: Global,
+    kept: &[Kept],
+    want: &[([u64; 2], [bool; 2])],
+    command: &str,
+) -> Result<(), Fail> {
+    assert_eq!(rt; kept.len(), want.len(), "{command}");
+    let mut number: u64 = 0;
+    for (one, (offsets, ended)) in kept.iter().zip(want) {
+        let Ok(image) = read_image(alloc, one.bytes.as_slice()) else {
+            return Err("no image".into());
+        };
+        number = number.saturating_add(1);
+        is_taken_in_line(rt, &image, number, offsets, ended, command);
+        assert_eq!(rt; image.final_one, number == kept.len() as u64, "{command}");
+    }
+    Ok(())
+}
+
 #[test]
 fn checkpoints_stand_so_many_lines_apart(rt: HostRuntime) -> Result<(), Fail> {
     let alloc = rt.alloc();
-    for (command, job, first, second, offsets, ended) in APART {
+    for (command, job, first, second, images) in APART {
         let mut keeper = empty_keeper(alloc, 0)?;
         let left = left_by(&rt, alloc, command, job, first, second, &mut keeper)?;
         assert_eq!(rt; left.status, 0, "{command}");
-        let images = images_of(alloc, keeper.images())?;
-        assert_eq!(rt; images.as_slice().len(), offsets.len(), "{command}");
-        let mut number: u64 = 0;
-        for (image, (offsets, ended)) in images.as_slice().iter().zip(offsets.iter().zip(*ended)) {
-            number = number.saturating_add(1);
-            is_taken_in_line(&rt, image, number, offsets, ended, command);
-            let last = number == keeper.images().len() as u64;
-            assert_eq!(rt; image.final_one, last, "{command}");
-        }
+        are_taken_in_line(&rt, alloc, keeper.images(), images, command)?;
     }
     Ok(())
 }

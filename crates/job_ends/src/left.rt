@@ -198,6 +198,7 @@ pub fn take_partition<'a, 'p, S>(place: &mut TaskPlace<'a, 'p, S>) -> PartitionP
         gate,
         partition,
         snapshots,
+        last_image,
         cause,
     } = left;
     let Some(passes) = partition else {
@@ -208,6 +209,7 @@ pub fn take_partition<'a, 'p, S>(place: &mut TaskPlace<'a, 'p, S>) -> PartitionP
         gate,
         partition: None,
         snapshots,
+        last_image,
         cause,
     };
     put_left(place, rest);
@@ -225,6 +227,7 @@ pub fn take_gate<'a, 'p, S>(place: &mut TaskPlace<'a, 'p, S>) -> GatePasses<'p>
         gate,
         partition,
         snapshots,
+        last_image,
         cause,
     } = left;
     let Some(passes) = gate else { unreachable!() };
@@ -233,6 +236,7 @@ pub fn take_gate<'a, 'p, S>(place: &mut TaskPlace<'a, 'p, S>) -> GatePasses<'p>
         gate: None,
         partition,
         snapshots,
+        last_image,
         cause,
     };
     put_left(place, rest);
@@ -250,6 +254,7 @@ pub fn take_snapshots<'a, 'p, S>(place: &mut TaskPlace<'a, 'p, S>) -> TaskPass
         gate,
         partition,
         snapshots,
+        last_image,
         cause,
     } = left;
     let Some(pass) = snapshots else {
@@ -260,6 +265,7 @@ pub fn take_snapshots<'a, 'p, S>(place: &mut TaskPlace<'a, 'p, S>) -> TaskPass
         gate,
         partition,
         snapshots: None,
+        last_image,
         cause,
     };
     put_left(place, rest);

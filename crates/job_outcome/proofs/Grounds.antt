@@ -114,8 +114,8 @@ module _ {S O I L N : Type 0} {words : WorldWords S O I L N} {run : Run S O I} (
     by_last : (i : ℕ) (place : TaskPlace S) (cause : Cause) → StandsAt rows (suc (last_edge job)) i place → cause_of_task place ≡ Some cause → Ground cause
     by_last i place cause stands is =
         let s = aggregate_at ran i (low_at (suc (last_edge job)) i place stands) in
-        of_taker s.task.every s.by.history s.by.given s.by.account.groups s.by.account.rest cause
-        (subst (IsTakerEnd s.task.every s.by.history s.by.given s.by.account.groups s.by.account.rest) (cause_at (suc (last_edge job)) i place cause stands is s.end) s.by.account.cause_is)
+        of_taker s.task.every (seen s.end.left.last_image) s.by.given s.by.account.groups s.by.account.rest cause
+        (subst (IsTakerEnd s.task.every (seen s.end.left.last_image) s.by.given s.by.account.groups s.by.account.rest) (cause_at (suc (last_edge job)) i place cause stands is s.end) s.by.account.cause_is)
 
     by_task : (s i : ℕ) (place : TaskPlace S) (cause : Cause) → StandsAt rows s i place → cause_of_task place ≡ Some cause → Ground cause
     by_task zero i place cause stands is =
@@ -125,8 +125,8 @@ module _ {S O I L N : Type 0} {words : WorldWords S O I L N} {run : Run S O I} (
     by_task (suc e) i place cause stands is = elim (cases_lt e (last_edge job)) [
       | inl before ↦
           let s = stage_at ran e i before (low_at (suc e) i place stands) in
-          of_taker s.task.every s.by.history s.by.given s.by.account.groups s.by.account.rest cause
-          (subst (IsTakerEnd s.task.every s.by.history s.by.given s.by.account.groups s.by.account.rest) (cause_at (suc e) i place cause stands is s.end) s.by.account.cause_is)
+          of_taker s.task.every (seen s.end.left.last_image) s.by.given s.by.account.groups s.by.account.rest cause
+          (subst (IsTakerEnd s.task.every (seen s.end.left.last_image) s.by.given s.by.account.groups s.by.account.rest) (cause_at (suc e) i place cause stands is s.end) s.by.account.cause_is)
       | inr behind ↦
           let low = place_low rows (suc e) stands.row stands.row_is in
           let is_last : e ≡ last_edge job = omega (arith, low, behind, ran.rows_many, ran.deployed.rows_many) in

@@ -1,6 +1,7 @@
 -- What the tasks of a job may be lent, and what they leave. This is this project's own choice.
 use Rattle.std.specs.Prelude.{◌≡◌, ℕ, suc, ◌<◌, [], List, Option, Some, None}
 use Rattle.std.specs.Option.{option_map_or}
+use Rattle.turn_cell.specs.Passes.{IsPassOf, seen}
 use Rattle.flow_defs.specs.declared.image.Snapshot.{Snapshot}
 use Rattle.flow_defs.specs.declared.image.TakeRun.{TakeRun}
 use Rattle.flow_defs.specs.declared.job.Job.{Job}
@@ -15,7 +16,6 @@ use Rattle.input_gate.specs.Channels.{cells_in}
 use Rattle.input_gate.specs.Gates.{Account, IsNew}
 use Rattle.input_gate.specs.States.{GateState, account_in}
 use Rattle.input_gate.specs.Turning.{InputCell, InputPass}
-use Rattle.outside.specs.declared.last_image.Stored.{Stored}
 use Rattle.checkpoint_laws.specs.Chapters.{task_at}
 use Rattle.snapshot_channel.specs.declared.opened.SnapshotChannel.{SnapshotChannel}
 use Rattle.snapshot_channel.specs.declared.opened.TaskPass.{TaskPass}
@@ -89,15 +89,15 @@ pub record HasSnapshotPass (i a : ℕ) (snapshots : SnapshotChannel) (back : Opt
   pub of_channel : channels.IsPassOf snapshots pass
   pub task : channels.task_of pass ≡ task_at i a
 
--- A source has its account.
+-- A source has its account, by what its pass of the last image has seen.
 pub record LeftBySource {S : Type 0} (left : S → Option (List ℕ)) (faults : S → ℕ) (job : Job) (task : SourceTask S) (end : TaskLeft S) : Type 0 where
   pub input : S
   pub is_there : end.input ≡ Some input
   pub no_gate : end.gate ≡ None
   pub partition : HasPartitionPasses job 0 task.world.partition end.partition
   pub snapshots : HasSnapshotPass 0 task.index task.world.acks.snapshots.now end.snapshots
-  pub history : List (ℕ × Stored)
-  pub account : SourceAccount job task.index task.world.partition.size task.every (passes_in end.partition) (snapshots_in end.snapshots) history (left task.input) (faults task.input) (faults input) end.cause
+  pub last_image : IsPassOf task.world.acks.last_image.now end.last_image
+  pub account : SourceAccount job task.index task.world.partition.size task.every (passes_in end.partition) (snapshots_in end.snapshots) (seen end.last_image) (left task.input) (faults task.input) (faults input) end.cause
 
 -- A stateless task has its account by what its gate's passes tell.
 pub record LeftByStage {S : Type 0} (job : Job) (task : StageTask) (end : TaskLeft S) : Type 0 where
@@ -105,11 +105,11 @@ pub record LeftByStage {S : Type 0} (job : Job) (task : StageTask) (end : TaskLe
   pub gate : HasGatePasses (cells_in task.gate.lanes) end.gate
   pub partition : HasPartitionPasses job (suc task.edge) task.world.partition end.partition
   pub snapshots : HasSnapshotPass (suc task.edge) task.index task.world.acks.snapshots.now end.snapshots
+  pub last_image : IsPassOf task.world.acks.last_image.now end.last_image
   pub given : Account
   pub tells : TellsGiven (gate_in end.gate) given
-  pub history : List (ℕ × Stored)
   pub takes : List TakeRun
-  pub account : StageAccount job task.edge task.index task.world.partition.size task.every given (passes_in end.partition) (snapshots_in end.snapshots) history takes end.cause
+  pub account : StageAccount job task.edge task.index task.world.partition.size task.every given (passes_in end.partition) (snapshots_in end.snapshots) (seen end.last_image) takes end.cause
 
 -- So has a task of the aggregate.
 pub record LeftByAggregate {S : Type 0} (job : Job) (task : AggregateTask) (end : TaskLeft S) : Type 0 where
@@ -117,11 +117,11 @@ pub record LeftByAggregate {S : Type 0} (job : Job) (task : AggregateTask) (end 
   pub gate : HasGatePasses (cells_in task.gate.lanes) end.gate
   pub no_partition : end.partition ≡ None
   pub snapshots : HasSnapshotPass (suc (last_edge job)) task.index task.world.acks.snapshots.now end.snapshots
+  pub last_image : IsPassOf task.world.acks.last_image.now end.last_image
   pub given : Account
   pub tells : TellsGiven (gate_in end.gate) given
-  pub history : List (ℕ × Stored)
   pub takes : List TakeRun
-  pub account : AggregateAccount job task.index task.every given (snapshots_in end.snapshots) history takes end.cause
+  pub account : AggregateAccount job task.index task.every given (snapshots_in end.snapshots) (seen end.last_image) takes end.cause
 
 abbrev pub LeftByTask : {S : Type 0} → (S → Option (List ℕ)) → (S → ℕ) → Job → Task S → TaskLeft S → Type 0
 LeftByTask left faults job (Source task) end = LeftBySource left faults job task end

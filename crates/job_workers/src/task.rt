@@ -8,7 +8,7 @@ use crate::place::Worker;
 use aggregate_task::run_aggregate;
 use flow_defs::{Cause, Job};
 use input_gate::{CellGate, GatePasses};
-use outside::Source;
+use outside::{LastImage, Source};
 use record_writer::{Partition, PartitionPasses};
 use snapshot_channel::TaskPass;
 use source_task::run_source;
@@ -17,6 +17,7 @@ use stage_task::run_stage;
 use std::alloc::Global;
 use std::sync::Wait;
 use task_output::{TaskEnd, World, WorldPasses};
+use turn_cell::Pass;
 
 /// The task of the source of this index.
 #[derive(Drop)]
@@ -58,14 +59,15 @@ pub enum Task<'a, 'p, S> {
     Aggregate(AggregateTask<'a, 'p>),
 }
 
-/// What a task leaves: the input of a source, the passes of a gate and of a partition where it has such, its pass
-/// of the channel of snapshots, and why it ended.
+/// What a task leaves: the input of a source, the passes of a gate and of a partition where it has such, its passes
+/// of the channel of snapshots and of the cell of the last image, and why it ended.
 #[derive(Drop)]
 pub struct TaskLeft<'p, S> {
     pub input: Option<S>,
     pub gate: Option<GatePasses<'p>>,
     pub partition: Option<PartitionPasses<'p>>,
     pub snapshots: Option<TaskPass>,
+    pub last_image: Pass<LastImage>,
     pub cause: Cause,
 }
 
@@ -92,6 +94,7 @@ fn run_source_task<'a, 'p, S: Source, R: Wait>(
     let WorldPasses {
         partition,
         snapshots,
+        last_image,
         ..
     } = passes;
     TaskLeft {
@@ -99,6 +102,7 @@ fn run_source_task<'a, 'p, S: Source, R: Wait>(
         gate: None,
         partition: Some(partition),
         snapshots: Some(snapshots),
+        last_image,
         cause,
     }
 }
@@ -132,6 +136,7 @@ fn run_stage_task<'a, 'p, S, R: Wait>(
     let WorldPasses {
         partition,
         snapshots,
+        last_image,
         ..
     } = passes;
     TaskLeft {
@@ -139,6 +144,7 @@ fn run_stage_task<'a, 'p, S, R: Wait>(
         gate: Some(gate.into_passes()),
         partition: Some(partition),
         snapshots: Some(snapshots),
+        last_image,
         cause,
     }
 }
@@ -168,12 +174,17 @@ fn run_aggregate_task<'a, 'p, S, R: Wait>(
         cause,
         ..
     } = end;
-    let WorldPasses { snapshots, .. } = passes;
+    let WorldPasses {
+        snapshots,
+        last_image,
+        ..
+    } = passes;
     TaskLeft {
         input: None,
         gate: Some(gate.into_passes()),
         partition: None,
         snapshots: Some(snapshots),
+        last_image,
         cause,
     }
 }

@@ -1,6 +1,5 @@
 -- What it leaves are the passes of its gate and what the task handed back.
 use Rattle.std.proofs.Common.{refl, ◌∙◌}
-use Rattle.turn_cell.specs.Passes.{seen}
 use Rattle.input_gate.specs.States.{account_in}
 use Rattle.job_workers.proofs.Left.{gate_passes, tells_given}
 use Rattle.job_workers.proofs.task.run_aggregate_task.Goals as goal
@@ -17,7 +16,7 @@ returns g c =
       snapshots = record { pass = end.passes.snapshots; is_there = refl; of_channel = did.snapshots.0; task = did.snapshots.1 ∙ c.requires.may.lent.task };
       given = account_in end.gate;
       tells = tells_given end.gate passes given.0;
-      history = seen end.passes.last_image;
+      last_image = did.last_image;
       takes = end.takes.items;
       account = did.account;
     }

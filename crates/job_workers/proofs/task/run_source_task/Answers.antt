@@ -1,6 +1,5 @@
 -- What it leaves are its input and what the source handed back.
 use Rattle.std.proofs.Common.{refl, ◌∙◌}
-use Rattle.turn_cell.specs.Passes.{seen}
 use Rattle.job_workers.proofs.task.run_source_task.Goals as goal
 
 pub returns : goal.returns
@@ -12,6 +11,6 @@ returns g c =
       no_gate = refl;
       partition = record { passes = end.passes.partition; are_there = refl; are_of = did.partition };
       snapshots = record { pass = end.passes.snapshots; is_there = refl; of_channel = did.snapshots.0; task = did.snapshots.1 ∙ c.requires.may.lent.task };
-      history = seen end.passes.last_image;
+      last_image = did.last_image;
       account = did.account;
     }

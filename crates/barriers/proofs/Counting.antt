@@ -1,8 +1,8 @@
 -- How many channels are waited for, and what a barrier changes of it.
-use Rattle.std.proofs.Common.{◌≡◌, ℕ, zero, suc, ◌+◌, ◌-◌, ◌^◌, ◌<◌, ◌≤◌, Bool, true, false, cond, ◌&&◌, List, [], ◌∷◌, length, refl, sym, ap, ◌∙◌, subst, arith}
+use Rattle.std.proofs.Common.{◌≡◌, ℕ, zero, suc, ◌+◌, ◌-◌, ◌^◌, ◌<◌, ◌≤◌, Bool, true, false, cond, ◌&&◌, ◌||◌, List, [], ◌∷◌, length, refl, sym, ap, ◌∙◌, subst, arith}
 use Rattle.std.specs.Prelude.{Some, slice_get, slice_set, map, replicate, nat_lt}
-use Rattle.std.specs.List.{AllByRecursion, list_all}
-use Rattle.std.proofs.lemmas.Bool.{ltb-true, lt-ltb, le-ltb}
+use Rattle.std.specs.List.{AllByRecursion, list_all, list_any}
+use Rattle.std.proofs.lemmas.Bool.{ltb-true, ltb-false, lt-ltb, le-ltb}
 use Rattle.std.proofs.lemmas.List.{length-map, length-set, length-replicate, map-set}
 use Rattle.std.proofs.lemmas.Option.{slice_get_within}
 use Rattle.barriers.specs.declared.aligner.Action.{Action}
@@ -33,6 +33,32 @@ some_waits closed (k ∷ given) e =
       | true ↦ λ e. some_waits closed given e
       | false ↦ λ e. refl
     ] e
+
+pub waits_at_most : (closed : ℕ) (given : List ℕ) → waiting closed given ≤ length given
+waits_at_most closed [] = omega arith
+waits_at_most closed (k ∷ given) =
+    let rest = waits_at_most closed given in
+    elim (nat_lt closed k) as (λ b. cond b (waiting closed given) (suc (waiting closed given)) ≤ suc (length given)) [
+      | true ↦ omega (arith, rest)
+      | false ↦ omega (arith, rest)
+    ]
+
+one_more_each : (a b : ℕ) → nat_lt (suc a) (suc b) ≡ nat_lt a b
+one_more_each a b = elim (nat_lt a b) as (λ t. nat_lt a b ≡ t → nat_lt (suc a) (suc b) ≡ t) [
+  | true ↦ λ is. let below = ltb-true a b is in lt-ltb (suc a) (suc b) (omega (arith, below))
+  | false ↦ λ is. let above = ltb-false a b is in le-ltb (suc a) (suc b) (omega (arith, above))
+] refl
+
+-- not all channels are waited for where some have given the barrier of the next checkpoint
+pub some_gave : (closed : ℕ) (given : List ℕ) → nat_lt (waiting closed given) (length given) ≡ list_any (λ g. g) (map (nat_lt closed) given)
+some_gave closed [] = refl
+some_gave closed (k ∷ given) =
+    let rest = some_gave closed given in
+    let most = waits_at_most closed given in
+    elim (nat_lt closed k) as (λ b. nat_lt (cond b (waiting closed given) (suc (waiting closed given))) (suc (length given)) ≡ (b || list_any (λ g. g) (map (nat_lt closed) given))) [
+      | true ↦ lt-ltb (waiting closed given) (suc (length given)) (omega (arith, most))
+      | false ↦ one_more_each (waiting closed given) (length given) ∙ rest
+    ]
 
 -- a channel that had not given its barrier gives it: one less is waited for
 pub one_less : (closed k : ℕ) → closed < k → (given : List ℕ) (i : ℕ) → slice_get (map (nat_lt closed) given) i ≡ Some false → waiting closed given ≡ suc (waiting closed (slice_set given i k))

@@ -1,6 +1,6 @@
 // The alignment of one task's channels.
 ghost use Rattle.std.specs.Prelude.{◌≡◌, ℕ, ◌≤◌, List, [], ◌∷◌, ◌++◌, IfOk};
-ghost use Rattle.barriers.specs.Alignments.{Barrier, AddsBarrier, Answers, MayGive, AlignmentStandsFor, action, alignment_next, barrier, unaligned};
+ghost use Rattle.barriers.specs.Alignments.{Barrier, AddsBarrier, Answers, MayGive, AlignmentStandsFor, action, alignment_next, barrier, is_open, unaligned};
 
 use std::alloc::{AllocError, Global};
 use std::marker::Model;
@@ -49,6 +49,13 @@ impl Aligner {
             missing: channels,
             given,
         })
+    }
+
+    /// Whether a checkpoint is open: some channels have given its barrier, and the task waits for the others.
+    pub fn is_open(&self) -> bool
+        ensures { result ≡ is_open self.now }
+    {
+        (self.missing as usize) < self.given.len()
     }
 
     /// Takes the barrier of checkpoint k from a channel, and says what the task does about it.

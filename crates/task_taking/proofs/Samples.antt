@@ -1,5 +1,5 @@
 -- What a gate of the tests tells, as it gives one item after another.
-use Rattle.std.proofs.Common.{◌≡◌, ◌≢◌, ℕ, suc, ◌+◌, ◌<◌, Bool, true, false, cond, eqb, List, [], ◌∷◌, ◌++◌, length, take, get_or, refl, sym, ap, subst, ◌∙◌, append-nil, eq-eqb, ne_eqb, arith}
+use Rattle.std.proofs.Common.{◌≡◌, ◌≢◌, ℕ, suc, ◌+◌, ◌<◌, ◌≤◌, Bool, true, false, cond, eqb, List, [], ◌∷◌, ◌++◌, length, take, get_or, refl, sym, ap, subst, ◌∙◌, append-nil, eq-eqb, ne_eqb, arith}
 use Rattle.std.proofs.lemmas.List.{take_more}
 use Rattle.std.specs.Prelude.{slice_get}
 use Rattle.std.specs.Option.{option_map_or}
@@ -67,9 +67,10 @@ module _ (given : List GateItem) (first second : ℕ) (over : Bool) (c : ℕ) (w
     },
   )
 
-  pub barrier_given : (k : ℕ) → k ≡ suc (stops_in (told_by given c)) → GaveItem (account_of given first second over) (account_of (given ++ items.Barrier c k Inline ∷ []) first second over) false (items.Barrier c k Inline)
-  barrier_given k next = (
-    record { number = next ∙ ap suc (sym (many_same given c)); held = λ no. absurd (cc) },
+  pub barrier_given : (hold : Bool) (k : ℕ) → k ≡ suc (stops_in (told_by given c)) → (hold ≡ true → (d : ℕ) × (d < 2) × (k ≤ stops_in (told_by given d))) →
+      GaveItem (account_of given first second over) (account_of (given ++ items.Barrier c k Inline ∷ []) first second over) hold (items.Barrier c k Inline)
+  barrier_given hold k next held = (
+    record { number = next ∙ ap suc (sym (many_same given c)); held = λ is. let h = held is in (h.0, h.1, subst (λ n. k ≤ n) (sym (many_same given h.0)) h.2) },
     record {
       within = within;
       was_free = free;

@@ -112,7 +112,9 @@ impl TaskTaking {
         if !make_room(&mut self.runs) {
             return Err(Cause::Memory);
         }
-        match gate.next(rt, false) {
+        // (while a checkpoint is open the next barrier of a channel that gave its own waits)
+        let hold = self.aligner.is_open();
+        match gate.next(rt, hold) {
             Ok(GateItem::Line { channel, line }) => {
                 note_take(
                     &mut self.runs,

@@ -1,5 +1,5 @@
 // A gate of the tests, that gives the items of a list.
-ghost use Rattle.std.specs.Prelude.{◌≡◌, ◌<◌, ◌≤◌, ◌++◌, true, false, [], ◌∷◌, IfOk};
+ghost use Rattle.std.specs.Prelude.{◌≡◌, ◌-◌, ◌<◌, ◌≤◌, ◌++◌, true, false, [], ◌∷◌, IfOk};
 ghost use Rattle.input_gate.specs.Gates.{stops_in};
 ghost use Rattle.task_taking.specs.Samples.{account_of, resumed_by, told_by};
 
@@ -62,10 +62,13 @@ impl Gate for ListGate {
                 }
             }
             Some(GateItem::Barrier { channel, k, .. }) => {
-                if hold || k == 0 || k - 1 != stops(self.given.as_slice(), channel) {
+                if k == 0 || k - 1 != stops(self.given.as_slice(), channel) {
                     return Err(GateEnd::Stopped);
                 }
                 if !is_free(self.given.as_slice(), self.first, self.second, channel) {
+                    return Err(GateEnd::Stopped);
+                }
+                if is_held(self.given.as_slice(), channel, k, hold) {
                     return Err(GateEnd::Stopped);
                 }
                 push_item(
@@ -130,6 +133,14 @@ fn is_free(given: &[GateItem], first: u64, second: u64, channel: u32) -> bool
         return stops(given, channel) == second;
     }
     false
+}
+
+// Whether a channel's barrier of this number is held back, as the other channel has given fewer.
+fn is_held(given: &[GateItem], channel: u32, k: u64, hold: bool) -> bool
+    requires { channel < 2 }
+    ensures { result ≡ false → hold ≡ true → k ≤ stops_in (told_by given.now (1 - channel)) }
+{
+    hold && k > stops(given, 1 - channel)
 }
 
 // Adds an item, for which there is room.

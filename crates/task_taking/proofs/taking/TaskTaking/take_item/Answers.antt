@@ -1,4 +1,4 @@
-use Rattle.std.proofs.Common.{◌≡◌, ◌≢◌, ◌++◌, [], ◌∷◌, ◌<◌, ◌+◌, List, length, false, IsTrue, refl, sym, ap, subst, ◌∙◌, arith}
+use Rattle.std.proofs.Common.{◌≡◌, ◌≢◌, ◌++◌, [], ◌∷◌, ◌<◌, ◌+◌, List, length, IsTrue, refl, sym, ap, subst, ◌∙◌, arith}
 use Rattle.flow_defs.specs.declared.cause.Cause.{Cause}
 use Rattle.flow_defs.specs.declared.cause.Cause.TheVariants as causes
 use Rattle.flow_defs.specs.declared.image.TakeRun.{TakeRun}
@@ -22,7 +22,7 @@ returns-in-Ok-Line-clause-goes_on g c =
     let s = c.self.inside in
     let t : Taking = record { exchange = s.exchange; index = s.index; channels = s.channels; runs = s.runs.items; alignment = s.aligner } in
     let t' : Taking = record { exchange = s.exchange; index = s.index; channels = s.channels; runs = c.note_take.new.runs.items; alignment = s.aligner } in
-    let gave = subst (GaveItem before after false) c.in-Ok-Line.field-0-is c.in-Ok-Line.ensures.gave in (
+    let gave = subst (GaveItem before after c.is_open-hold.result) c.in-Ok-Line.field-0-is c.in-Ok-Line.ensures.gave in (
       step_line before after t t' c.next.ensures.same.1 (record { exchange = refl; index = refl; channels = refl }) c.in-Ok-Line.channel c.in-Ok-Line.line.items gave.1 refl (subst (IsInStep before) (sym c.self.view_is) c.requires),
       ap (λ (x : Taking). x.alignment.closed) c.self.view_is,
     )
@@ -36,7 +36,7 @@ returns-in-Ok-Line-clause-took g c = λ job e b groups took has.
     let t' : Taking = record { exchange = s.exchange; index = s.index; channels = s.channels; runs = c.note_take.new.runs.items; alignment = s.aligner } in
     let was = subst (λ (x : Taking). HasTaken job e b before x groups took) (sym c.self.view_is) has in
     let in_step = subst (IsInStep before) (sym c.self.view_is) c.requires in
-    let gave = subst (GaveItem before after false) c.in-Ok-Line.field-0-is c.in-Ok-Line.ensures.gave in
+    let gave = subst (GaveItem before after c.is_open-hold.result) c.in-Ok-Line.field-0-is c.in-Ok-Line.ensures.gave in
     let i = c.in-Ok-Line.channel in
     let from_is : c.sender_of.result ≡ start_of job e b i = c.sender_of.ensures ∙ ap (λ x. sender_at x s.index i) was.takes_for.exchange_is ∙ ap (λ n. sender_at (exchange job e) n i) was.takes_for.index_is in
     let roomy : c.make_room.new.runs.items ≡ s.runs.items = c.make_room.ensures.same in
@@ -61,7 +61,7 @@ returns-after-on_barrier-clause-goes_on g c =
     let i = c.in-Ok-Barrier.channel in
     let k = c.in-Ok-Barrier.k in
     let in_step = subst (IsInStep before) (sym c.self.view_is) c.requires in
-    let gave = subst (GaveBarrier before after false i k) c.in-Inline.is (subst (GaveItem before after false) c.in-Ok-Barrier.field-0-is c.in-Ok-Barrier.ensures.gave) in
+    let gave = subst (GaveBarrier before after c.is_open-hold.result i k) c.in-Inline.is (subst (GaveItem before after c.is_open-hold.result) c.in-Ok-Barrier.field-0-is c.in-Ok-Barrier.ensures.gave) in
     let may = may_give before t in_step i gave.1.within gave.1.was_free k gave.0.number in
     let closed_is : s.aligner.closed ≡ c.args.self.now.alignment.closed = ap (λ (x : Taking). x.alignment.closed) c.self.view_is in
     elim c.match-on_barrier.branch [
@@ -89,7 +89,7 @@ returns-after-on_barrier-clause-took g c = λ job e b groups took has.
     let k = c.in-Ok-Barrier.k in
     let was = subst (λ (x : Taking). HasTaken job e b before x groups took) (sym c.self.view_is) has in
     let in_step = subst (IsInStep before) (sym c.self.view_is) c.requires in
-    let gave = subst (GaveBarrier before after false i k) c.in-Inline.is (subst (GaveItem before after false) c.in-Ok-Barrier.field-0-is c.in-Ok-Barrier.ensures.gave) in
+    let gave = subst (GaveBarrier before after c.is_open-hold.result i k) c.in-Inline.is (subst (GaveItem before after c.is_open-hold.result) c.in-Ok-Barrier.field-0-is c.in-Ok-Barrier.ensures.gave) in
     let may = may_give before t in_step i gave.1.within gave.1.was_free k gave.0.number in
     let inside : i < ways_into job e = subst (λ n. i < n) was.takes_for.channels gave.1.within in
     let free = not_given before t in_step i gave.1.within gave.1.was_free in

@@ -26,9 +26,10 @@ use Rattle.task_taking.proofs.Told.{none_at, stops_told}
 use Rattle.task_output.specs.Outputs.{Output, HasSent, HasBegun, HasStopped, HasFinished}
 use Rattle.task_output.specs.Laws.{SentIsBegun, FinishedIsBegun}
 use Rattle.stage_task.specs.declared.checkpoints.StageOutput.{StageOutput}
+use Rattle.stage_task.specs.declared.checkpoints.TakerEnd.{TakerEnd}
 use Rattle.stage_task.specs.Snapshots.{AreSnapshots, all_applied}
 use Rattle.stage_task.specs.Stages.{StageAccount}
-use Rattle.stage_task.specs.Applying.{HasApplied, IsStageUnderWay, IsBehindLast, IsMarked, EndedAmong}
+use Rattle.stage_task.specs.Applying.{HasApplied, IsStageUnderWay, IsBehindLast, IsMarked, EndedAmong, IsEndOf}
 use Rattle.stage_task.proofs.Records.{applied_line}
 
 -- it took nothing
@@ -125,6 +126,12 @@ pub named : (job : Job) (e b size : ℕ) (every : Option ℕ) (gate : Account) (
     → StageAccount job e b size every gate passes sent history takes cause → StageAccount job e b size every gate passes sent history takes' cause'
 named job e b size every gate passes sent history takes takes' cause cause' one two was =
     subst (λ (l : List TakeRun). StageAccount job e b size every gate passes sent history l cause') (sym one) (subst (StageAccount job e b size every gate passes sent history takes) (sym two) was)
+
+-- by the names of the end that it answers
+pub ends_so : (gate : Account) (out : StageOutput) (end : TakerEnd) {takes : List TakeRun} {cause : Cause} → (end.takes.items ≡ takes) × (end.cause ≡ cause)
+    → StageAccount out.job.now out.edge out.index out.output.writer.size out.every gate out.output.writer.passes (sent_by out.acks.pass) (seen out.acks.last_pass) takes cause → IsEndOf gate out end
+ends_so gate out end {takes} {cause} is was =
+    named out.job.now out.edge out.index out.output.writer.size out.every gate out.output.writer.passes (sent_by out.acks.pass) (seen out.acks.last_pass) takes end.takes.items cause end.cause is.0 is.1 was
 
 -- ---- where it takes on
 

@@ -1,7 +1,7 @@
 // Words and texts that are read, beside those that are refused, each with its first fault.
 ghost use Rattle.flow_defs.specs.Stages.{IsArgument};
 
-use flow_defs::{AggKind, Bytes, Exchange, ListOf, StageKind, Word};
+use flow_defs::{AggKind, Bytes, Exchange, ListOf, Stage, StageKind, Word};
 use job_text::{Command, JobFault, JobReadFault, RunOptions, read_grammar, read_job, read_words};
 use stage_fns::{AggFn, FnTable, StageFn, count, field, keep, words};
 use std::alloc::{AllocError, Global};
@@ -337,28 +337,37 @@ fn an_operand_may_be_any_text_without_a_dash(rt: HostRuntime) -> Result<(), Fail
     Ok(())
 }
 
+// The words of lines and a seed, and what they say.
+const LINES: &[(&str, &str, (u64, u64))] = &[
+    ("0", "9", (0, 9)),
+    ("2000000", "0", (2_000_000, 0)),
+    ("10", "18446744073709551615", (10, u64::MAX)),
+];
+
+// The lines and the seed of `gen`.
+fn lines_to_make(alloc: Global, lines: &str, seed: &str) -> Result<(u64, u64), Fail> {
+    let words = words_of(alloc, &["gen", lines, seed])?;
+    match read_words(alloc, &words)? {
+        Command::Gen { lines, seed } => Ok((lines, seed)),
+        _ => Err(Fail::from("the words of lines are another command")),
+    }
+}
+
+// The lines and the seed of `selfrun`.
+fn lines_to_run(alloc: Global, lines: &str, seed: &str) -> Result<(u64, u64), Fail> {
+    let words = words_of(alloc, &["selfrun", lines, seed])?;
+    match read_words(alloc, &words)? {
+        Command::SelfRun { lines, seed } => Ok((lines, seed)),
+        _ => Err(Fail::from("the words of a run of lines are another command")),
+    }
+}
+
 #[test]
 fn lines_and_a_seed_are_read(rt: HostRuntime) -> Result<(), Fail> {
     let alloc = rt.alloc();
-    for (lines, seed, wanted) in [
-        ("0", "9", (0, 9)),
-        ("2000000", "0", (2_000_000, 0)),
-        ("10", "18446744073709551615", (10, u64::MAX)),
-    ] {
-        let words = words_of(alloc, &["gen", lines, seed])?;
-        let Command::Gen {
-            lines: made,
-            seed: of,
-        } = read_words(alloc, &words)?
-        else {
-            return Err(Fail::from("the words of lines are another command"));
-        };
-        assert_eq!(rt; (made, of), wanted);
-        let words = words_of(alloc, &["selfrun", lines, seed])?;
-        let Command::SelfRun { lines, seed } = read_words(alloc, &words)? else {
-            return Err(Fail::from("the words of a run of lines are another command"));
-        };
-        assert_eq!(rt; (lines, seed), wanted);
+    for (lines, seed, wanted) in LINES {
+        assert_eq!(rt; lines_to_make(alloc, lines, seed)?, *wanted);
+        assert_eq!(rt; lines_to_run(alloc, lines, seed)?, *wanted);
     }
     Ok(())
 }
@@ -778,6 +787,16 @@ fn told(alloc: Global, text: &[u8], functions: &FnTable) -> Result<String, Alloc
     }
 }
 
+// Reads the text of each row with these functions, and compares what is told of it.
+fn compare_texts<R: Abort>(rt: &R, alloc: Global, functions: &FnTable) -> Result<(), Fail> {
+    for (front, piece, times, back, fault) in TEXTS {
+        let text = text_of(alloc, front, piece, *times, back)?;
+        let told = told(alloc, text.as_slice(), functions)?;
+        assert_eq!(rt; told.as_str(), *fault);
+    }
+    Ok(())
+}
+
 #[test]
 fn the_first_fault_of_a_job_is_told(rt: HostRuntime) -> Result<(), Fail> {
     let alloc = rt.alloc();
@@ -809,12 +828,29 @@ fn the_first_fault_of_a_job_is_told(rt: HostRuntime) -> Result<(), Fail> {
     functions.add_stage(StageKind::Field, f)?;
     let f: AggFn = Box::new(alloc, |record: &[u8], old: u64| count(record, old))?;
     functions.add_agg(AggKind::Count, f)?;
-    for (front, piece, times, back, fault) in TEXTS {
-        let text = text_of(alloc, front, piece, *times, back)?;
-        let told = told(alloc, text.as_slice(), &functions)?;
-        assert_eq!(rt; told.as_str(), *fault);
-    }
+    compare_texts(&rt, alloc, &functions)
+}
+
+// A job of two sources and two stages that keep records.
+const KEEPING: &[u8] =
+    b"source in\nsource on\nstage keep:GET 3 rebalance\nstage keep:/a 3 forward\naggregate count 5";
+
+// The sources are `in` and `on`.
+fn has_names<R: Abort>(rt: &R, sources: &[Bytes]) -> Result<(), Fail> {
+    let [first, second] = sources else {
+        return Err(Fail::from("there are other than two sources"));
+    };
+    assert_eq!(rt; first.as_slice(), b"in".as_slice());
+    assert_eq!(rt; second.as_slice(), b"on".as_slice());
     Ok(())
+}
+
+// The stage has three tasks that keep the records which begin so, and this exchange before it.
+fn keeps<R: Abort>(rt: &R, stage: &Stage, arg: &[u8], exchange: Exchange) {
+    assert_eq!(rt; stage.kind, StageKind::Keep);
+    assert_eq!(rt; stage.arg.as_slice(), arg);
+    assert_eq!(rt; stage.tasks, 3);
+    assert_eq!(rt; stage.exchange, exchange);
 }
 
 #[test]
@@ -830,28 +866,16 @@ fn a_job_is_read(rt: HostRuntime) -> Result<(), Fail> {
     functions.add_stage(StageKind::Keep, f)?;
     let f: AggFn = Box::new(alloc, |record: &[u8], old: u64| count(record, old))?;
     functions.add_agg(AggKind::Count, f)?;
-    let text =
-        b"source in\nsource on\nstage keep:GET 3 rebalance\nstage keep:/a 3 forward\naggregate count 5".as_slice();
-    let job = read_job(alloc, text, &functions)?;
-    let [first, second] = job.sources.as_slice() else {
-        return Err(Fail::from("there are other than two sources"));
-    };
-    assert_eq!(rt; first.as_slice(), b"in".as_slice());
-    assert_eq!(rt; second.as_slice(), b"on".as_slice());
+    let job = read_job(alloc, KEEPING, &functions)?;
+    has_names(&rt, job.sources.as_slice())?;
     let [first, second] = job.stages.as_slice() else {
         return Err(Fail::from("there are other than two stages"));
     };
-    assert_eq!(rt; first.kind, StageKind::Keep);
-    assert_eq!(rt; first.arg.as_slice(), b"GET".as_slice());
-    assert_eq!(rt; first.tasks, 3);
-    assert_eq!(rt; first.exchange, Exchange::Rebalance);
-    assert_eq!(rt; second.kind, StageKind::Keep);
-    assert_eq!(rt; second.arg.as_slice(), b"/a".as_slice());
-    assert_eq!(rt; second.tasks, 3);
-    assert_eq!(rt; second.exchange, Exchange::Forward);
+    keeps(&rt, first, b"GET", Exchange::Rebalance);
+    keeps(&rt, second, b"/a", Exchange::Forward);
     assert_eq!(rt; job.agg, AggKind::Count);
     assert_eq!(rt; job.agg_tasks, 5);
-    assert_eq!(rt; job.text.as_slice(), text);
+    assert_eq!(rt; job.text.as_slice(), KEEPING);
     Ok(())
 }
 

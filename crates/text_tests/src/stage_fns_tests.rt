@@ -10,6 +10,7 @@ ghost use Rattle.stage_fns.specs.Meets.{records};
 use flow_defs::{AggKind, Bytes, ListOf, StageKind};
 use stage_fns::{AddFault, AggFn, FnTable, StageFn, count, field, keep, max, sum, upper, words};
 use std::alloc::{AllocError, Global};
+use std::process::Abort;
 use std::test::Fail;
 
 // What the function of this kind gives. All that is known of it is what the table tells.
@@ -66,48 +67,77 @@ fn with_bars(alloc: Global, list: &ListOf<Bytes>) -> Result<Bytes, AllocError> {
     Ok(text)
 }
 
+// The list has these records, each with a bar behind it.
+fn compare_records<R: Abort>(
+    rt: &R,
+    alloc: Global,
+    list: ListOf<Bytes>,
+    text: &[u8],
+) -> Result<(), AllocError> {
+    let have = with_bars(alloc, &list)?;
+    assert_eq!(rt; have.as_slice(), text);
+    Ok(())
+}
+
+// A kind, its argument, a record, and the records that it gives, each with a bar behind it.
+const GIVEN: &[(StageKind, &str, &str, &str)] = &[
+    (StageKind::Words, "", "", ""),
+    (StageKind::Words, "", " ", ""),
+    (StageKind::Words, "", "to be", "to|be|"),
+    (StageKind::Words, "", "  to  be\tor ", "to|be\tor|"),
+    (StageKind::Upper, "", "", "|"),
+    (StageKind::Upper, "", "Az`{@[é", "AZ`{@[é|"),
+    (StageKind::Keep, "to", "to be", "to be|"),
+    (StageKind::Keep, "to", "to", "to|"),
+    (StageKind::Keep, "to be", "to", ""),
+    (StageKind::Keep, "be", "to be", ""),
+];
+
+// What `words`, `upper` or `keep` gives.
+fn plainly_given(
+    alloc: Global,
+    kind: StageKind,
+    arg: &[u8],
+    record: &[u8],
+) -> Result<ListOf<Bytes>, AllocError> {
+    let mut list = ListOf::new(alloc);
+    match kind {
+        StageKind::Words => words(alloc, arg, record, &mut list)?,
+        StageKind::Upper => upper(alloc, arg, record, &mut list)?,
+        _ => keep(alloc, arg, record, &mut list)?,
+    }
+    Ok(list)
+}
+
 #[test]
 fn words_upper_and_keep_give_these_records(rt: HostRuntime) -> Result<(), Fail> {
     let alloc = rt.alloc();
-    for (kind, arg, record, text) in [
-        (StageKind::Words, "", "", ""),
-        (StageKind::Words, "", " ", ""),
-        (StageKind::Words, "", "to be", "to|be|"),
-        (StageKind::Words, "", "  to  be\tor ", "to|be\tor|"),
-        (StageKind::Upper, "", "", "|"),
-        (StageKind::Upper, "", "Az`{@[é", "AZ`{@[é|"),
-        (StageKind::Keep, "to", "to be", "to be|"),
-        (StageKind::Keep, "to", "to", "to|"),
-        (StageKind::Keep, "to be", "to", ""),
-        (StageKind::Keep, "be", "to be", ""),
-    ] {
-        let (arg, record) = (arg.as_bytes(), record.as_bytes());
-        let mut list = ListOf::new(alloc);
-        match kind {
-            StageKind::Words => words(alloc, arg, record, &mut list)?,
-            StageKind::Upper => upper(alloc, arg, record, &mut list)?,
-            _ => keep(alloc, arg, record, &mut list)?,
-        }
-        assert_eq!(rt; with_bars(alloc, &list)?.as_slice(), text.as_bytes());
+    for (kind, arg, record, text) in GIVEN {
+        let list = plainly_given(alloc, *kind, arg.as_bytes(), record.as_bytes())?;
+        compare_records(&rt, alloc, list, text.as_bytes())?;
     }
     Ok(())
 }
 
+// A place, a record, and the field there with a bar behind it, if there is one.
+const FIELDS: &[(u64, &str, &str)] = &[
+    (2, "a,b,c", "b|"),
+    (2, "a", ""),
+    (2, "a,", "|"),
+    (1, "", "|"),
+    (9999, "a,b,c", ""),
+];
+
 #[test]
 fn field_counts_from_one(rt: HostRuntime) -> Result<(), Fail> {
     let alloc = rt.alloc();
-    for (place, record, text) in [
-        (2, "a,b,c", "b|"),
-        (2, "a", ""),
-        (2, "a,", "|"),
-        (1, "", "|"),
-        (9999, "a,b,c", ""),
-    ] {
+    for (place, record, text) in FIELDS {
+        let place = *place;
         assert!(rt; 1 <= place && place <= 9999);
         let arg = place_text(alloc, place)?;
         let mut list = ListOf::new(alloc);
         field(alloc, arg.as_bytes(), record.as_bytes(), &mut list)?;
-        assert_eq!(rt; with_bars(alloc, &list)?.as_slice(), text.as_bytes());
+        compare_records(&rt, alloc, list, text.as_bytes())?;
     }
     Ok(())
 }
@@ -149,34 +179,24 @@ fn a_table_has_all_functions(rt: HostRuntime) -> Result<(), Fail> {
     functions.add_stage(StageKind::Field, f)?;
     let f: AggFn = Box::new(alloc, |record: &[u8], old: u64| count(record, old))?;
     functions.add_agg(AggKind::Count, f)?;
+    let record = b"to,be or";
+    let pieces = given_by(&functions, alloc, StageKind::Words, b"", record)?;
+    compare_records(&rt, alloc, pieces, b"to,be|or|")?;
+    let raised = given_by(&functions, alloc, StageKind::Upper, b"", record)?;
+    compare_records(&rt, alloc, raised, b"TO,BE OR|")?;
+    let kept = given_by(&functions, alloc, StageKind::Keep, b"to", record)?;
+    compare_records(&rt, alloc, kept, b"to,be or|")?;
     let place = place_text(alloc, 2)?;
-    let pieces = given_by(&functions, alloc, StageKind::Words, b"", b"to,be or")?;
-    assert_eq!(rt;
-        with_bars(alloc, &pieces)?.as_slice(),
-        b"to,be|or|".as_slice()
-    );
-    let raised = given_by(&functions, alloc, StageKind::Upper, b"", b"to,be or")?;
-    assert_eq!(rt;
-        with_bars(alloc, &raised)?.as_slice(),
-        b"TO,BE OR|".as_slice()
-    );
-    let kept = given_by(&functions, alloc, StageKind::Keep, b"to", b"to,be or")?;
-    assert_eq!(rt;
-        with_bars(alloc, &kept)?.as_slice(),
-        b"to,be or|".as_slice()
-    );
     let piece = given_by(
         &functions,
         alloc,
         StageKind::Field,
         place.as_bytes(),
-        b"to,be or",
+        record,
     )?;
-    assert_eq!(rt; with_bars(alloc, &piece)?.as_slice(), b"be or|".as_slice());
-    assert_eq!(rt;
-        answer_of(&functions, AggKind::Count, b"to,be or", 41),
-        (8, 42)
-    );
+    compare_records(&rt, alloc, piece, b"be or|")?;
+    let answer = answer_of(&functions, AggKind::Count, record, 41);
+    assert_eq!(rt; answer, (8, 42));
     Ok(())
 }
 
@@ -202,7 +222,7 @@ fn a_kind_takes_one_function(rt: HostRuntime) -> Result<(), Fail> {
     };
     let mut list = ListOf::new(alloc);
     f(alloc, b"", b"to be", &mut list)?;
-    assert_eq!(rt; with_bars(alloc, &list)?.as_slice(), b"to|be|".as_slice());
+    compare_records(&rt, alloc, list, b"to|be|")?;
     assert!(rt; functions.stage(StageKind::Upper).is_none());
     assert!(rt; functions.agg(AggKind::Count).is_none());
     Ok(())

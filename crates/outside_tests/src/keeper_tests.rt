@@ -10,6 +10,7 @@ use outside::{
     KeepFault, Keeper, Kept, LastImage, MemoryKeeper, Stored, look_for_stored, tell_stored,
 };
 use std::alloc::{AllocError, Global};
+use std::process::Abort;
 use std::sync::Wait;
 use std::test::Fail;
 use turn_cell::{Pass, TurnCell};
@@ -25,7 +26,9 @@ fn keeper_of_two(alloc: Global, lasts: &[u64], puts: &[u64]) -> Result<MemoryKee
         number: 7,
         bytes: Bytes::of(alloc, b"cd")?,
     })?;
-    Ok(MemoryKeeper::new(images, numbers(alloc, lasts)?, numbers(alloc, puts)?))
+    let lasts = numbers(alloc, lasts)?;
+    let puts = numbers(alloc, puts)?;
+    Ok(MemoryKeeper::new(images, lasts, puts))
 }
 
 // Puts these bytes under the number behind the last one, whether or not the keeper tells its images.
@@ -53,49 +56,71 @@ fn put_twice<K: Keeper>(alloc: Global, keeper: &mut K, bytes: &[u8]) -> Result<u
     Ok(number)
 }
 
+// In each row: what a put answers, and how many images the keeper has then.
+const PUTS: &[(Result<u64, KeepFault>, usize)] = &[
+    (Err(KeepFault::Failed), 2),
+    (Err(KeepFault::Failed), 2),
+    (Ok(8), 3),
+    (Err(KeepFault::Failed), 3),
+    (Ok(9), 4),
+];
+
 #[test]
 fn a_memory_keeper_fails_at_the_calls_that_are_told(rt: HostRuntime) -> Result<(), Fail> {
     let alloc = rt.alloc();
     let mut keeper = keeper_of_two(alloc, &[2], &[1, 3])?;
-    for (put, kept) in [
-        (Err(KeepFault::Failed), 2),
-        (Err(KeepFault::Failed), 2),
-        (Ok(8), 3),
-        (Err(KeepFault::Failed), 3),
-        (Ok(9), 4),
-    ] {
-        assert_eq!(rt; put_behind(alloc, &mut keeper, b"ef"), put);
-        assert_eq!(rt; keeper.images().len(), kept);
+    for (put, kept) in PUTS {
+        assert_eq!(rt; put_behind(alloc, &mut keeper, b"ef"), *put);
+        assert_eq!(rt; keeper.images().len(), *kept);
     }
     Ok(())
 }
+
+// The keeper's last image is this one.
+fn gives_last<R: Abort>(
+    rt: &R,
+    alloc: Global,
+    keeper: &mut MemoryKeeper,
+    number: u64,
+    bytes: &[u8],
+) {
+    match keeper.last(alloc) {
+        Ok(Some(kept)) => {
+            assert_eq!(rt; kept.number, number);
+            assert_eq!(rt; kept.bytes.as_slice(), bytes);
+        }
+        _ => panic!(rt; "an image is kept"),
+    }
+}
+
+// In each row: the last image's number and bytes, and the number of the second image that is put behind it.
+const LASTS: &[(u64, &[u8], u64)] = &[(7, b"cd", 9), (9, b"ef", 11), (11, b"ef", 13)];
 
 #[test]
 fn a_memory_keeper_gives_its_last_image(rt: HostRuntime) -> Result<(), Fail> {
     let alloc = rt.alloc();
     let mut keeper = keeper_of_two(alloc, &[], &[])?;
-    for (number, text) in [(7, "cd"), (9, "ef"), (11, "ef")] {
-        match keeper.last(alloc) {
-            Ok(Some(kept)) => {
-                assert_eq!(rt; kept.number, number);
-                assert_eq!(rt; kept.bytes.as_slice(), text.as_bytes());
-            }
-            _ => Err("an image is kept")?,
-        }
-        assert_eq!(rt; put_twice(alloc, &mut keeper, b"ef"), Ok(number + 2));
+    for (number, bytes, second) in LASTS {
+        gives_last(&rt, alloc, &mut keeper, *number, bytes);
+        assert_eq!(rt; put_twice(alloc, &mut keeper, b"ef"), Ok(*second));
     }
     Ok(())
+}
+
+// A keeper that holds nothing, and no call of which fails.
+fn no_images(alloc: Global) -> MemoryKeeper {
+    MemoryKeeper::new(ListOf::new(alloc), ListOf::new(alloc), ListOf::new(alloc))
+}
+
+fn gives_none(alloc: Global, keeper: &mut MemoryKeeper) -> bool {
+    matches!(keeper.last(alloc), Ok(None))
 }
 
 #[test]
 fn an_empty_memory_keeper_gives_none(rt: HostRuntime) -> Result<(), Fail> {
     let alloc = rt.alloc();
-    let mut keeper = MemoryKeeper::new(
-        ListOf::new(alloc),
-        numbers(alloc, &[])?,
-        numbers(alloc, &[])?,
-    );
-    assert!(rt; matches!(keeper.last(alloc), Ok(None)));
+    let mut keeper = no_images(alloc);
+    assert!(rt; gives_none(alloc, &mut keeper));
     assert_eq!(rt; put_behind(alloc, &mut keeper, b""), Ok(1));
     assert_eq!(rt; keeper.images().len(), 1);
     Ok(())

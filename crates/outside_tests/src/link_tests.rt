@@ -7,10 +7,25 @@ use flow_defs::Bytes;
 use outside::{
     Failed, LinkIn, LinkOut, Links, MemoryIn, MemoryLinks, MemoryOut, PairFault, Pause, Wire,
 };
-use std::alloc::Global;
+use std::alloc::{AllocError, Global};
 use std::sync::Wait;
 use std::test::Fail;
 use std::thread::{Threads, join};
+
+// Links in memory, of which these pairs, reads and writes fail.
+fn links_with(
+    alloc: Global,
+    pairs: &[u64],
+    reads: &[u64],
+    writes: &[u64],
+) -> Result<MemoryLinks, AllocError>
+    ensures { IfOk result (λ links. links ≡ no_links pairs.now reads.now writes.now) }
+{
+    let pairs = numbers(alloc, pairs)?;
+    let reads = numbers(alloc, reads)?;
+    let writes = numbers(alloc, writes)?;
+    Ok(MemoryLinks::new(alloc, pairs, reads, writes))
+}
 
 // The ends of two new links, of which these reads and writes fail.
 fn new_wire(
@@ -23,8 +38,7 @@ fn new_wire(
     ensures one_cell { IfOk result (λ wire. wire.data_out.cell ≡ wire.data_in.cell) }
     ensures none_failed { IfOk result (λ wire. wire.control_out.faults ≡ 0) }
 {
-    let none = numbers(alloc, &[])?;
-    let mut links = MemoryLinks::new(alloc, none, numbers(alloc, reads)?, numbers(alloc, writes)?);
+    let mut links = links_with(alloc, &[], reads, writes)?;
     links.pair(alloc)
 }
 
@@ -88,24 +102,25 @@ fn read_five<R: Wait>(rt: &R, input: &mut MemoryIn) -> ([Got; 5], u64)
     ([first, second, third, fourth, fifth], faults)
 }
 
+const COUNTS: [Result<usize, Failed>; 3] = [Ok(2), Err(Failed), Ok(2)];
+
+const GOT: [Got; 5] = [
+    (Err(Failed), *b"---"),
+    (Ok(3), *b"abe"),
+    (Ok(1), *b"fbe"),
+    (Ok(0), *b"fbe"),
+    (Ok(0), *b"fbe"),
+];
+
 #[test]
 fn ends_fail_at_the_calls_that_are_told(rt: HostRuntime) -> Result<(), Fail> {
     let alloc = rt.alloc();
     let mut wire = new_wire(alloc, &[1], &[2])?;
     let (counts, faults) = write_thrice(&rt, &mut wire.data_out);
-    assert_eq!(rt; counts, [Ok(2), Err(Failed), Ok(2)]);
+    assert_eq!(rt; counts, COUNTS);
     assert_eq!(rt; faults, 1);
     let (got, faults) = read_five(&rt, &mut wire.data_in);
-    assert_eq!(rt;
-        got,
-        [
-            (Err(Failed), *b"---"),
-            (Ok(3), *b"abe"),
-            (Ok(1), *b"fbe"),
-            (Ok(0), *b"fbe"),
-            (Ok(0), *b"fbe"),
-        ]
-    );
+    assert_eq!(rt; got, GOT);
     assert_eq!(rt; faults, 1);
     Ok(())
 }
@@ -174,8 +189,7 @@ fn make_thrice<R: Wait>(
 #[test]
 fn links_fail_at_the_pairs_that_are_told(rt: HostRuntime) -> Result<(), Fail> {
     let alloc = rt.alloc();
-    let none = numbers(alloc, &[])?;
-    let mut links = MemoryLinks::new(alloc, numbers(alloc, &[2])?, none, numbers(alloc, &[1])?);
+    let mut links = links_with(alloc, &[2], &[], &[1])?;
     let (answers, faults) = make_thrice(&rt, alloc, &mut links);
     assert_eq!(rt; answers, [Ok(()), Err(PairFault::Failed), Ok(())]);
     assert_eq!(rt; faults, 3);
@@ -197,8 +211,7 @@ fn make_and_give_back<L: Links>(alloc: Global, links: &mut L) -> Result<(), Pair
 #[test]
 fn wires_are_made_and_given_back(rt: HostRuntime) -> Result<(), Fail> {
     let alloc = rt.alloc();
-    let none = numbers(alloc, &[])?;
-    let mut links = MemoryLinks::new(alloc, none, numbers(alloc, &[])?, numbers(alloc, &[])?);
+    let mut links = links_with(alloc, &[], &[], &[])?;
     assert!(rt; make_and_give_back(alloc, &mut links).is_ok());
     assert_eq!(rt; links.wires().len(), 1);
     Ok(())
@@ -276,17 +289,26 @@ fn send_and_receive<R: Threads + Wait + Sync>(
     got
 }
 
-#[test]
-fn bytes_go_in_order_from_thread_to_thread(rt: HostRuntime) -> Result<(), Fail> {
-    let alloc = rt.alloc();
-    let none = numbers(alloc, &[])?;
-    let links = MemoryLinks::new(alloc, none, numbers(alloc, &[])?, numbers(alloc, &[])?);
+// What comes of these bytes in another thread, over links of which no call fails.
+fn carried<R: Threads + Wait + Sync>(rt: &R, alloc: Global, bytes: &[u8]) -> Result<Bytes, Fail> {
+    let links = links_with(alloc, &[], &[], &[])?;
+    let wire = new_wire(alloc, &[], &[])?;
+    Ok(send_and_receive(rt, &links, wire, bytes, Bytes::new(alloc)))
+}
+
+// So many bytes, which count up to 250 and begin again.
+fn counting_bytes(alloc: Global, count: u32) -> Result<Bytes, AllocError> {
     let mut bytes = Bytes::new(alloc);
-    for number in 0..300_000u32 {
+    for number in 0..count {
         bytes.push((number % 251) as u8)?;
     }
-    let wire = new_wire(alloc, &[], &[])?;
-    let got = send_and_receive(&rt, &links, wire, bytes.as_slice(), Bytes::new(alloc));
+    Ok(bytes)
+}
+
+#[test]
+fn bytes_go_in_order_from_thread_to_thread(rt: HostRuntime) -> Result<(), Fail> {
+    let bytes = counting_bytes(rt.alloc(), 300_000)?;
+    let got = carried(&rt, rt.alloc(), bytes.as_slice())?;
     assert!(rt; got.as_slice() == bytes.as_slice());
     Ok(())
 }

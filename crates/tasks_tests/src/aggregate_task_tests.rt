@@ -5,8 +5,8 @@ ghost use Rattle.flow_defs.specs.Jobs.{IsJob, last_edge, tasks};
 ghost use Rattle.checkpoint_laws.specs.Chapters.{task_at};
 ghost use Rattle.stage_fns.specs.Functions.{HasAgg};
 ghost use Rattle.stage_fns.specs.Kinds.{kinds};
-ghost use Rattle.snapshot_channel.specs.Passes.{IsCollecting, IsFresh, opening, opening_of, task_of};
-ghost use Rattle.task_output.specs.Acking.{IsLent};
+ghost use Rattle.snapshot_channel.specs.Passes.{IsCollecting, IsFresh, opening, opening_of, sent_by, task_of};
+ghost use Rattle.task_output.specs.Acking.{HasPasses, IsLent};
 
 use crate::lent::shared_last;
 use crate::list_gate::Piece::{Stop, Text};
@@ -114,24 +114,51 @@ fn task<'a, R: Wait>(
     (cause, takes)
 }
 
+// Runs the task by the gate and the stop cell of this case. Answers why it ended, the runs that were left, and of
+// what fault others hear.
+fn count_by<'a, R: Wait + Abort>(
+    rt: &R,
+    alloc: Global,
+    job: &'a Job,
+    functions: &FnTable,
+    acks: Acks<'a>,
+    case: Case<'_>,
+) -> Result<(Cause, ListOf<TakeRun>, Option<Cause>), Fail>
+    requires job { IsJob job.now × (job.now.stages.items ≡ []) × (job.now.agg ≡ Count) × (tasks job.now 0 ≡ 2) × (tasks job.now 1 ≡ 1) }
+    requires functions { HasAgg (kinds functions.now) Count }
+    requires passes { HasPasses acks × (sent_by acks.pass ≡ []) × (task_of acks.pass ≡ task_at 1 0) }
+    requires opening { opening_of acks.snapshots.now ≡ opening job.now 0 case.every }
+    requires interval { IfSome case.every (λ n. 1 ≤ n) }
+{
+    let gate = gate_of(alloc, case.pieces)?;
+    let (stop, stop_pass, mut other) = open_stop(alloc)?;
+    if let Some(cause) = case.met {
+        tell_cause(rt, &stop, &mut other, cause);
+    }
+    let world = World {
+        partition: (),
+        acks,
+        stop: &stop,
+        stop_pass,
+    };
+    let (cause, takes) = task(rt, alloc, job, functions, gate, case.every, world);
+    let told = look_for_stop(rt, &stop, &mut other);
+    Ok((cause, takes, told))
+}
+
 fn run<R: Wait + Abort>(rt: &R, alloc: Global, case: Case<'_>) -> Result<Ran, Fail>
     requires { IfSome case.every (λ n. 1 ≤ n) }
 {
-    let job = counting_job(alloc)?;
     let mut functions = FnTable::new(alloc);
     let f: AggFn = Box::new(alloc, |record: &[u8], old: u64| count(record, old))?;
     functions.add_agg(AggKind::Count, f)?;
+    let job = counting_job(alloc)?;
     let Ends {
         channel,
         collecting,
         of_count,
     } = open_ends(alloc, &job, case.every)?;
-    let (stop, stop_pass, mut other) = open_stop(alloc)?;
-    if let Some(cause) = case.met {
-        tell_cause(rt, &stop, &mut other, cause);
-    }
     let (last_image, last_pass) = shared_last(rt, alloc, case.stored)?;
-    let gate = gate_of(alloc, case.pieces)?;
     let acks = Acks {
         snapshots: &channel,
         pass: of_count,
@@ -139,14 +166,7 @@ fn run<R: Wait + Abort>(rt: &R, alloc: Global, case: Case<'_>) -> Result<Ran, Fa
         last_pass,
         number: 0,
     };
-    let world = World {
-        partition: (),
-        acks,
-        stop: &stop,
-        stop_pass,
-    };
-    let (cause, takes) = task(rt, alloc, &job, &functions, gate, case.every, world);
-    let told = look_for_stop(rt, &stop, &mut other);
+    let (cause, takes, told) = count_by(rt, alloc, &job, &functions, acks, case)?;
     let snapshots = received(rt, alloc, &channel, collecting)?;
     Ok(Ran {
         cause,
@@ -185,42 +205,58 @@ static BARRIER: Cause = Cause::Peer {
     fault: PeerFault::Barrier,
 };
 
+// One channel gives a line more before the only barriers.
+static ONE_CHECKPOINT: [(u32, Piece); 5] = [
+    (0, Text("pear")),
+    (1, Text("pear")),
+    (0, Stop(1)),
+    (1, Text("apple")),
+    (1, Stop(1)),
+];
+
+static ITS_ROWS: [(&str, u64); 2] = [("apple", 1), ("pear", 2)];
+
+static ITS_TAKES: [TakeRun; 2] = [TakeRun { from: 0, count: 1 }, TakeRun { from: 1, count: 2 }];
+
 #[test]
 fn without_an_interval_the_first_checkpoint_is_the_last(rt: HostRuntime) -> Result<(), Fail> {
     let case = Case {
-        pieces: &[
-            (0, Text("pear")),
-            (1, Text("pear")),
-            (0, Stop(1)),
-            (1, Text("apple")),
-            (1, Stop(1)),
-        ],
+        pieces: &ONE_CHECKPOINT,
         every: None,
         stored: None,
         met: None,
     };
     let ran = run(&rt, rt.alloc(), case)?;
-    let takes = [TakeRun { from: 0, count: 1 }, TakeRun { from: 1, count: 2 }];
     assert_eq!(rt; ran.cause, Cause::Done);
     assert_eq!(rt; ran.told, None);
     assert_eq!(rt; ran.takes.as_slice().len(), 0);
     assert_eq!(rt; ran.snapshots.as_slice().len(), 1);
-    let rows = [("apple", 1), ("pear", 2)];
-    is_snapshot(&rt, &ran.snapshots.as_slice()[0], 1, &rows, &takes);
+    is_snapshot(&rt, &ran.snapshots.as_slice()[0], 1, &ITS_ROWS, &ITS_TAKES);
     Ok(())
 }
+
+static TWO_CHECKPOINTS: [(u32, Piece); 6] = [
+    (0, Text("pear")),
+    (0, Stop(1)),
+    (1, Stop(1)),
+    (1, Text("fig")),
+    (1, Stop(2)),
+    (0, Stop(2)),
+];
+
+static FIRST_ROWS: [(&str, u64); 1] = [("pear", 1)];
+
+static SECOND_ROWS: [(&str, u64); 2] = [("fig", 1), ("pear", 1)];
+
+// One record of one channel, and one of the other.
+static OF_FIRST: [TakeRun; 1] = [TakeRun { from: 0, count: 1 }];
+
+static OF_SECOND: [TakeRun; 1] = [TakeRun { from: 1, count: 1 }];
 
 #[test]
 fn with_an_interval_the_image_before_tells_the_last(rt: HostRuntime) -> Result<(), Fail> {
     let case = Case {
-        pieces: &[
-            (0, Text("pear")),
-            (0, Stop(1)),
-            (1, Stop(1)),
-            (1, Text("fig")),
-            (1, Stop(2)),
-            (0, Stop(2)),
-        ],
+        pieces: &TWO_CHECKPOINTS,
         every: Some(1),
         stored: Some(Stored {
             number: 1,
@@ -232,17 +268,17 @@ fn with_an_interval_the_image_before_tells_the_last(rt: HostRuntime) -> Result<(
     assert_eq!(rt; ran.cause, Cause::Done);
     let snapshots = ran.snapshots.as_slice();
     assert_eq!(rt; snapshots.len(), 2);
-    let first = [TakeRun { from: 0, count: 1 }];
-    let second = [TakeRun { from: 1, count: 1 }];
-    is_snapshot(&rt, &snapshots[0], 1, &[("pear", 1)], &first);
-    is_snapshot(&rt, &snapshots[1], 2, &[("fig", 1), ("pear", 1)], &second);
+    is_snapshot(&rt, &snapshots[0], 1, &FIRST_ROWS, &OF_FIRST);
+    is_snapshot(&rt, &snapshots[1], 2, &SECOND_ROWS, &OF_SECOND);
     Ok(())
 }
+
+static NO_CHECKPOINT: [(u32, Piece); 1] = [(0, Text("pear"))];
 
 #[test]
 fn channels_that_end_before_the_last_checkpoint_are_a_fault(rt: HostRuntime) -> Result<(), Fail> {
     let case = Case {
-        pieces: &[(0, Text("pear"))],
+        pieces: &NO_CHECKPOINT,
         every: None,
         stored: None,
         met: None,
@@ -251,17 +287,16 @@ fn channels_that_end_before_the_last_checkpoint_are_a_fault(rt: HostRuntime) -> 
     assert_eq!(rt; ran.cause, BARRIER);
     assert_eq!(rt; ran.told, Some(BARRIER));
     assert_eq!(rt; ran.snapshots.as_slice().len(), 0);
-    assert_eq!(rt;
-        ran.takes.as_slice(),
-        [TakeRun { from: 0, count: 1 }].as_slice()
-    );
+    assert_eq!(rt; ran.takes.as_slice(), OF_FIRST.as_slice());
     Ok(())
 }
+
+static LINE_BEHIND: [(u32, Piece); 3] = [(0, Stop(1)), (1, Stop(1)), (1, Text("late"))];
 
 #[test]
 fn a_line_behind_the_last_checkpoint_is_a_fault(rt: HostRuntime) -> Result<(), Fail> {
     let case = Case {
-        pieces: &[(0, Stop(1)), (1, Stop(1)), (1, Text("late"))],
+        pieces: &LINE_BEHIND,
         every: None,
         stored: None,
         met: None,
@@ -269,23 +304,22 @@ fn a_line_behind_the_last_checkpoint_is_a_fault(rt: HostRuntime) -> Result<(), F
     let ran = run(&rt, rt.alloc(), case)?;
     assert_eq!(rt; ran.cause, BARRIER);
     assert_eq!(rt; ran.snapshots.as_slice().len(), 1);
-    assert_eq!(rt;
-        ran.takes.as_slice(),
-        [TakeRun { from: 1, count: 1 }].as_slice()
-    );
+    assert_eq!(rt; ran.takes.as_slice(), OF_SECOND.as_slice());
     Ok(())
 }
+
+static NO_IMAGE: [(u32, Piece); 5] = [
+    (0, Stop(1)),
+    (1, Stop(1)),
+    (0, Text("fig")),
+    (0, Stop(2)),
+    (1, Stop(2)),
+];
 
 #[test]
 fn a_task_is_stopped_while_it_waits_for_an_image(rt: HostRuntime) -> Result<(), Fail> {
     let case = Case {
-        pieces: &[
-            (0, Stop(1)),
-            (1, Stop(1)),
-            (0, Text("fig")),
-            (0, Stop(2)),
-            (1, Stop(2)),
-        ],
+        pieces: &NO_IMAGE,
         every: Some(1),
         stored: None,
         met: Some(Cause::Memory),
@@ -294,9 +328,6 @@ fn a_task_is_stopped_while_it_waits_for_an_image(rt: HostRuntime) -> Result<(), 
     assert_eq!(rt; ran.cause, Cause::Stopped);
     assert_eq!(rt; ran.told, Some(Cause::Memory));
     assert_eq!(rt; ran.snapshots.as_slice().len(), 1);
-    assert_eq!(rt;
-        ran.takes.as_slice(),
-        [TakeRun { from: 0, count: 1 }].as_slice()
-    );
+    assert_eq!(rt; ran.takes.as_slice(), OF_FIRST.as_slice());
     Ok(())
 }

@@ -275,62 +275,118 @@ struct Bench<'a, 'p> {
 }
 
 // Sends on one of the two channels.
-fn send<'a, R: Wait + Abort>(
+fn send<'a, 'p, R: Wait + Abort>(
     rt: &R,
-    first: Sender<'a>,
-    second: Sender<'a>,
+    bench: Bench<'a, 'p>,
     channel: usize,
     what: ArrivalKind,
     bytes: &[u8],
-) -> (Sender<'a>, Sender<'a>) {
-    if channel == 0 {
-        return (first.send(rt, what, bytes), second);
-    }
-    (first, second.send(rt, what, bytes))
-}
-
-fn take_step<'a, 'p, R: Wait + Abort>(rt: &R, bench: Bench<'a, 'p>, step: &Step) -> Bench<'a, 'p> {
+) -> Bench<'a, 'p> {
     let Bench {
-        mut first,
-        mut second,
-        mut gate,
+        first,
+        second,
+        gate,
         stop,
-        mut other,
+        other,
     } = bench;
-    match step {
-        Step::Data(channel, bytes) => {
-            (first, second) = send(rt, first, second, *channel, ArrivalKind::Buffer, bytes);
-        }
-        Step::Barrier(channel, k, kind) => {
-            let what = ArrivalKind::Barrier { k: *k, kind: *kind };
-            (first, second) = send(rt, first, second, *channel, what, b"");
-        }
-        Step::End(channel) => {
-            (first, second) = send(rt, first, second, *channel, ArrivalKind::End, b"");
-        }
-        Step::Stops => tell_stop(rt, stop, &mut other, Cause::Link),
-        Step::Gives(want) => {
-            let got = gate.next(rt, false);
-            see(rt, got, want);
-        }
-        Step::Holding(want) => {
-            let got = gate.next(rt, true);
-            see(rt, got, want);
-        }
-        Step::Wants(channel, count) => {
-            if *channel == 0 {
-                first = first.wants(rt, *count);
-            } else {
-                second = second.wants(rt, *count);
-            }
-        }
-    }
+    let (first, second) = if channel == 0 {
+        (first.send(rt, what, bytes), second)
+    } else {
+        (first, second.send(rt, what, bytes))
+    };
     Bench {
         first,
         second,
         gate,
         stop,
         other,
+    }
+}
+
+// Sees that one of the two channels wants so many floating segments.
+fn want<'a, 'p, R: Wait + Abort>(
+    rt: &R,
+    bench: Bench<'a, 'p>,
+    channel: usize,
+    count: u32,
+) -> Bench<'a, 'p> {
+    let Bench {
+        first,
+        second,
+        gate,
+        stop,
+        other,
+    } = bench;
+    let (first, second) = if channel == 0 {
+        (first.wants(rt, count), second)
+    } else {
+        (first, second.wants(rt, count))
+    };
+    Bench {
+        first,
+        second,
+        gate,
+        stop,
+        other,
+    }
+}
+
+// Sees that the gate gives this next.
+fn give<'a, 'p, R: Wait + Abort>(
+    rt: &R,
+    bench: Bench<'a, 'p>,
+    hold: bool,
+    want: &Got,
+) -> Bench<'a, 'p> {
+    let Bench {
+        first,
+        second,
+        mut gate,
+        stop,
+        other,
+    } = bench;
+    let got = gate.next(rt, hold);
+    see(rt, got, want);
+    Bench {
+        first,
+        second,
+        gate,
+        stop,
+        other,
+    }
+}
+
+// Tells of a fault that is met elsewhere.
+fn fault<'a, 'p, R: Wait>(rt: &R, bench: Bench<'a, 'p>) -> Bench<'a, 'p> {
+    let Bench {
+        first,
+        second,
+        gate,
+        stop,
+        mut other,
+    } = bench;
+    tell_stop(rt, stop, &mut other, Cause::Link);
+    Bench {
+        first,
+        second,
+        gate,
+        stop,
+        other,
+    }
+}
+
+fn take_step<'a, 'p, R: Wait + Abort>(rt: &R, bench: Bench<'a, 'p>, step: &Step) -> Bench<'a, 'p> {
+    match step {
+        Step::Data(channel, bytes) => send(rt, bench, *channel, ArrivalKind::Buffer, bytes),
+        Step::Barrier(channel, k, kind) => {
+            let what = ArrivalKind::Barrier { k: *k, kind: *kind };
+            send(rt, bench, *channel, what, b"")
+        }
+        Step::End(channel) => send(rt, bench, *channel, ArrivalKind::End, b""),
+        Step::Stops => fault(rt, bench),
+        Step::Gives(got) => give(rt, bench, false, got),
+        Step::Holding(got) => give(rt, bench, true, got),
+        Step::Wants(channel, count) => want(rt, bench, *channel, *count),
     }
 }
 
@@ -404,8 +460,8 @@ fn take_steps<'a, 'p, R: Wait + Abort>(
     bench
 }
 
-// Sees a channel go on that was blocked, where it is asked to.
-fn go_on<'a, 'p, R: Wait + Abort>(rt: &R, bench: Bench<'a, 'p>, resumes: bool) -> Bench<'a, 'p> {
+// Sees a channel go on that was blocked.
+fn go_on<'a, 'p, R: Wait + Abort>(rt: &R, bench: Bench<'a, 'p>) -> Bench<'a, 'p> {
     let Bench {
         first,
         second,
@@ -413,9 +469,7 @@ fn go_on<'a, 'p, R: Wait + Abort>(rt: &R, bench: Bench<'a, 'p>, resumes: bool) -
         stop,
         other,
     } = bench;
-    if resumes {
-        resume(rt, &mut gate);
-    }
+    resume(rt, &mut gate);
     Bench {
         first,
         second,
@@ -425,7 +479,56 @@ fn go_on<'a, 'p, R: Wait + Abort>(rt: &R, bench: Bench<'a, 'p>, resumes: bool) -
     }
 }
 
-// Takes these steps with a new gate, and with `resumes` sees a channel that was blocked go on.
+// Takes these steps, and with `resumes` sees a channel that was blocked go on, and takes more.
+fn walk<R: Wait + Abort>(
+    rt: &R,
+    bench: Bench<'_, '_>,
+    steps: &[Step],
+    resumes: bool,
+    more: &[Step],
+) {
+    let mut bench = take_steps(rt, bench, steps);
+    if resumes {
+        bench = go_on(rt, bench);
+    }
+    let bench = take_steps(rt, bench, more);
+    let _passes = bench.gate.into_passes();
+}
+
+// Goes through these steps with a new gate over two channels, which takes floating segments from this pool.
+fn run_over<'p, R: Wait + Abort>(
+    rt: &R,
+    alloc: Global,
+    one: Inbox,
+    two: Inbox,
+    local: &TurnCell<HeldPool<'p>>,
+    lender: Pass<HeldPool<'p>>,
+    steps: &[Step],
+    resumes: bool,
+    more: &[Step],
+) -> Result<(), Fail>
+    requires one { IsFirstPass one.cell one.gate × IsPassOf one.cell one.reader × (number one.reader ≡ 1) }
+    requires two { IsFirstPass two.cell two.gate × IsPassOf two.cell two.reader × (number two.reader ≡ 1) }
+    requires pool { IsPassOf local.now lender }
+    requires size_of_one { (opened_with one.cell).size ≡ size_of (pool_of (opened_with local.now)) }
+    requires size_of_two { (opened_with two.cell).size ≡ size_of (pool_of (opened_with local.now)) }
+{
+    let (stop, own, other) = open_stop(alloc)?;
+    let passes = list_of_two(alloc, one.gate, two.gate)?;
+    let cells = [one.cell, two.cell];
+    let gate = gate_of(rt, alloc, &cells, passes, local, lender, &stop, own)?;
+    let bench = Bench {
+        first: Sender::new(&cells[0], one.reader),
+        second: Sender::new(&cells[1], two.reader),
+        gate,
+        stop: &stop,
+        other,
+    };
+    walk(rt, bench, steps, resumes, more);
+    Ok(())
+}
+
+// Goes through these steps with a new gate over two new channels.
 fn run<R: Wait + Abort>(
     rt: &R,
     alloc: Global,
@@ -437,22 +540,7 @@ fn run<R: Wait + Abort>(
     let one = open_inbox(rt, alloc, &pool, &mut first);
     let two = open_inbox(rt, alloc, &pool, &mut first);
     let (local, lender) = open_local(rt, alloc, &pool, second, 4)?;
-    let (stop, own, other) = open_stop(alloc)?;
-    let passes = list_of_two(alloc, one.gate, two.gate)?;
-    let cells = [one.cell, two.cell];
-    let gate = gate_of(rt, alloc, &cells, passes, &local, lender, &stop, own)?;
-    let bench = Bench {
-        first: Sender::new(&cells[0], one.reader),
-        second: Sender::new(&cells[1], two.reader),
-        gate,
-        stop: &stop,
-        other,
-    };
-    let bench = take_steps(rt, bench, steps);
-    let bench = go_on(rt, bench, resumes);
-    let bench = take_steps(rt, bench, more);
-    let _passes = bench.gate.into_passes();
-    Ok(())
+    run_over(rt, alloc, one, two, &local, lender, steps, resumes, more)
 }
 
 #[test]

@@ -1,11 +1,10 @@
 // Writers over cells and a small pool, with one thread.
-ghost use Rattle.std.specs.Prelude.{◌≡◌, ℕ, ◌≤◌, [], IfOk, OnOk};
-ghost use Rattle.turn_cell.specs.Passes.{IsPassOf, number};
-ghost use Rattle.flow_defs.specs.declared.job.Exchange.TheVariants.{Hash};
+ghost use Rattle.std.specs.Prelude.{◌≡◌, ℕ, ◌≤◌, IfOk, OnOk};
+ghost use Rattle.turn_cell.specs.Passes.{IsPassOf, number, opened_with};
+ghost use Rattle.flow_defs.specs.declared.job.Exchange.TheVariants.{Forward, Hash, Rebalance};
 ghost use Rattle.flow_defs.specs.Jobs.{IsJob, last_edge, tasks, exchange as exchange_on};
-ghost use Rattle.segment_pool.specs.Passes.{out};
-ghost use Rattle.segment_pool.specs.Pools as pools;
-ghost use Rattle.segment_pool.specs.Pools.{limits_of, size_of};
+ghost use Rattle.segment_pool.specs.Pools.{size_of};
+ghost use Rattle.local_pool.specs.Helds.{pool_of};
 ghost use Rattle.record_writer.specs.Partitions.{IsPartitionOf};
 ghost use Rattle.record_writer.specs.Writers.{IsOpen, IsSame, IsNextBarrier};
 
@@ -18,7 +17,6 @@ use flow_defs::{
 use local_pool::HeldPool;
 use outside::{StopState, tell_stop};
 use record_writer::{Partition, PartitionPasses, RecordWriter, WriterStopped};
-use segment_pool::{Pool, PoolPass};
 use std::alloc::{AllocError, Global};
 use std::process::Abort;
 use std::sync::Wait;
@@ -219,26 +217,45 @@ fn records_in(stretches: &[&[&[u8]]]) -> u64 {
     count
 }
 
-// A task of index 0 whose channels are two writes the records of these stretches, each buffer of 64 bytes,
-// over an edge of the job. They are then what stands in its two subpartitions. Answers how many segments are
-// lent.
-fn write_over_two<R: Wait + Abort>(
+// The records of each stretch, or the buffers of each.
+type Stretches = &'static [&'static [&'static [u8]]];
+
+// What a task writes over an edge, and whether it finishes then; and the buffers that stand in its two
+// subpartitions, and how many segments are lent.
+struct Written {
+    edge: u32,
+    records: Stretches,
+    finish: bool,
+    first: Stretches,
+    second: Stretches,
+    lent: u32,
+}
+
+// A task of index 0 whose channels are two writes this, each buffer of 64 bytes, by a pool of its own.
+fn write_over_two<R: Wait + Abort>(rt: &R, alloc: Global, case: &Written) -> Result<(), Fail> {
+    assert!(rt; case.edge <= 1);
+    let job = job_of(alloc, Exchange::Rebalance)?;
+    let (pool, _passes, place) = open_pool(alloc, 8)?;
+    let (pool_cell, lender) = open_local(rt, alloc, &pool, place, 6)?;
+    write_into_two(rt, alloc, &job, &pool_cell, lender, case)
+}
+
+// It writes this into two new subpartitions by the pool that it is lent.
+fn write_into_two<'a, 'p, R: Wait + Abort>(
     rt: &R,
     alloc: Global,
-    pool: &Pool,
-    place: PoolPass,
-    edge: u32,
-    stretches: &[&[&[u8]]],
-    finish: bool,
-    first: &[&[&[u8]]],
-    second: &[&[&[u8]]],
-) -> Result<u32, Fail>
-    requires place { pools.IsPassOf pool.now place × (out place ≡ 0) }
-    requires pool { (limits_of pool.now ≡ []) × (size_of pool.now ≡ 64) }
-    requires edge { edge ≤ 1 }
+    job: &'a Job,
+    pool: &'a TurnCell<HeldPool<'p>>,
+    lender: Pass<HeldPool<'p>>,
+    case: &Written,
+) -> Result<(), Fail>
+    requires job { IsJob job.now × (last_edge job.now ≡ 1) }
+    requires edges { (exchange_on job.now 0 ≡ Rebalance) × (exchange_on job.now 1 ≡ Hash) }
+    requires tasks { (tasks job.now 0 ≡ 2) × (tasks job.now 1 ≡ 2) × (tasks job.now 2 ≡ 2) }
+    requires pool { IsPassOf pool.now lender }
+    requires size { size_of (pool_of (opened_with pool.now)) ≡ 64 }
+    requires edge { case.now.edge ≤ 1 }
 {
-    let job = job_of(alloc, Exchange::Rebalance)?;
-    let (pool_cell, lender) = open_local(rt, alloc, pool, place, 6)?;
     let (one, one_task, one_sender) = open_subpartition(alloc)?;
     let (two, two_task, two_sender) = open_subpartition(alloc)?;
     let (stop, stop_pass, _other) = open_stop(alloc)?;
@@ -248,7 +265,7 @@ fn write_over_two<R: Wait + Abort>(
         subpartitions: &cells,
         first: 0,
         stride: 1,
-        pool: &pool_cell,
+        pool,
         size: 64,
         passes: PartitionPasses {
             subpartitions,
@@ -256,36 +273,52 @@ fn write_over_two<R: Wait + Abort>(
         },
     };
     let task = Task {
-        job: &job,
-        edge,
+        job,
+        edge: case.edge,
         index: 0,
         partition,
         stop: &stop,
         stop_pass,
     };
-    let (written, emitted, lender) = run(rt, alloc, task, stretches, finish);
+    let (written, emitted, lender) = run(rt, alloc, task, case.records, case.finish);
     assert!(rt; written.is_ok());
-    assert_eq!(rt; emitted, records_in(stretches));
-    takes(rt, &cells[0], one_sender, first, finish);
-    takes(rt, &cells[1], two_sender, second, finish);
-    Ok(lent(rt, &pool_cell, lender))
+    assert_eq!(rt; emitted, records_in(case.records));
+    takes(rt, &cells[0], one_sender, case.first, case.finish);
+    takes(rt, &cells[1], two_sender, case.second, case.finish);
+    assert_eq!(rt; lent(rt, pool, lender), case.lent);
+    Ok(())
 }
 
-// A task of index 1 whose channel is one writes this record over an edge to the task of the same index. It is
-// then what stands in the second subpartition. A pool of no segments lets it wait until it is stopped.
+// A task of index 1 whose channel is one writes a record over an edge to the task of the same index, by a pool of
+// so many segments. These are then the buffers that stand in the second subpartition. A pool of no segments lets
+// it wait until it is stopped.
 fn write_over_one<R: Wait + Abort>(
     rt: &R,
     alloc: Global,
-    pool: &Pool,
-    place: PoolPass,
     segments: u32,
-    stretches: &[&[&[u8]]],
-) -> Result<Result<(), WriterStopped>, Fail>
-    requires place { pools.IsPassOf pool.now place × (out place ≡ 0) }
-    requires pool { (limits_of pool.now ≡ []) × (size_of pool.now ≡ 64) }
-{
+    buffers: Stretches,
+) -> Result<Result<(), WriterStopped>, Fail> {
     let job = job_of(alloc, Exchange::Forward)?;
-    let (pool_cell, lender) = open_local(rt, alloc, pool, place, segments)?;
+    let (pool, _passes, place) = open_pool(alloc, 8)?;
+    let (pool_cell, lender) = open_local(rt, alloc, &pool, place, segments)?;
+    write_into_second(rt, alloc, &job, &pool_cell, lender, buffers)
+}
+
+// It writes the record into the second of two new subpartitions by the pool that it is lent.
+fn write_into_second<'a, 'p, R: Wait + Abort>(
+    rt: &R,
+    alloc: Global,
+    job: &'a Job,
+    pool: &'a TurnCell<HeldPool<'p>>,
+    lender: Pass<HeldPool<'p>>,
+    buffers: Stretches,
+) -> Result<Result<(), WriterStopped>, Fail>
+    requires job { IsJob job.now × (last_edge job.now ≡ 1) }
+    requires edges { (exchange_on job.now 0 ≡ Forward) × (exchange_on job.now 1 ≡ Hash) }
+    requires tasks { (tasks job.now 0 ≡ 2) × (tasks job.now 1 ≡ 2) × (tasks job.now 2 ≡ 2) }
+    requires pool { IsPassOf pool.now lender }
+    requires size { size_of (pool_of (opened_with pool.now)) ≡ 64 }
+{
     let (one, _one_task, _one_sender) = open_subpartition(alloc)?;
     let (two, two_task, two_sender) = open_subpartition(alloc)?;
     let (stop, stop_pass, mut other) = open_stop(alloc)?;
@@ -296,7 +329,7 @@ fn write_over_one<R: Wait + Abort>(
         subpartitions: &cells,
         first: 1,
         stride: 2,
-        pool: &pool_cell,
+        pool,
         size: 64,
         passes: PartitionPasses {
             subpartitions,
@@ -304,121 +337,106 @@ fn write_over_one<R: Wait + Abort>(
         },
     };
     let task = Task {
-        job: &job,
+        job,
         edge: 0,
         index: 1,
         partition,
         stop: &stop,
         stop_pass,
     };
-    let (written, _emitted, _lender) = run(rt, alloc, task, &[&[SHORT]], true);
-    takes(rt, &cells[1], two_sender, stretches, written.is_ok());
+    let (written, _emitted, _lender) = run(rt, alloc, task, ONE_RECORD, true);
+    takes(rt, &cells[1], two_sender, buffers, written.is_ok());
     Ok(written)
 }
 
-#[test]
-fn records_go_over_two_channels_in_turn(rt: HostRuntime) -> Result<(), Fail> {
-    let (pool, _passes, place) = open_pool(rt.alloc(), 8)?;
-    let first: [&[u8]; 4] = [
+const ONE_RECORD: Stretches = &[&[SHORT]];
+
+const IN_ONE_BUFFER: Stretches = &[&[b"\0\0\0\x06arrows"]];
+
+const IN_NO_BUFFER: Stretches = &[&[]];
+
+static IN_TURN: Written = Written {
+    edge: 0,
+    records: &[&[LONG, SHORT, LAST]],
+    finish: true,
+    first: &[&[
         b"\0\0\0\x64To be, or not to be, that is the question: whether 'tis nobl",
         b"er in the mind to suffer the slings and \0\0\0\x5aof outrageous fortun",
         b"e, or to take arms against a sea of troubles and by opposing end",
         b" them.",
-    ];
-    let second: [&[u8]; 1] = [b"\0\0\0\x06arrows"];
-    let lent = write_over_two(
-        &rt,
-        rt.alloc(),
-        &pool,
-        place,
-        0,
-        &[&[LONG, SHORT, LAST]],
-        true,
-        &[&first],
-        &[&second],
-    )?;
-    assert_eq!(rt; lent, 5);
-    Ok(())
+    ]],
+    second: &[&[b"\0\0\0\x06arrows"]],
+    lent: 5,
+};
+
+#[test]
+fn records_go_over_two_channels_in_turn(rt: HostRuntime) -> Result<(), Fail> {
+    write_over_two(&rt, rt.alloc(), &IN_TURN)
 }
+
+// FNV-1a of "cherry" and of "a" is even, that of "pear" odd.
+static BY_HASH: Written = Written {
+    edge: 1,
+    records: &[&[b"cherry", b"pear", b"a", b"pear"]],
+    finish: true,
+    first: &[&[b"\0\0\0\x06cherry\0\0\0\x01a"]],
+    second: &[&[b"\0\0\0\x04pear\0\0\0\x04pear"]],
+    lent: 2,
+};
 
 #[test]
 fn records_go_to_the_aggregate_by_the_hash_of_their_key(rt: HostRuntime) -> Result<(), Fail> {
-    let (pool, _passes, place) = open_pool(rt.alloc(), 8)?;
-    // FNV-1a of "cherry" and of "a" is even, that of "pear" odd.
-    let lent = write_over_two(
-        &rt,
-        rt.alloc(),
-        &pool,
-        place,
-        1,
-        &[&[b"cherry", b"pear", b"a", b"pear"]],
-        true,
-        &[&[b"\0\0\0\x06cherry\0\0\0\x01a"]],
-        &[&[b"\0\0\0\x04pear\0\0\0\x04pear"]],
-    )?;
-    assert_eq!(rt; lent, 2);
-    Ok(())
+    write_over_two(&rt, rt.alloc(), &BY_HASH)
 }
+
+static BEING_FILLED: Written = Written {
+    edge: 0,
+    records: &[&[LONG, SHORT]],
+    finish: false,
+    first: &[&[b"\0\0\0\x64To be, or not to be, that is the question: whether 'tis nobl"]],
+    second: &[&[]],
+    lent: 1,
+};
 
 #[test]
 fn segments_that_are_being_filled_go_back(rt: HostRuntime) -> Result<(), Fail> {
-    let (pool, _passes, place) = open_pool(rt.alloc(), 8)?;
-    let first: [&[u8]; 1] = [
-        b"\0\0\0\x64To be, or not to be, that is the question: whether 'tis nobl",
-    ];
-    let lent = write_over_two(
-        &rt,
-        rt.alloc(),
-        &pool,
-        place,
-        0,
-        &[&[LONG, SHORT]],
-        false,
-        &[&first],
-        &[&[]],
-    )?;
-    assert_eq!(rt; lent, 1);
-    Ok(())
+    write_over_two(&rt, rt.alloc(), &BEING_FILLED)
 }
+
+static OVER_BARRIERS: Written = Written {
+    edge: 0,
+    records: &[&[LONG, SHORT], &[LAST], &[]],
+    finish: true,
+    first: &[
+        &[
+            b"\0\0\0\x64To be, or not to be, that is the question: whether 'tis nobl",
+            b"er in the mind to suffer the slings and ",
+        ],
+        &[
+            b"\0\0\0\x5aof outrageous fortune, or to take arms against a sea of trou",
+            b"bles and by opposing end them.",
+        ],
+        &[],
+    ],
+    second: &[&[b"\0\0\0\x06arrows"], &[], &[]],
+    lent: 5,
+};
 
 #[test]
 fn a_barrier_goes_behind_what_was_emitted_before(rt: HostRuntime) -> Result<(), Fail> {
-    let (pool, _passes, place) = open_pool(rt.alloc(), 8)?;
-    let one: [&[u8]; 2] = [
-        b"\0\0\0\x64To be, or not to be, that is the question: whether 'tis nobl",
-        b"er in the mind to suffer the slings and ",
-    ];
-    let two: [&[u8]; 2] = [
-        b"\0\0\0\x5aof outrageous fortune, or to take arms against a sea of trou",
-        b"bles and by opposing end them.",
-    ];
-    let lent = write_over_two(
-        &rt,
-        rt.alloc(),
-        &pool,
-        place,
-        0,
-        &[&[LONG, SHORT], &[LAST], &[]],
-        true,
-        &[&one, &two, &[]],
-        &[&[b"\0\0\0\x06arrows"], &[], &[]],
-    )?;
-    assert_eq!(rt; lent, 5);
-    Ok(())
+    write_over_two(&rt, rt.alloc(), &OVER_BARRIERS)
 }
 
 #[test]
 fn forward_has_one_channel(rt: HostRuntime) -> Result<(), Fail> {
-    let (pool, _passes, place) = open_pool(rt.alloc(), 8)?;
-    let written = write_over_one(&rt, rt.alloc(), &pool, place, 2, &[&[b"\0\0\0\x06arrows"]])?;
+    let written = write_over_one(&rt, rt.alloc(), 2, IN_ONE_BUFFER)?;
     assert_eq!(rt; written, Ok(()));
     Ok(())
 }
 
 #[test]
 fn a_writer_that_waits_is_stopped(rt: HostRuntime) -> Result<(), Fail> {
-    let (pool, _passes, place) = open_pool(rt.alloc(), 8)?;
-    let written = write_over_one(&rt, rt.alloc(), &pool, place, 0, &[&[]])?;
+    let written = write_over_one(&rt, rt.alloc(), 0, IN_NO_BUFFER)?;
     assert_eq!(rt; written, Err(WriterStopped));
     Ok(())
 }

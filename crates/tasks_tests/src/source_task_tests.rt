@@ -1,24 +1,24 @@
 // A source of a job with one source and one task that counts, over a partition of one channel and a small
 // pool, with one thread.
 ghost use Rattle.std.specs.Prelude.{◌≡◌, ◌≤◌, [], length, IfOk, IfSome};
-ghost use Rattle.turn_cell.specs.Passes.{IsPassOf, number};
-ghost use Rattle.flow_defs.specs.Jobs.{IsJob};
+ghost use Rattle.turn_cell.specs.Passes.{IsPassOf, number, opened_with};
+ghost use Rattle.flow_defs.specs.declared.job.Exchange.TheVariants.{Hash};
+ghost use Rattle.flow_defs.specs.Jobs.{IsJob, exchange, tasks};
 ghost use Rattle.checkpoint_laws.specs.Chapters.{task_at};
-ghost use Rattle.segment_pool.specs.Passes.{out};
-ghost use Rattle.segment_pool.specs.Pools as pools;
-ghost use Rattle.segment_pool.specs.Pools.{limits_of, size_of};
-ghost use Rattle.snapshot_channel.specs.Passes.{IsCollecting, IsFresh, opening, opening_of, task_of};
+ghost use Rattle.segment_pool.specs.Pools.{size_of};
+ghost use Rattle.local_pool.specs.Helds.{pool_of};
+ghost use Rattle.snapshot_channel.specs.Passes.{IsCollecting, IsFresh, opening, opening_of, sent_by, task_of};
 ghost use Rattle.record_writer.specs.Partitions.{IsPartitionOf};
-ghost use Rattle.task_output.specs.Acking.{IsLent};
+ghost use Rattle.task_output.specs.Acking.{HasPasses, IsLent};
 
 use crate::lent::shared_last;
 use fixtures::{
     counting_job, list_of_one, open_local, open_pool, open_stop, open_subpartition, take_in_turn,
 };
 use flow_defs::{BarrierKind, Bytes, Cause, Job, ListOf, TaskId};
+use local_pool::HeldPool;
 use outside::{MemorySource, Stored};
 use record_writer::{Partition, PartitionPasses};
-use segment_pool::{Pool, PoolPass};
 use snapshot_channel::{CollectingPass, Opened, SnapshotChannel, TaskPass};
 use source_task::run_source;
 use std::alloc::Global;
@@ -143,13 +143,9 @@ fn source<'a, 'p, R: Wait>(
 fn source_sends<R: Wait + Abort>(
     rt: &R,
     alloc: Global,
-    pool: &Pool,
-    place: PoolPass,
     case: Case<'_>,
     lines: u64,
 ) -> Result<Cause, Fail>
-    requires place { pools.IsPassOf pool.now place × (out place ≡ 0) }
-    requires pool { (limits_of pool.now ≡ []) × (size_of pool.now ≡ 64) }
     requires interval { IfSome case.every (λ n. 1 ≤ n) }
 {
     let job = counting_job(alloc)?;
@@ -158,24 +154,7 @@ fn source_sends<R: Wait + Abort>(
         collecting,
         of_source,
     } = open_ends(alloc, &job, case.every)?;
-    let (pool_cell, lender) = open_local(rt, alloc, pool, place, 4)?;
-    let (cell, task, sender) = open_subpartition(alloc)?;
-    let (stop, stop_pass, _other) = open_stop(alloc)?;
     let (last_image, last_pass) = shared_last(rt, alloc, case.stored)?;
-    let subpartitions = list_of_one(alloc, task)?;
-    let cells = [cell];
-    let partition = Partition {
-        subpartitions: &cells,
-        first: 0,
-        stride: 1,
-        pool: &pool_cell,
-        size: 64,
-        passes: PartitionPasses {
-            subpartitions,
-            pool: lender,
-        },
-    };
-    let input = MemorySource::new(Bytes::of(alloc, case.input)?, 3, ListOf::new(alloc));
     let acks = Acks {
         snapshots: &channel,
         pass: of_source,
@@ -183,21 +162,74 @@ fn source_sends<R: Wait + Abort>(
         last_pass,
         number: 0,
     };
+    let cause = source_pooled(rt, alloc, &job, acks, case)?;
+    has_told(rt, &channel, collecting, case.barriers, lines);
+    Ok(cause)
+}
+
+// It fills segments of a pool of its own.
+fn source_pooled<'a, R: Wait + Abort>(
+    rt: &R,
+    alloc: Global,
+    job: &'a Job,
+    acks: Acks<'a>,
+    case: Case<'_>,
+) -> Result<Cause, Fail>
+    requires job { IsJob job.now × (exchange job.now 0 ≡ Hash) × (tasks job.now 0 ≡ 1) × (tasks job.now 1 ≡ 1) }
+    requires passes { HasPasses acks × (sent_by acks.pass ≡ []) × (task_of acks.pass ≡ task_at 0 0) }
+    requires opening { opening_of acks.snapshots.now ≡ opening job.now 0 case.every }
+    requires interval { IfSome case.every (λ n. 1 ≤ n) }
+{
+    let (pool, _passes, place) = open_pool(alloc, 4)?;
+    let (pool_cell, lender) = open_local(rt, alloc, &pool, place, 4)?;
+    source_over(rt, alloc, job, acks, &pool_cell, lender, case)
+}
+
+// It sends on a new subpartition, and what stands in it is seen.
+fn source_over<'a, 'p, R: Wait + Abort>(
+    rt: &R,
+    alloc: Global,
+    job: &'a Job,
+    acks: Acks<'a>,
+    pool: &'a TurnCell<HeldPool<'p>>,
+    lender: Pass<HeldPool<'p>>,
+    case: Case<'_>,
+) -> Result<Cause, Fail>
+    requires job { IsJob job.now × (exchange job.now 0 ≡ Hash) × (tasks job.now 0 ≡ 1) × (tasks job.now 1 ≡ 1) }
+    requires passes { HasPasses acks × (sent_by acks.pass ≡ []) × (task_of acks.pass ≡ task_at 0 0) }
+    requires opening { opening_of acks.snapshots.now ≡ opening job.now 0 case.every }
+    requires pool { IsPassOf pool.now lender × (size_of (pool_of (opened_with pool.now)) ≡ 64) }
+    requires interval { IfSome case.every (λ n. 1 ≤ n) }
+{
+    let (cell, task, sender) = open_subpartition(alloc)?;
+    let subpartitions = list_of_one(alloc, task)?;
+    let (stop, stop_pass, _other) = open_stop(alloc)?;
+    let input = MemorySource::new(Bytes::of(alloc, case.input)?, 3, ListOf::new(alloc));
+    let cells = [cell];
+    let partition = Partition {
+        subpartitions: &cells,
+        first: 0,
+        stride: 1,
+        pool,
+        size: 64,
+        passes: PartitionPasses {
+            subpartitions,
+            pool: lender,
+        },
+    };
     let world = World {
         partition,
         acks,
         stop: &stop,
         stop_pass,
     };
-    let cause = source(rt, alloc, &job, input, case.every, world);
+    let cause = source(rt, alloc, job, input, case.every, world);
     has_sent(rt, &cells[0], sender, case.buffer, case.barriers);
-    has_told(rt, &channel, collecting, case.barriers, lines);
     Ok(cause)
 }
 
 #[test]
 fn a_source_without_an_interval_sends_one_snapshot(rt: HostRuntime) -> Result<(), Fail> {
-    let (pool, _passes, place) = open_pool(rt.alloc(), 4)?;
     let case = Case {
         input: b"a\nb\na\n",
         every: None,
@@ -205,14 +237,13 @@ fn a_source_without_an_interval_sends_one_snapshot(rt: HostRuntime) -> Result<()
         buffer: b"\0\0\0\x01a\0\0\0\x01b\0\0\0\x01a",
         barriers: 1,
     };
-    let cause = source_sends(&rt, rt.alloc(), &pool, place, case, 3)?;
+    let cause = source_sends(&rt, rt.alloc(), case, 3)?;
     assert_eq!(rt; cause, Cause::Done);
     Ok(())
 }
 
 #[test]
 fn a_source_with_an_interval_waits_for_each_image(rt: HostRuntime) -> Result<(), Fail> {
-    let (pool, _passes, place) = open_pool(rt.alloc(), 4)?;
     let case = Case {
         input: b"a\n",
         every: Some(2),
@@ -223,7 +254,7 @@ fn a_source_with_an_interval_waits_for_each_image(rt: HostRuntime) -> Result<(),
         buffer: b"\0\0\0\x01a",
         barriers: 2,
     };
-    let cause = source_sends(&rt, rt.alloc(), &pool, place, case, 1)?;
+    let cause = source_sends(&rt, rt.alloc(), case, 1)?;
     assert_eq!(rt; cause, Cause::Done);
     Ok(())
 }

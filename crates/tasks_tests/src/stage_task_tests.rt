@@ -1,6 +1,6 @@
 // The task of a stage behind two sources, over a partition of one channel and a small pool, with one thread.
 ghost use Rattle.std.specs.Prelude.{◌≡◌, ◌≤◌, [], IfOk, IfSome};
-ghost use Rattle.turn_cell.specs.Passes.{IsPassOf, number};
+ghost use Rattle.turn_cell.specs.Passes.{IsPassOf, number, opened_with};
 ghost use Rattle.flow_defs.specs.declared.job.AggKind.TheVariants.{Count};
 ghost use Rattle.flow_defs.specs.declared.job.Exchange.TheVariants.{Hash};
 ghost use Rattle.flow_defs.specs.declared.job.StageKind.TheVariants.{Upper};
@@ -9,12 +9,11 @@ ghost use Rattle.stage_fns.specs.Functions.{Functions, HasStage, HasAgg};
 ghost use Rattle.stage_fns.specs.Kinds.{kinds};
 ghost use Rattle.job_plan.specs.Plans.{CanRun};
 ghost use Rattle.checkpoint_laws.specs.Chapters.{task_at};
-ghost use Rattle.segment_pool.specs.Passes.{out};
-ghost use Rattle.segment_pool.specs.Pools as pools;
-ghost use Rattle.segment_pool.specs.Pools.{limits_of, size_of};
-ghost use Rattle.snapshot_channel.specs.Passes.{IsCollecting, IsFresh, opening, opening_of, task_of};
+ghost use Rattle.segment_pool.specs.Pools.{size_of};
+ghost use Rattle.local_pool.specs.Helds.{pool_of};
+ghost use Rattle.snapshot_channel.specs.Passes.{IsCollecting, IsFresh, opening, opening_of, sent_by, task_of};
 ghost use Rattle.record_writer.specs.Partitions.{IsPartitionOf};
-ghost use Rattle.task_output.specs.Acking.{IsLent};
+ghost use Rattle.task_output.specs.Acking.{HasPasses, IsLent};
 ghost use Rattle.task_taking.specs.Samples.{account_of};
 ghost use Rattle.stage_task.specs.Stages.{IsStageTask};
 
@@ -25,9 +24,9 @@ use flow_defs::{
     AggKind, BarrierKind, Bytes, Cause, Exchange, Job, ListOf, PeerFault, Stage, StageKind,
     TakeRun, TaskId,
 };
+use local_pool::HeldPool;
 use outside::{Stored, tell_stop};
 use record_writer::{Partition, PartitionPasses};
-use segment_pool::{Pool, PoolPass};
 use snapshot_channel::{CollectingPass, Opened, SnapshotChannel, TaskPass};
 use stage_fns::{AggFn, FnTable, StageFn, count, upper};
 use stage_task::run_stage;
@@ -190,19 +189,14 @@ fn stage<'a, 'p, R: Wait>(
     (cause, takes.as_slice().len())
 }
 
-// Runs the stage's task, sees what it has sent, and answers likewise.
+// Runs the stage's task with a table of its two functions, sees what it has sent, and answers likewise.
 fn stage_sends<R: Wait + Abort>(
     rt: &R,
     alloc: Global,
-    pool: &Pool,
-    place: PoolPass,
     case: Case<'_>,
 ) -> Result<(Cause, usize), Fail>
-    requires place { pools.IsPassOf pool.now place × (out place ≡ 0) }
-    requires pool { (limits_of pool.now ≡ []) × (size_of pool.now ≡ 64) }
     requires interval { IfSome case.every (λ n. 1 ≤ n) }
 {
-    let job = raising_job(alloc)?;
     let mut functions = FnTable::new(alloc);
     let f: StageFn = Box::new(
         alloc,
@@ -213,32 +207,26 @@ fn stage_sends<R: Wait + Abort>(
     functions.add_stage(StageKind::Upper, f)?;
     let f: AggFn = Box::new(alloc, |record: &[u8], old: u64| count(record, old))?;
     functions.add_agg(AggKind::Count, f)?;
+    stage_by(rt, alloc, &functions, case)
+}
+
+// It runs by these functions, and tells its snapshots on a channel of its own.
+fn stage_by<R: Wait + Abort>(
+    rt: &R,
+    alloc: Global,
+    functions: &FnTable,
+    case: Case<'_>,
+) -> Result<(Cause, usize), Fail>
+    requires functions { HasStage (kinds functions.now) Upper × HasAgg (kinds functions.now) Count }
+    requires interval { IfSome case.every (λ n. 1 ≤ n) }
+{
+    let job = raising_job(alloc)?;
     let Ends {
         channel,
         collecting,
         of_stage,
     } = open_ends(alloc, &job, case.every)?;
-    let gate = gate_of(alloc, case.pieces)?;
-    let (pool_cell, lender) = open_local(rt, alloc, pool, place, 4)?;
-    let (cell, task, sender) = open_subpartition(alloc)?;
-    let (stop, stop_pass, mut other) = open_stop(alloc)?;
-    if case.stopped {
-        tell_stop(rt, &stop, &mut other, Cause::Memory);
-    }
     let (last_image, last_pass) = shared_last(rt, alloc, case.stored)?;
-    let subpartitions = list_of_one(alloc, task)?;
-    let cells = [cell];
-    let partition = Partition {
-        subpartitions: &cells,
-        first: 0,
-        stride: 1,
-        pool: &pool_cell,
-        size: 64,
-        passes: PartitionPasses {
-            subpartitions,
-            pool: lender,
-        },
-    };
     let acks = Acks {
         snapshots: &channel,
         pass: of_stage,
@@ -246,15 +234,80 @@ fn stage_sends<R: Wait + Abort>(
         last_pass,
         number: 0,
     };
+    let end = stage_pooled(rt, alloc, &job, functions, acks, case)?;
+    has_told(rt, &channel, collecting, case.barriers);
+    Ok(end)
+}
+
+// It fills segments of a pool of its own.
+fn stage_pooled<'a, R: Wait + Abort>(
+    rt: &R,
+    alloc: Global,
+    job: &'a Job,
+    functions: &FnTable,
+    acks: Acks<'a>,
+    case: Case<'_>,
+) -> Result<(Cause, usize), Fail>
+    requires job { IsJob job.now × (last_edge job.now ≡ 1) }
+    requires edges { (exchange job.now 0 ≡ Hash) × (exchange job.now 1 ≡ Hash) }
+    requires tasks { (tasks job.now 0 ≡ 2) × (tasks job.now 1 ≡ 1) × (tasks job.now 2 ≡ 1) }
+    requires functions { CanRun (kinds functions.now) job.now }
+    requires passes { HasPasses acks × (sent_by acks.pass ≡ []) × (task_of acks.pass ≡ task_at 1 0) }
+    requires opening { opening_of acks.snapshots.now ≡ opening job.now 0 case.every }
+    requires interval { IfSome case.every (λ n. 1 ≤ n) }
+{
+    let (pool, _passes, place) = open_pool(alloc, 4)?;
+    let (pool_cell, lender) = open_local(rt, alloc, &pool, place, 4)?;
+    stage_over(rt, alloc, job, functions, acks, &pool_cell, lender, case)
+}
+
+// It sends on a new subpartition, and what stands in it is seen.
+fn stage_over<'a, 'p, R: Wait + Abort>(
+    rt: &R,
+    alloc: Global,
+    job: &'a Job,
+    functions: &FnTable,
+    acks: Acks<'a>,
+    pool: &'a TurnCell<HeldPool<'p>>,
+    lender: Pass<HeldPool<'p>>,
+    case: Case<'_>,
+) -> Result<(Cause, usize), Fail>
+    requires job { IsJob job.now × (last_edge job.now ≡ 1) }
+    requires edges { (exchange job.now 0 ≡ Hash) × (exchange job.now 1 ≡ Hash) }
+    requires tasks { (tasks job.now 0 ≡ 2) × (tasks job.now 1 ≡ 1) × (tasks job.now 2 ≡ 1) }
+    requires functions { CanRun (kinds functions.now) job.now }
+    requires passes { HasPasses acks × (sent_by acks.pass ≡ []) × (task_of acks.pass ≡ task_at 1 0) }
+    requires opening { opening_of acks.snapshots.now ≡ opening job.now 0 case.every }
+    requires pool { IsPassOf pool.now lender × (size_of (pool_of (opened_with pool.now)) ≡ 64) }
+    requires interval { IfSome case.every (λ n. 1 ≤ n) }
+{
+    let gate = gate_of(alloc, case.pieces)?;
+    let (cell, task, sender) = open_subpartition(alloc)?;
+    let subpartitions = list_of_one(alloc, task)?;
+    let (stop, stop_pass, mut other) = open_stop(alloc)?;
+    if case.stopped {
+        tell_stop(rt, &stop, &mut other, Cause::Memory);
+    }
+    let cells = [cell];
+    let partition = Partition {
+        subpartitions: &cells,
+        first: 0,
+        stride: 1,
+        pool,
+        size: 64,
+        passes: PartitionPasses {
+            subpartitions,
+            pool: lender,
+        },
+    };
     let world = World {
         partition,
         acks,
         stop: &stop,
         stop_pass,
     };
-    let end = stage(rt, alloc, &job, &functions, gate, case.every, world);
+    let end = stage(rt, alloc, job, functions, gate, case.every, world);
     has_sent(rt, &cells[0], sender, case);
-    has_told(rt, &channel, collecting, case.barriers);
     Ok(end)
 }
 
@@ -291,7 +344,6 @@ const BUFFER: &[u8] = b"\0\0\0\x04PEAR\0\0\0\x03FIG";
 
 #[test]
 fn a_stage_without_an_interval_sends_one_snapshot(rt: HostRuntime) -> Result<(), Fail> {
-    let (pool, _passes, place) = open_pool(rt.alloc(), 4)?;
     let case = Case {
         pieces: &RECORDS,
         every: None,
@@ -301,14 +353,13 @@ fn a_stage_without_an_interval_sends_one_snapshot(rt: HostRuntime) -> Result<(),
         barriers: 1,
         ended: true,
     };
-    let end = stage_sends(&rt, rt.alloc(), &pool, place, case)?;
+    let end = stage_sends(&rt, rt.alloc(), case)?;
     assert_eq!(rt; end, (Cause::Done, 0));
     Ok(())
 }
 
 #[test]
 fn the_checkpoint_behind_an_image_with_all_ended_is_the_last(rt: HostRuntime) -> Result<(), Fail> {
-    let (pool, _passes, place) = open_pool(rt.alloc(), 4)?;
     let case = Case {
         pieces: &TWO_BARRIERS,
         every: Some(1),
@@ -321,14 +372,13 @@ fn the_checkpoint_behind_an_image_with_all_ended_is_the_last(rt: HostRuntime) ->
         barriers: 2,
         ended: true,
     };
-    let end = stage_sends(&rt, rt.alloc(), &pool, place, case)?;
+    let end = stage_sends(&rt, rt.alloc(), case)?;
     assert_eq!(rt; end, (Cause::Done, 0));
     Ok(())
 }
 
 #[test]
 fn ends_before_the_last_checkpoint_are_a_fault(rt: HostRuntime) -> Result<(), Fail> {
-    let (pool, _passes, place) = open_pool(rt.alloc(), 4)?;
     let case = Case {
         pieces: &[],
         every: None,
@@ -338,14 +388,13 @@ fn ends_before_the_last_checkpoint_are_a_fault(rt: HostRuntime) -> Result<(), Fa
         barriers: 0,
         ended: false,
     };
-    let end = stage_sends(&rt, rt.alloc(), &pool, place, case)?;
+    let end = stage_sends(&rt, rt.alloc(), case)?;
     assert_eq!(rt; end, (WRONG_BARRIER, 0));
     Ok(())
 }
 
 #[test]
 fn a_line_behind_the_last_checkpoint_is_a_fault(rt: HostRuntime) -> Result<(), Fail> {
-    let (pool, _passes, place) = open_pool(rt.alloc(), 4)?;
     let case = Case {
         pieces: &LINE_BEHIND,
         every: None,
@@ -355,14 +404,13 @@ fn a_line_behind_the_last_checkpoint_is_a_fault(rt: HostRuntime) -> Result<(), F
         barriers: 1,
         ended: false,
     };
-    let end = stage_sends(&rt, rt.alloc(), &pool, place, case)?;
+    let end = stage_sends(&rt, rt.alloc(), case)?;
     assert_eq!(rt; end, (WRONG_BARRIER, 1));
     Ok(())
 }
 
 #[test]
 fn a_task_that_was_done_is_stopped_by_a_fault_before(rt: HostRuntime) -> Result<(), Fail> {
-    let (pool, _passes, place) = open_pool(rt.alloc(), 4)?;
     let case = Case {
         pieces: &RECORDS,
         every: None,
@@ -372,7 +420,7 @@ fn a_task_that_was_done_is_stopped_by_a_fault_before(rt: HostRuntime) -> Result<
         barriers: 1,
         ended: true,
     };
-    let end = stage_sends(&rt, rt.alloc(), &pool, place, case)?;
+    let end = stage_sends(&rt, rt.alloc(), case)?;
     assert_eq!(rt; end, (Cause::Stopped, 0));
     Ok(())
 }

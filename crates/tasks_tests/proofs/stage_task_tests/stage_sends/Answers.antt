@@ -1,50 +1,11 @@
-use Rattle.std.proofs.Common.{[], ◌∷◌, length, List, refl, sym, ap, subst, ◌∙◌, arith}
-use Rattle.flow_defs.specs.declared.image.Snapshot.{Snapshot}
+use Rattle.std.proofs.Common.{refl, sym, ap, subst, ◌∙◌}
 use Rattle.flow_defs.specs.declared.job.AggKind.TheVariants.{Count}
 use Rattle.flow_defs.specs.declared.job.StageKind.TheVariants.{Upper}
 use Rattle.stage_fns.specs.Functions.{Functions, HasStage, HasAgg, with_stage, with_agg}
-use Rattle.snapshot_channel.specs.declared.views.Opening.{Opening}
-use Rattle.conn_parts.specs.Shares.{AreNew}
-use Rattle.record_writer.specs.Writers.{AreOwnAt, HaveSizeAt}
-use Rattle.tasks_tests.proofs.OneChannel.{one_own, one_new, one_size, one_way}
 use Rattle.tasks_tests.proofs.stage_task_tests.stage_sends.Goals as goal
 
-pub stage-end-requires-clause-partition : goal.stage-end-requires-clause-partition
-stage-end-requires-clause-partition g c =
-    let job = c.in_ok-job.job in let made = c.in_ok-job.ensures in let pool = c.in_ok-pool_cell in
-    let one = c.in_ok-cell in let is = sym c.in_ok-subpartitions.ensures in
-    let cells = one.cell ∷ [] in
-    let way = sym (one_way job 1 made.edges.1 made.tasks.2) in record {
-      is_job = made.job.0;
-      edge = omega (arith, made.job.1);
-      index = omega (arith, made.tasks.1);
-      passes = record {
-        own =
-            subst (λ n. AreOwnAt cells 0 1 n c.in_ok-subpartitions.subpartitions.items) way
-            (subst (AreOwnAt cells 0 1 1) is (one_own one.cell one.task one.ensures.task.0 one.ensures.task.1));
-        pool = pool.ensures.pass;
-      };
-      new = subst AreNew is (one_new one.cell one.task one.ensures.task.2);
-      sizes = subst (λ n. HaveSizeAt cells 0 1 n 64) way (one_size one.cell one.task one.ensures.size);
-      pool_size = pool.ensures.size ∙ c.requires.pool.1;
-      few = omega arith;
-    }
-
-pub stage-end-requires-clause-lent : goal.stage-end-requires-clause-lent
-stage-end-requires-clause-lent g c =
-    let ends = c.in_ok-channel.ensures in
-    let base = ap (λ (o : Opening). o.base) ends.opening in
-    let none = ap (λ (l : List Snapshot). length l) ends.stage.0.1 in record {
-      interval = c.requires.interval;
-      passes = record { snapshots = ends.stage.0.0; last_image = c.in_ok-last_image.ensures; number_is = omega (arith, base, none) };
-      fresh = ends.stage.0.1;
-      task = ends.stage.1;
-      opening = ends.opening;
-      stop = c.in_ok-stop.ensures.first;
-    }
-
-pub stage-end-requires-clause-functions : goal.stage-end-requires-clause-functions
-stage-end-requires-clause-functions g c =
+pub stage_by-requires-clause-functions : goal.stage_by-requires-clause-functions
+stage_by-requires-clause-functions g c =
     let raises = c.in_ok-add_stage.ensures.ok ∙ ap (λ (k : Functions). with_stage k Upper) c.new-functions.ensures in
     let both = c.in_ok-add_agg.ensures.ok ∙ ap (λ (k : Functions). with_agg k Count) raises in
-    c.in_ok-job.ensures.ready _ (subst (λ (k : Functions). HasStage k Upper) (sym both) refl) (subst (λ (k : Functions). HasAgg k Count) (sym both) refl)
+    (subst (λ (k : Functions). HasStage k Upper) (sym both) refl, subst (λ (k : Functions). HasAgg k Count) (sym both) refl)

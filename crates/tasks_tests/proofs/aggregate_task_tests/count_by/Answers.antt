@@ -1,7 +1,7 @@
 use Rattle.std.proofs.Common.{sym, subst}
 use Rattle.turn_cell.specs.Passes.{IsPassOf}
-use Rattle.tasks_tests.proofs.aggregate_task_tests.run.Goals as goal
-use Rattle.tasks_tests.proofs.aggregate_task_tests.run.Goals.{in-Some, in_default}
+use Rattle.tasks_tests.proofs.aggregate_task_tests.count_by.Goals as goal
+use Rattle.tasks_tests.proofs.aggregate_task_tests.count_by.Goals.{in-Some, in_default}
 
 pub look_for_stop-told-requires : goal.look_for_stop-told-requires
 look_for_stop-told-requires g c = elim c.match-case.branch [

@@ -1,0 +1,5 @@
+pub mod Receiving
+pub mod Cutting
+pub mod Reading
+pub mod Closing
+pub mod Examples

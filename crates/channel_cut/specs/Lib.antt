@@ -1,0 +1,4 @@
+pub mod Parcels
+pub mod Cuts
+pub mod Lanes
+pub mod Ends

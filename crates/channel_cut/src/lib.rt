@@ -1,0 +1,7 @@
+//! How barriers cut a channel: what was put before a barrier is what the gate at its other end gave before the
+//! snapshot. So far barriers travel in line.
+//!
+//! It stands on the crates of both ends of a channel. It has no bodies, only definitions and laws.
+#![tactic(auto)]
+
+pub mod laws;

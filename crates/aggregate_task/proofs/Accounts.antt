@@ -1,9 +1,7 @@
 -- What an aggregate task did, told by chapters.
-use Rattle.std.proofs.Common.{◌≡◌, ℕ, zero, suc, List, [], ◌∷◌, map, Option, refl, sym, ap, ◌∙◌, arith}
+use Rattle.std.proofs.Common.{◌≡◌, ℕ, suc, List, [], ◌∷◌, map, Option, refl, sym, ap, ◌∙◌, arith}
 use Rattle.std.specs.Prelude.{slice_get, unwrap_or}
-use Rattle.std.specs.List.{AllByRecursion}
 use Rattle.std.specs.FinMap.{empty}
-use Rattle.std.proofs.lemmas.List.Elements.{recursion_from_All}
 use Rattle.flow_defs.specs.declared.image.Snapshot.{Snapshot}
 use Rattle.flow_defs.specs.declared.job.Job.{Job}
 use Rattle.flow_defs.specs.Jobs.{last_edge}
@@ -11,6 +9,7 @@ use Rattle.flow_defs.specs.Tables.{Values, add_all}
 use Rattle.plain_machine.specs.Histories.{records}
 use Rattle.checkpoint_laws.specs.Chapters.{Linked, Chapter, opening, Step}
 use Rattle.checkpoint_laws.proofs.Told.{ends}
+use Rattle.job_start.specs.Starts.{from_of}
 use Rattle.aggregate_task.specs.Snapshots.{AreSnapshots, table_with}
 use Rattle.aggregate_task.specs.Accounts.{AggregateHasAccount}
 
@@ -18,11 +17,6 @@ chapters_of : List (List (ℕ × List ℕ)) → List Snapshot → List Chapter
 chapters_of [] xs = []
 chapters_of (group ∷ groups) [] = []
 chapters_of (group ∷ groups) (x ∷ xs) = record { took = group; put = λ b. []; snapshot = x } ∷ chapters_of groups xs
-
-first_table : (tables : List Values) (b : ℕ) → AllByRecursion (λ (table : Values). table ≡ empty) tables → unwrap_or (slice_get tables b) empty ≡ empty
-first_table [] b all = refl
-first_table (t ∷ tables) zero all = all.0
-first_table (t ∷ tables) (suc b) all = first_table tables b all.1
 
 module _ (job : Job) (b : ℕ) where
   sent_are : (k : ℕ) (table : Values) (groups : List (List (ℕ × List ℕ))) (xs : List Snapshot) → AreSnapshots job b k table groups xs → map (λ (c : Chapter). c.snapshot) (chapters_of groups xs) ≡ xs
@@ -59,13 +53,14 @@ module _ (job : Job) (b : ℕ) where
       )
 
 pub aggregate_has_account : AggregateHasAccount
-aggregate_has_account job all base b every gate sent history takes cause parcels more start inside was = (
-  chapters_of was.groups sent,
-  record {
-    steps = steps_of job b all every 0 empty was.groups sent (opening job base (suc (last_edge job)) b) was.snapshots start.number
-        (first_table base.tables.items b (recursion_from_All (λ (table : Values). table ≡ empty) base.tables.items start.tables));
-    snapshots = sent_are job b 0 empty was.groups sent was.snapshots;
-    puts = λ c channel. absurd (let edge = (ends job (suc (last_edge job)) b c channel).edge in omega (arith, edge));
-  },
-  took_are job b 0 empty was.groups sent was.snapshots,
-)
+aggregate_has_account job all base b start every gate sent history takes cause parcels more is inside was =
+    let from = from_of job start (suc (last_edge job)) b in (
+      chapters_of was.groups sent,
+      record {
+        steps = steps_of job b all every from.number from.table was.groups sent (opening job base (suc (last_edge job)) b) was.snapshots (sym is.at.number)
+            (ap (λ (tables : List Values). unwrap_or (slice_get tables b) empty) (sym is.at.tables));
+        snapshots = sent_are job b from.number from.table was.groups sent was.snapshots;
+        puts = λ c channel. absurd (let edge = (ends job (suc (last_edge job)) b c channel).edge in omega (arith, edge));
+      },
+      took_are job b from.number from.table was.groups sent was.snapshots,
+    )

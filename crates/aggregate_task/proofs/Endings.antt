@@ -1,5 +1,5 @@
 -- How an aggregate task begins and ends.
-use Rattle.std.proofs.Common.{◌≡◌, ◌≢◌, ◌⊎◌, ℕ, false, List, [], ◌∷◌, ◌++◌, length, Option, refl, sym, ap, subst, ◌∙◌, inl, inr, arith}
+use Rattle.std.proofs.Common.{◌≡◌, ◌≢◌, ◌⊎◌, ℕ, false, List, [], ◌∷◌, ◌++◌, Option, refl, sym, ap, subst, ◌∙◌, inl, inr}
 use Rattle.turn_cell.specs.History.{StartsWith}
 use Rattle.turn_cell.specs.Passes.{IsSamePass, seen}
 use Rattle.flow_defs.specs.declared.cause.Cause.{Cause}
@@ -7,35 +7,46 @@ use Rattle.flow_defs.specs.declared.cause.Cause.TheVariants as causes
 use Rattle.flow_defs.specs.declared.image.Snapshot.{Snapshot}
 use Rattle.flow_defs.specs.declared.image.TakeRun.{TakeRun}
 use Rattle.flow_defs.specs.declared.job.Job.{Job}
+use Rattle.flow_defs.specs.Jobs.{last_edge}
+use Rattle.job_start.specs.declared.start.Start.{Start}
 use Rattle.outside.specs.declared.last_image.Stored.{Stored}
 use Rattle.outside.specs.Stops.{told_of}
 use Rattle.conn_parts.specs.Stopping.{StopCell, StopPass}
+use Rattle.record_writer.specs.Writers.{ways_into}
 use Rattle.input_gate.specs.Gates.{Account, IsNew}
-use Rattle.snapshot_channel.specs.declared.views.Opening.{Opening}
 use Rattle.snapshot_channel.specs.Passes.{sent_by}
+use Rattle.task_output.specs.Acking.{base_of}
 use Rattle.task_output.specs.Ending.{EndsAs, ToldAtEnd}
+use Rattle.task_taking.specs.Takings.{Taking, HasTaken, IsInStep}
 use Rattle.task_taking.specs.Endings.{IsTakerEnd, ToldStop}
 use Rattle.aggregate_task.specs.declared.checkpoint.AggregateOutput.{AggregateOutput}
 use Rattle.aggregate_task.specs.declared.checkpoint.Ending.{Ending}
-use Rattle.aggregate_task.specs.Acknowledging.{IsAcking, IsSame}
+use Rattle.aggregate_task.specs.Acknowledging.{IsSame, start_at}
 use Rattle.aggregate_task.specs.Aggregates.{AggregateAccount, HasAccount}
 use Rattle.aggregate_task.proofs.Acknowledging.{moved_back}
 
+-- before it takes anything it takes behind the last edge
+pub begins_behind : (job : Job) (b : ℕ) (gate : Account) (taking : Taking) (edge : ℕ) → ((x : Account) → IsNew x → x.channels ≡ ways_into job edge → HasTaken job edge b x taking [] [] × IsInStep x taking) → edge ≡ last_edge job
+    → IsNew gate → gate.channels ≡ ways_into job (last_edge job) → HasTaken job (last_edge job) b gate taking [] [] × IsInStep gate taking
+begins_behind job b gate taking edge none is new channels =
+    let begun = none gate new (channels ∙ ap (ways_into job) (sym is)) in
+    (subst (λ e. HasTaken job e b gate taking [] []) is begun.0, begun.1)
+
 -- it found no memory at its start
-pub account_unsent : (job : Job) (b : ℕ) (every : Option ℕ) (gate : Account) (sent : List Snapshot) (history : List (ℕ × Stored)) (takes : List TakeRun) → IsNew gate → sent ≡ [] → takes ≡ [] → AggregateAccount job b every gate sent history takes causes.Memory
-account_unsent job b every gate sent history takes new unsent none = record {
+pub account_unsent : (job : Job) (b : ℕ) (start : Start) (every : Option ℕ) (gate : Account) (sent : List Snapshot) (history : List (ℕ × Stored)) (end : Ending) → IsNew gate → sent ≡ [] → (end.cause ≡ causes.Memory) × (end.takes.items ≡ []) → AggregateAccount job b start every gate sent history end.takes.items end.cause
+account_unsent job b start every gate sent history end new unsent none = record {
   groups = [];
   rest = [];
   given = λ c within. (false, new.told c);
   snapshots = rw unsent tt;
-  takes_are = rw none (record { senders_are = refl; are_runs = tt; short = tt });
+  takes_are = rw none.1 (record { senders_are = refl; are_runs = tt; short = tt });
   waited = rw unsent tt;
-  cause_is = tt;
+  cause_is = subst (IsTakerEnd (base_of start) every history gate [] []) (sym none.0) tt;
 }
 
 -- what was done may end as stopped
-pub account_ended : (job : Job) (b : ℕ) (every : Option ℕ) (gate : Account) (sent : List Snapshot) (history : List (ℕ × Stored)) (takes : List TakeRun) (cause told : Cause) → EndsAs cause told → AggregateAccount job b every gate sent history takes cause → AggregateAccount job b every gate sent history takes told
-account_ended job b every gate sent history takes cause told ends was = record {
+pub account_ended : (job : Job) (b : ℕ) (start : Start) (every : Option ℕ) (gate : Account) (sent : List Snapshot) (history : List (ℕ × Stored)) (takes : List TakeRun) (cause told : Cause) → EndsAs cause told → AggregateAccount job b start every gate sent history takes cause → AggregateAccount job b start every gate sent history takes told
+account_ended job b start every gate sent history takes cause told ends was = record {
   groups = was.groups;
   rest = was.rest;
   given = was.given;
@@ -43,24 +54,20 @@ account_ended job b every gate sent history takes cause told ends was = record {
   takes_are = was.takes_are;
   waited = was.waited;
   cause_is = elim ends [
-    | inl same ↦ subst (IsTakerEnd every history gate was.groups was.rest) (sym same) was.cause_is
-    | inr stopped ↦ subst (IsTakerEnd every history gate was.groups was.rest) (sym stopped.1) tt
+    | inl same ↦ subst (IsTakerEnd (base_of start) every history gate was.groups was.rest) (sym same) was.cause_is
+    | inr stopped ↦ subst (IsTakerEnd (base_of start) every history gate was.groups was.rest) (sym stopped.1) tt
   ];
 }
 
 -- the account of what the task hands back is the same
 pub account_of_same : (out out' : AggregateOutput) (gate gate' : Account) (sent : List Snapshot) (history : List (ℕ × Stored)) (takes : List TakeRun) (end : Ending) → IsSame out out' → gate' ≡ gate → sent ≡ sent_by out'.acks.pass → history ≡ seen out'.acks.last_pass → takes ≡ end.takes.items
-    → HasAccount gate out' end → AggregateAccount out.job.now out.index out.every gate' sent history takes end.cause
+    → HasAccount gate out' end → AggregateAccount out.job.now out.index (start_at out) out.every gate' sent history takes end.cause
 account_of_same out out' gate gate' sent history takes end same gate_is sent_is history_is takes_are was =
-    moved_back out out' same (λ j b e. AggregateAccount j b e gate' sent history takes end.cause)
-    (subst (λ (x : Account). AggregateAccount out'.job.now out'.index out'.every x sent history takes end.cause) (sym gate_is)
-    (subst (λ (l : List Snapshot). AggregateAccount out'.job.now out'.index out'.every gate l history takes end.cause) (sym sent_is)
-    (subst (λ (l : List (ℕ × Stored)). AggregateAccount out'.job.now out'.index out'.every gate (sent_by out'.acks.pass) l takes end.cause) (sym history_is)
-    (subst (λ (l : List TakeRun). AggregateAccount out'.job.now out'.index out'.every gate (sent_by out'.acks.pass) (seen out'.acks.last_pass) l end.cause) (sym takes_are) was))))
-
--- it has sent as many snapshots as it knows
-pub counts_sent : (out : AggregateOutput) → IsAcking out → out.acks.number ≡ length (sent_by out.acks.pass)
-counts_sent out own = own.passes.number_is ∙ omega (arith, ap (λ (o : Opening). o.base) own.opened)
+    moved_back out out' same (λ j b s e. AggregateAccount j b s e gate' sent history takes end.cause)
+    (subst (λ (x : Account). AggregateAccount out'.job.now out'.index (start_at out') out'.every x sent history takes end.cause) (sym gate_is)
+    (subst (λ (l : List Snapshot). AggregateAccount out'.job.now out'.index (start_at out') out'.every gate l history takes end.cause) (sym sent_is)
+    (subst (λ (l : List (ℕ × Stored)). AggregateAccount out'.job.now out'.index (start_at out') out'.every gate (sent_by out'.acks.pass) l takes end.cause) (sym history_is)
+    (subst (λ (l : List TakeRun). AggregateAccount out'.job.now out'.index (start_at out') out'.every gate (sent_by out'.acks.pass) (seen out'.acks.last_pass) l end.cause) (sym takes_are) was))))
 
 seen_later : {X : Type 0} (xs ys : List X) → StartsWith xs ys → ys ≢ [] → xs ≢ []
 seen_later xs [] more some = absurd (some refl)

@@ -1,9 +1,10 @@
 -- An aggregate task takes and counts.
-use Rattle.std.proofs.Common.{◌≡◌, ◌≢◌, ◌⊎◌, ℕ, suc, ◌<◌, Bool, Result, true, false, List, [], ◌∷◌, ◌++◌, length, refl, sym, ap, subst, ◌∙◌, inl, inr, append_assoc, Ok, Err}
-use Rattle.std.specs.Prelude.{All}
+use Rattle.std.proofs.Common.{◌≡◌, ◌≢◌, ◌⊎◌, ℕ, zero, suc, ◌<◌, Bool, Result, true, false, List, [], ◌∷◌, ◌++◌, length, refl, sym, ap, subst, ◌∙◌, inl, inr, append_assoc, Ok, Err}
+use Rattle.std.specs.Prelude.{All, slice_get, unwrap_or}
+use Rattle.std.specs.List.{AllByRecursion}
 use Rattle.std.specs.FinMap.{empty}
 use Rattle.plain_machine.proofs.KeySums.{entries-empty}
-use Rattle.std.proofs.lemmas.List.Elements.{All-nil}
+use Rattle.std.proofs.lemmas.List.Elements.{All-nil, recursion_from_All}
 use Rattle.turn_cell.specs.Passes.{seen}
 use Rattle.flow_defs.specs.Items.{Items}
 use Rattle.flow_defs.specs.declared.cause.Cause.{Cause}
@@ -11,11 +12,11 @@ use Rattle.flow_defs.specs.declared.cause.Cause.TheVariants as causes
 use Rattle.flow_defs.specs.declared.cause.PeerFault.TheVariants as peers
 use Rattle.flow_defs.specs.Jobs.{last_edge}
 use Rattle.flow_defs.specs.Records.{IsShort}
-use Rattle.flow_defs.specs.Tables.{Values, add, table_of}
-use Rattle.plain_machine.specs.Histories.{records}
+use Rattle.flow_defs.specs.Tables.{Values, add}
 use Rattle.plain_machine.specs.Images.{HasShortKeys}
 use Rattle.input_gate.specs.Gates.{Account}
 use Rattle.snapshot_channel.specs.Passes.{sent_by}
+use Rattle.task_output.specs.Acking.{base_of}
 use Rattle.task_output.specs.Waiting.{LastIs, HasWaited}
 use Rattle.task_taking.specs.declared.taking.Taken.{Taken}
 use Rattle.task_taking.specs.declared.taking.Taken.TheVariants as taken
@@ -24,8 +25,8 @@ use Rattle.task_taking.specs.Steps.{TookNext, TakingGoesOn, IsTakerCause}
 use Rattle.task_taking.specs.Endings.{TakenIsGiven, BarrierIsGiven, IsTakerEnd}
 use Rattle.task_taking.proofs.InStep.{all_stopped}
 use Rattle.aggregate_task.specs.declared.checkpoint.AggregateOutput.{AggregateOutput}
-use Rattle.aggregate_task.specs.Snapshots.{all_taken}
-use Rattle.aggregate_task.specs.Acknowledging.{IsCountUnderWay, IsAtCheckpoint}
+use Rattle.aggregate_task.specs.Snapshots.{all_taken, table_with}
+use Rattle.aggregate_task.specs.Acknowledging.{IsAcking, IsCountUnderWay, IsAtCheckpoint, start_at, from_at}
 use Rattle.aggregate_task.specs.declared.checkpoint.Ending.{Ending}
 use Rattle.aggregate_task.specs.Aggregates.{HasAccount}
 use Rattle.checkpoint_laws.proofs.Keys.{added_keys}
@@ -38,14 +39,25 @@ some_behind : {X : Type 0} (xs : List X) (x : X) → xs ++ x ∷ [] ≢ []
 some_behind [] x = λ e. cc
 some_behind (y ∷ xs) x = λ e. cc
 
+-- the keys of each table of a start are short
+short_at : (tables : List Values) (b : ℕ) → AllByRecursion HasShortKeys tables → HasShortKeys (unwrap_or (slice_get tables b) empty)
+short_at [] b all = no_keys
+short_at (t ∷ tables) zero all = all.0
+short_at (t ∷ tables) (suc b) all = short_at tables b all.1
+
 -- it begins
-pub begins : (gate : Account) (taking : Taking) (out : AggregateOutput) (counts : Values) → counts ≡ empty → sent_by out.acks.pass ≡ [] → HasTaken out.job.now (last_edge out.job.now) out.index gate taking [] [] → IsInStep gate taking → IsCountUnderWay gate taking counts out false
-begins gate taking out counts none unsent taken in_step = record {
+pub begins : (gate : Account) (taking : Taking) (out : AggregateOutput) (counts : Values) → IsAcking out → counts ≡ (from_at out).table → sent_by out.acks.pass ≡ [] → HasTaken out.job.now (last_edge out.job.now) out.index gate taking [] [] → IsInStep gate taking → IsCountUnderWay gate taking counts out false
+begins gate taking out counts own from unsent taken in_step = record {
   groups = [];
   took = [];
   taken = taken;
   in_step = in_step;
-  counted = record { counted = none; keys = subst HasShortKeys (sym none) no_keys; snapshots = rw unsent tt; waited = tt };
+  counted = record {
+    counted = from;
+    keys = subst HasShortKeys (sym from) (short_at (start_at out).tables.items out.index (recursion_from_All HasShortKeys (start_at out).tables.items own.start.keys));
+    snapshots = rw unsent tt;
+    waited = tt;
+  };
   last_is = refl;
   none_behind = λ is. absurd (cc);
 }
@@ -58,9 +70,14 @@ pub record Gave (gate gate' : Account) (taking taking' : Taking) (counts : Value
 
 -- ---- it ends
 
+-- it has seen the image before the last snapshot that it sent
+waited_so : (gate : Account) (taking : Taking) (counts : Values) (out : AggregateOutput) (last : Bool) (way : IsCountUnderWay gate taking counts out last) → HasWaited (base_of (start_at out)) (length (sent_by out.acks.pass)) (seen out.acks.last_pass)
+waited_so gate taking counts out last way =
+    subst (λ n. HasWaited (base_of (start_at out)) n (seen out.acks.last_pass)) (sym (as_many out.job.now out.index (from_at out).number (from_at out).table way.groups (sent_by out.acks.pass) way.counted.snapshots)) way.counted.waited
+
 module _ {gate : Account} (gate' : Account) {taking : Taking} (taking' : Taking) {counts : Values} {out : AggregateOutput} {last : Bool} (way : IsCountUnderWay gate taking counts out last) where
   ended : TakenIsGiven → (took : List (ℕ × List ℕ)) (end : Ending) → end.takes.items ≡ taking'.runs
-      → HasTaken out.job.now (last_edge out.job.now) out.index gate' taking' way.groups took → IsTakerEnd out.every (seen out.acks.last_pass) gate' way.groups took end.cause
+      → HasTaken out.job.now (last_edge out.job.now) out.index gate' taking' way.groups took → IsTakerEnd (base_of (start_at out)) out.every (seen out.acks.last_pass) gate' way.groups took end.cause
       → HasAccount gate' out end
   ended law took end are has cause_is = record {
     groups = way.groups;
@@ -68,11 +85,11 @@ module _ {gate : Account} (gate' : Account) {taking : Taking} (taking' : Taking)
     given = law out.job.now (last_edge out.job.now) out.index gate' taking' way.groups took has;
     snapshots = way.counted.snapshots;
     takes_are = rw are has.takes;
-    waited = subst (λ n. HasWaited n (seen out.acks.last_pass)) (sym (as_many out.job.now out.index 0 empty way.groups (sent_by out.acks.pass) way.counted.snapshots)) way.counted.waited;
+    waited = waited_so gate taking counts out last way;
     cause_is = cause_is;
   }
 
-  taker_end : (cause : Cause) → IsTakerCause gate' cause → cause ≢ causes.Done → IsTakerEnd out.every (seen out.acks.last_pass) gate' way.groups way.took cause
+  taker_end : (cause : Cause) → IsTakerCause gate' cause → cause ≢ causes.Done → IsTakerEnd (base_of (start_at out)) out.every (seen out.acks.last_pass) gate' way.groups way.took cause
   taker_end causes.Done is other = absurd (other refl)
   taker_end causes.Stopped is other = tt
   taker_end (causes.Peer peers.Left) is other = is
@@ -88,9 +105,9 @@ module _ {gate gate' : Account} {taking taking' : Taking} {counts : Values} {out
       let way = gave.way in
       let took = way.took ++ (gave.took.1.0, line.items) ∷ [] in
       ended gate' taking' way law took end are gave.took.1.1 (elim why [
-        | inl memory ↦ subst (IsTakerEnd out.every (seen out.acks.last_pass) gate' way.groups took) (sym memory) tt
-        | inr behind ↦ subst (IsTakerEnd out.every (seen out.acks.last_pass) gate' way.groups took) (sym behind.1)
-            (inr (inr (subst (LastIs out.every (seen out.acks.last_pass) (length way.groups)) behind.0 way.last_is, inl (some_behind way.took (gave.took.1.0, line.items)))))
+        | inl memory ↦ subst (IsTakerEnd (base_of (start_at out)) out.every (seen out.acks.last_pass) gate' way.groups took) (sym memory) tt
+        | inr behind ↦ subst (IsTakerEnd (base_of (start_at out)) out.every (seen out.acks.last_pass) gate' way.groups took) (sym behind.1)
+            (inr (inr (subst (LastIs (base_of (start_at out)) out.every (seen out.acks.last_pass) (length way.groups)) behind.0 way.last_is, inl (some_behind way.took (gave.took.1.0, line.items)))))
       ])
 
   -- its channels ended
@@ -99,17 +116,17 @@ module _ {gate gate' : Account} {taking taking' : Taking} {counts : Values} {out
   all_ended law gave end are why =
       let way = gave.way in
       ended gate' taking' way law way.took end are gave.took.0 (elim why [
-        | inl done ↦ subst (IsTakerEnd out.every (seen out.acks.last_pass) gate' way.groups way.took) (sym done.1)
-            (gave.took.1, way.none_behind done.0, subst (LastIs out.every (seen out.acks.last_pass) (length way.groups)) done.0 way.last_is)
-        | inr early ↦ subst (IsTakerEnd out.every (seen out.acks.last_pass) gate' way.groups way.took) (sym early.1)
-            (inr (inl (subst (LastIs out.every (seen out.acks.last_pass) (length way.groups)) early.0 way.last_is, gave.took.1)))
+        | inl done ↦ subst (IsTakerEnd (base_of (start_at out)) out.every (seen out.acks.last_pass) gate' way.groups way.took) (sym done.1)
+            (gave.took.1, way.none_behind done.0, subst (LastIs (base_of (start_at out)) out.every (seen out.acks.last_pass) (length way.groups)) done.0 way.last_is)
+        | inr early ↦ subst (IsTakerEnd (base_of (start_at out)) out.every (seen out.acks.last_pass) gate' way.groups way.took) (sym early.1)
+            (inr (inl (subst (LastIs (base_of (start_at out)) out.every (seen out.acks.last_pass) (length way.groups)) early.0 way.last_is, gave.took.1)))
       ])
 
   -- the gate gave nothing more
   pub gate_ended : {cause : Cause} → TakenIsGiven → Gave gate gate' taking taking' counts out last (Err cause) → (end : Ending) → end.takes.items ≡ taking'.runs → end.cause ≡ cause → HasAccount gate' out end
   gate_ended {cause} law gave end are same =
       let way = gave.way in
-      ended gate' taking' way law way.took end are gave.took.0 (subst (IsTakerEnd out.every (seen out.acks.last_pass) gate' way.groups way.took) (sym same) (taker_end gate' taking' way cause gave.took.1 gave.took.2))
+      ended gate' taking' way law way.took end are gave.took.0 (subst (IsTakerEnd (base_of (start_at out)) out.every (seen out.acks.last_pass) gate' way.groups way.took) (sym same) (taker_end gate' taking' way cause gave.took.1 gave.took.2))
 
   -- it came to the barriers of a checkpoint behind the last one
   pub barrier_ended : {k : ℕ} → BarrierIsGiven → Gave gate gate' taking taking' counts out last (Ok (taken.Checkpoint k)) → (end : Ending) → end.takes.items ≡ taking'.runs
@@ -124,9 +141,9 @@ module _ {gate gate' : Account} {taking taking' : Taking} {counts : Values} {out
         given = law out.job.now (last_edge out.job.now) out.index gate' taking' way.groups way.took at;
         snapshots = way.counted.snapshots;
         takes_are = rw are at.takes;
-        waited = subst (λ n. HasWaited n (seen out.acks.last_pass)) (sym (as_many out.job.now out.index 0 empty way.groups (sent_by out.acks.pass) way.counted.snapshots)) way.counted.waited;
-        cause_is = subst (IsTakerEnd out.every (seen out.acks.last_pass) gate' way.groups way.took) (sym cause_is) (inr (inr (
-          subst (LastIs out.every (seen out.acks.last_pass) (length way.groups)) is way.last_is,
+        waited = waited_so gate taking counts out last way;
+        cause_is = subst (IsTakerEnd (base_of (start_at out)) out.every (seen out.acks.last_pass) gate' way.groups way.took) (sym cause_is) (inr (inr (
+          subst (LastIs (base_of (start_at out)) out.every (seen out.acks.last_pass) (length way.groups)) is way.last_is,
           inr (λ c within.
               all_stopped gate' taking' blocked c (subst (λ n. c < n) blocked.counted.channels within)
               ∙ ap suc (at.resumed c (subst (λ n. c < n) at.takes_for.channels within))),
@@ -145,8 +162,8 @@ module _ {gate gate' : Account} {taking taking' : Taking} {counts : Values} {out
         taken = gave.took.1.1;
         in_step = gave.goes_on.0;
         counted = record {
-          counted = counted ∙ ap (λ t. add out.job.now.agg t line.items) way.counted.counted ∙ sym (with_more out.job.now empty (all_taken way.groups ++ way.took) ((gave.took.1.0, line.items) ∷ []))
-              ∙ ap (λ l. table_of out.job.now.agg (records l)) (append_assoc (all_taken way.groups) way.took ((gave.took.1.0, line.items) ∷ []));
+          counted = counted ∙ ap (λ t. add out.job.now.agg t line.items) way.counted.counted ∙ sym (with_more out.job.now (from_at out).table (all_taken way.groups ++ way.took) ((gave.took.1.0, line.items) ∷ []))
+              ∙ ap (table_with out.job.now (from_at out).table) (append_assoc (all_taken way.groups) way.took ((gave.took.1.0, line.items) ∷ []));
           keys = subst HasShortKeys (sym counted) (added_keys out.job.now.agg counts line.items way.counted.keys gave.took.0);
           snapshots = way.counted.snapshots;
           waited = way.counted.waited;
@@ -155,13 +172,12 @@ module _ {gate gate' : Account} {taking taking' : Taking} {counts : Values} {out
         none_behind = λ is. absurd (cc);
       }
 
-  pub comes_to : {k : ℕ} → Gave gate gate' taking taking' counts out last (Ok (taken.Checkpoint k)) → last ≡ false → IsAtCheckpoint gate' taking' counts out k
+  pub comes_to : {k : ℕ} → Gave gate gate' taking taking' counts out last (Ok (taken.Checkpoint k)) → last ≡ false → IsAtCheckpoint gate' taking' counts out
   comes_to gave going = record {
     groups = gave.way.groups;
     took = gave.way.took;
     at_barrier = gave.took.0;
     blocked = gave.goes_on.0;
     counted = gave.way.counted;
-    number = gave.took.1;
-    not_last = subst (LastIs out.every (seen out.acks.last_pass) (length gave.way.groups)) going gave.way.last_is;
+    not_last = subst (LastIs (base_of (start_at out)) out.every (seen out.acks.last_pass) (length gave.way.groups)) going gave.way.last_is;
   }

@@ -1,8 +1,7 @@
 // A checkpoint of an aggregate task.
-ghost use Rattle.std.specs.Prelude.{◌≡◌, suc, length, IfErr, MatchResult};
+ghost use Rattle.std.specs.Prelude.{◌≡◌, IfErr, MatchResult};
 ghost use Rattle.flow_defs.specs.Jobs.{IsJob, last_edge};
 ghost use Rattle.plain_machine.specs.Images.{AreRuns, HasShortKeys};
-ghost use Rattle.snapshot_channel.specs.Passes.{sent_by};
 ghost use Rattle.aggregate_task.specs.Acknowledging.{Acknowledged, BreaksFor, IsAcking, IsAtCheckpoint, IsSame, IsCountUnderWay};
 ghost use Rattle.aggregate_task.specs.Aggregates.{HasAccount};
 ghost use Rattle.aggregate_task.specs.Snapshots.{IsSnapshotWith};
@@ -37,7 +36,7 @@ pub struct Ending {
     pub takes: ListOf<TakeRun>,
 }
 
-/// Takes checkpoint k, to whose barriers the task has come: resumes the channels, and acknowledges it.
+/// Takes the checkpoint to whose barriers the task has come: resumes the channels, and acknowledges it.
 /// Answers whether it is the last of the job.
 pub fn take_checkpoint<G: Gate, R: Wait>(
     rt: &R,
@@ -46,9 +45,8 @@ pub fn take_checkpoint<G: Gate, R: Wait>(
     taking: &mut TaskTaking,
     counts: &Counts,
     out: &mut AggregateOutput<'_>,
-    k: u64,
 ) -> Result<bool, Ending>
-    requires at { IsAtCheckpoint (G.account gate.old) taking.old counts.now out.old k }
+    requires at { IsAtCheckpoint (G.account gate.old) taking.old counts.now out.old }
     requires own { IsAcking out.old }
     ensures gate { (G.ends gate.new ≡ G.ends gate.old) × ((G.account gate.new).channels ≡ (G.account gate.old).channels) }
     ensures own { IsAcking out.new × IsSame out.old out.new }
@@ -58,29 +56,33 @@ pub fn take_checkpoint<G: Gate, R: Wait>(
     what_was_taken_was_given();
     what_was_seen_stays();
     let takes = taking.resume_all(rt, gate);
-    match acknowledge(rt, alloc, out, counts, takes, k) {
+    match acknowledge(rt, alloc, out, counts, takes) {
         Ok(last) => Ok(last),
         Err(end) => Err(end),
     }
 }
 
-// Sends the snapshot for checkpoint k, with these takes and a copy of the counts. Answers whether it is the
-// last of the job.
+// Sends the snapshot for the next checkpoint, with these takes and a copy of the counts. Answers whether it
+// is the last of the job.
 fn acknowledge<R: Wait>(
     rt: &R,
     alloc: Global,
     out: &mut AggregateOutput<'_>,
     counts: &Counts,
     takes: ListOf<TakeRun>,
-    k: u64,
 ) -> Result<bool, Ending>
     requires own { IsAcking out.old }
-    requires next { k ≡ suc (length (sent_by out.old.acks.pass)) }
     requires keys { HasShortKeys counts.now }
     requires runs { AreRuns out.old.job.now (last_edge out.old.job.now) out.old.index takes.items }
     ensures own { IsAcking out.new × IsSame out.old out.new }
-    ensures sent { Acknowledged out.old k counts.now takes.items out.new result }
+    ensures sent { Acknowledged out.old counts.now takes.items out.new result }
 {
+    let Some(k) = out.acks.next_number() else {
+        return Err(Ending {
+            cause: Cause::Memory,
+            takes,
+        });
+    };
     let last = match out.acks.learn_last(rt, &mut out.stop, out.every, k) {
         Ok(last) => last,
         Err(TaskStopped) => {

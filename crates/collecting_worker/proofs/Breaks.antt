@@ -8,6 +8,7 @@ use Rattle.flow_defs.specs.declared.job.Job.{Job}
 use Rattle.flow_defs.specs.declared.image.Image.{Image}
 use Rattle.flow_defs.specs.declared.image.Snapshot.{Snapshot}
 use Rattle.turn_cell.specs.Passes.{mine}
+use Rattle.job_start.specs.declared.start.Start.{Start}
 use Rattle.collector.specs.declared.collector.Checkpoint.{Checkpoint}
 use Rattle.snapshot_channel.specs.Passes.{received_by}
 use Rattle.outside.specs.Faults.{HasRisen}
@@ -76,16 +77,16 @@ stored_by old mid new cp image bytes before after (Ok all_ended) ready gathering
 
 -- ---- the account
 
-pub cause_of : (job : Job) (every : Option ℕ) (received : List Snapshot) (images : List Image) (cp : Checkpoint) (fell mid rose : ℕ) (met : List (ℕ × StopEntry)) (cause : Cause) → ((image : Image) → IsComplete job received cp image → IsNext job every received images image)
-    → fell ≤ mid → BreaksFor job received cp mid rose met cause → IsCollectCause job every received images fell rose met cause
-cause_of job every received images cp fell mid rose met causes.Done next low h = tt
-cause_of job every received images cp fell mid rose met causes.Stopped next low h = tt
-cause_of job every received images cp fell mid rose met (causes.Input source) next low h = h
-cause_of job every received images cp fell mid rose met causes.Keeper next low h = (⊎_elim (λ (more : mid < rose). inl (omega (arith, low, more))) (λ (full : 18446744073709551615 ≤ rose). inr full) h.0, h.1)
-cause_of job every received images cp fell mid rose met causes.Link next low h = h
-cause_of job every received images cp fell mid rose met (causes.LongLine source) next low h = h
-cause_of job every received images cp fell mid rose met (causes.BigSource source) next low h = h
-cause_of job every received images cp fell mid rose met causes.BigImage next low h = (h.0, next h.0 h.1, h.2)
-cause_of job every received images cp fell mid rose met (causes.OverCredit channel number announced) next low h = h
-cause_of job every received images cp fell mid rose met (causes.Peer fault) next low h = (h.0, next h.0 h.1, h.2)
-cause_of job every received images cp fell mid rose met causes.Memory next low h = tt
+pub cause_of : (job : Job) (start : Start) (every : Option ℕ) (received : List Snapshot) (images : List Image) (cp : Checkpoint) (fell mid rose : ℕ) (met : List (ℕ × StopEntry)) (cause : Cause) → ((image : Image) → IsComplete job received cp image → IsNext job start every received images image)
+    → fell ≤ mid → BreaksFor job received cp mid rose met cause → IsCollectCause job start every received images fell rose met cause
+cause_of job start every received images cp fell mid rose met causes.Done next low h = tt
+cause_of job start every received images cp fell mid rose met causes.Stopped next low h = tt
+cause_of job start every received images cp fell mid rose met (causes.Input source) next low h = h
+cause_of job start every received images cp fell mid rose met causes.Keeper next low h = (⊎_elim (λ (more : mid < rose). inl (omega (arith, low, more))) (λ (full : 18446744073709551615 ≤ rose). inr full) h.0, h.1)
+cause_of job start every received images cp fell mid rose met causes.Link next low h = h
+cause_of job start every received images cp fell mid rose met (causes.LongLine source) next low h = h
+cause_of job start every received images cp fell mid rose met (causes.BigSource source) next low h = h
+cause_of job start every received images cp fell mid rose met causes.BigImage next low h = (h.0, next h.0 h.1, h.2)
+cause_of job start every received images cp fell mid rose met (causes.OverCredit channel number announced) next low h = h
+cause_of job start every received images cp fell mid rose met (causes.Peer fault) next low h = (h.0, next h.0 h.1, h.2)
+cause_of job start every received images cp fell mid rose met causes.Memory next low h = tt

@@ -1,5 +1,5 @@
 -- What an image that is complete comes to.
-use Rattle.std.proofs.Common.{◌≡◌, ℕ, zero, suc, ◌+◌, ◌<◌, ◌≤◌, Bool, true, false, cond, List, [], ◌∷◌, length, Option, Some, None, refl, sym, ap, ◌∙◌, subst, arith}
+use Rattle.std.proofs.Common.{◌≡◌, inr, ℕ, zero, suc, ◌+◌, ◌<◌, ◌≤◌, Bool, true, false, cond, List, [], ◌∷◌, length, Option, Some, None, refl, sym, ap, ◌∙◌, subst, arith}
 use Rattle.std.specs.Prelude.{slice_get, slice_index_or, unwrap_or}
 use Rattle.std.specs.FinMap.{empty}
 use Rattle.std.proofs.lemmas.List.Sums.{AllPass-from_list_all, list_all-from_AllPass}
@@ -12,6 +12,7 @@ use Rattle.plain_machine.specs.Images.{AllEnded, Fits}
 use Rattle.job_text.specs.JobText.{IsJobText}
 use Rattle.job_text.specs.KnownKinds.{every_kind}
 use Rattle.channel_state.specs.Contents.{FitsItsText}
+use Rattle.job_start.specs.declared.start.Start.{Start}
 use Rattle.checkpoint_laws.specs.Collecting as laws
 use Rattle.checkpoint_laws.specs.Collecting.{Collected, IsLast, IsMadeOf}
 use Rattle.collector.specs.declared.collector.Checkpoint.{Checkpoint}
@@ -83,22 +84,22 @@ all_ended image e = AllPass-from_list_all (λ (ended : Bool). ended) image.ended
 pub ended_all : (image : Image) → AllEnded image → has_all_ended image ≡ true
 ended_all image h = list_all-from_AllPass (λ (ended : Bool). ended) image.ended.items h
 
-pub last_next : (job : Job) (every : Option ℕ) (received : List Snapshot) (cp : Checkpoint) (image : Image) → IsComplete job received cp image → has_all_ended image ≡ true → MayBeLast job every received (suc cp.number)
-last_next job None received cp image h ended = tt
-last_next job (Some n) received cp image h ended = λ a low.
+pub last_next : (job : Job) (start : Start) (every : Option ℕ) (received : List Snapshot) (cp : Checkpoint) (image : Image) → IsComplete job received cp image → has_all_ended image ≡ true → MayBeLast job start every received (suc cp.number)
+last_next job start None received cp image h ended = tt
+last_next job start (Some n) received cp image h ended = λ a low.
     let is = h.image_is in
     let snap = h.each 0 a (omega arith, low) in
     let all : AllEnded image = all_ended image ended in
     let inside : a < length image.ended.items = omega (arith, low, is.ended) in
     let at : slice_index_or image.ended.items a true ≡ true = all a true inside in
     let there = is.ended_at a low in
-    record {
+    inr (record {
       snapshot = h.snapshot 0 a;
       received_it = snap.received_it;
       task_is = snap.task_is;
       before = omega (arith, snap.number_is);
       ended = ended_there image.ended.items a (h.snapshot 0 a).ended there at;
-    }
+    })
   where
     ended_there : (list : List Bool) (a : ℕ) (b : Bool) → slice_get list a ≡ Some b → slice_index_or list a true ≡ true → b ≡ true
     ended_there [] a b get at = absurd (cc)

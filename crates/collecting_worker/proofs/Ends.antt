@@ -6,6 +6,7 @@ use Rattle.flow_defs.specs.declared.cause.Cause.TheVariants as causes
 use Rattle.flow_defs.specs.declared.job.Job.{Job}
 use Rattle.flow_defs.specs.declared.image.Image.{Image}
 use Rattle.flow_defs.specs.declared.image.Snapshot.{Snapshot}
+use Rattle.job_start.specs.declared.start.Start.{Start}
 use Rattle.outside.specs.Keepers.{KeptImage}
 use Rattle.outside.specs.Stops.{told_of}
 use Rattle.outside.specs.declared.last_image.Stored.{Stored}
@@ -65,9 +66,9 @@ told_at_end cell cause told_cause before mid after none same told stopped ends =
     (by_done cause)
 
 -- the account is the same by its other cause
-pub account_ended : (job : Job) (every : Option ℕ) (received : List Snapshot) (before after : Option (List KeptImage)) (told : List Stored) (last : Option Image) (fell rose : ℕ) (cell : StopCell) (cause told_cause : Cause) (old new : StopPass)
-    → EndsAs cell cause told_cause old new → CollectAccount job every received before after told last fell rose (seen old) cause → CollectAccount job every received before after told last fell rose (seen new) told_cause
-account_ended job every received before after told last fell rose cell cause told_cause old new ends was = ⊎_elim
+pub account_ended : (job : Job) (start : Start) (every : Option ℕ) (received : List Snapshot) (before after : Option (List KeptImage)) (told : List Stored) (last : Option Image) (fell rose : ℕ) (cell : StopCell) (cause told_cause : Cause) (old new : StopPass)
+    → EndsAs cell cause told_cause old new → CollectAccount job start every received before after told last fell rose (seen old) cause → CollectAccount job start every received before after told last fell rose (seen new) told_cause
+account_ended job start every received before after told last fell rose cell cause told_cause old new ends was = ⊎_elim
     (λ (done : cause ≡ causes.Done). record {
       images = was.images;
       stored = was.stored;
@@ -75,20 +76,20 @@ account_ended job every received before after told last fell rose cell cause tol
       done = λ _. was.done done;
       never_falls = was.never_falls;
       cause_is = ⊎_elim
-          (λ (calm : (told_cause ≡ causes.Done) × (seen new ≡ [])). subst (IsCollectCause job every received was.images fell rose (seen new)) (sym calm.0) tt)
-          (λ (met : (told_cause ≡ causes.Stopped) × (seen new ≢ [])). subst (IsCollectCause job every received was.images fell rose (seen new)) (sym met.0) tt)
+          (λ (calm : (told_cause ≡ causes.Done) × (seen new ≡ [])). subst (IsCollectCause job start every received was.images fell rose (seen new)) (sym calm.0) tt)
+          (λ (met : (told_cause ≡ causes.Stopped) × (seen new ≢ [])). subst (IsCollectCause job start every received was.images fell rose (seen new)) (sym met.0) tt)
           (ends.done done);
     })
     (λ (else : cause ≢ causes.Done). let still = ends.else else in
-    subst (λ (p : StopPass). CollectAccount job every received before after told last fell rose (seen p) told_cause) (sym still.1)
-    (subst (CollectAccount job every received before after told last fell rose (seen old)) (sym still.0) was))
+    subst (λ (p : StopPass). CollectAccount job start every received before after told last fell rose (seen p) told_cause) (sym still.1)
+    (subst (CollectAccount job start every received before after told last fell rose (seen old)) (sym still.0) was))
     (by_done cause)
 
 -- it found no memory to begin
-pub account_unbegun : (job : Job) (every : Option ℕ) (received : List Snapshot) (before : Option (List KeptImage)) (told : List Stored) (fell : ℕ) (met : List (ℕ × StopEntry)) → told ≡ [] → CollectAccount job every received before before told None fell fell met causes.Memory
-account_unbegun job every received before told fell met none = record {
+pub account_unbegun : (job : Job) (start : Start) (every : Option ℕ) (received : List Snapshot) (before : Option (List KeptImage)) (told : List Stored) (fell : ℕ) (met : List (ℕ × StopEntry)) → told ≡ [] → CollectAccount job start every received before before told None fell fell met causes.Memory
+account_unbegun job start every received before told fell met none = record {
   images = [];
-  stored = none_stored job every received before told none;
+  stored = none_stored job start every received before told none;
   last_is = refl;
   done = λ is. absurd (memory_not_done is);
   never_falls = omega arith;

@@ -20,13 +20,15 @@ use Rattle.collector.specs.Fitting.{AreTakes, IsSnapshotOf}
 use Rattle.collector.specs.Images.{IsImageOf}
 use Rattle.collector.specs.Pieces.{IsInto, IsOutOf}
 use Rattle.checkpoint_laws.specs.Chapters.{task_at}
+use Rattle.job_start.specs.declared.start.Start.{Start}
+use Rattle.job_start.specs.Starts.{was_ended}
 use Rattle.snapshot_channel.specs.declared.opened.CollectingPass.{CollectingPass}
 use Rattle.snapshot_channel.specs.Snapshots.{IsTask, FitsTask, MaySend, AreTakesAt, LeadsTo, ComesFrom, snapshots_of}
 use Rattle.snapshot_channel.specs.Passes.{IsCollecting, opening, opening_of, received_by}
 use Rattle.snapshot_channel.specs.declared.views.Opening.{Opening}
 use Rattle.collecting_worker.specs.declared.gathering.Gathering.{Gathering}
 use Rattle.collecting_worker.specs.Images.{IsSnapshotFor}
-use Rattle.collecting_worker.specs.Gathering.{AreReceived, AreTwo, HadEnded, MayBeLast, IsGathering, IsBetween, IsSnapshotKept, IsMissing, HasOpen, IsOpen, IsInHand, IsComplete, job_of, every_of}
+use Rattle.collecting_worker.specs.Gathering.{AreReceived, AreTwo, HadEnded, MayBeLast, IsGathering, IsBetween, IsMissing, HasOpen, IsOpen, IsInHand, IsComplete, job_of, start_of, every_of}
 use Rattle.collecting_worker.proofs.Members.{In, contains_in, in_contained}
 use Rattle.collecting_worker.proofs.Receipts.{larger, received_more}
 
@@ -59,9 +61,9 @@ still_ended received x a k h = record {
   ended = h.ended;
 }
 
-still_last : (job : Job) (every : Option ℕ) (received : List Snapshot) (x : Snapshot) (k : ℕ) → MayBeLast job every received k → MayBeLast job every (received ++ x ∷ []) k
-still_last job None received x k h = tt
-still_last job (Some n) received x k h = λ a low. still_ended received x a k (h a low)
+still_last : (job : Job) (start : Start) (every : Option ℕ) (received : List Snapshot) (x : Snapshot) (k : ℕ) → MayBeLast job start every received k → MayBeLast job start every (received ++ x ∷ []) k
+still_last job start None received x k h = tt
+still_last job start (Some n) received x k h = λ a low. ⊎_elim (λ (was : was_ended start a ≡ true). inl was) (λ (had : HadEnded received a k). inr (still_ended received x a k had)) (h a low)
 
 still_for : (received : List Snapshot) (x y : Snapshot) (i a k : ℕ) → IsSnapshotFor received i a k y → IsSnapshotFor (received ++ x ∷ []) i a k y
 still_for received x y i a k h = record { received_it = Contains-append_left received (x ∷ []) y h.received_it; task_is = h.task_is; number_is = h.number_is }
@@ -83,7 +85,7 @@ module _ (g : Gathering) (pass : CollectingPass) (x : Snapshot) (is_pass : IsCol
         collector = h.collector;
         pass = is_pass;
         opening_is = h.opening_is;
-        received = subst (AreReceived (job_of g) (every_of g)) (sym more) (received_more (job_of g) (every_of g) (received_by g.pass) x task_is may_is h.received);
+        received = subst (AreReceived (job_of g) (start_of g) (every_of g)) (sym more) (received_more (job_of g) (start_of g) (every_of g) (received_by g.pass) x task_is may_is h.received);
         ahead = subst (λ l. All (Contains l) g.ahead.items) (sym more)
             (All-weaker (Contains (received_by g.pass)) (Contains (received_by g.pass ++ x ∷ [])) (λ y c. Contains-append_left (received_by g.pass) (x ∷ []) y c) g.ahead.items h.ahead);
         once = h.once;
@@ -93,7 +95,7 @@ module _ (g : Gathering) (pass : CollectingPass) (x : Snapshot) (is_pass : IsCol
   open_more cp h = record {
     gathering = gathers_more h.gathering;
     opened = h.opened;
-    last = λ final. subst (λ l. MayBeLast (job_of g) (every_of g) l cp.number) (sym more) (still_last (job_of g) (every_of g) (received_by g.pass) x cp.number (h.last final));
+    last = λ final. subst (λ l. MayBeLast (job_of g) (start_of g) (every_of g) l cp.number) (sym more) (still_last (job_of g) (start_of g) (every_of g) (received_by g.pass) x cp.number (h.last final));
     acknowledged_are = λ i a y is at. subst (λ l. IsSnapshotFor l i a cp.number y) (sym more) (still_for (received_by g.pass) x y i a cp.number (h.acknowledged_are i a y is at));
     missing = h.missing;
   }
@@ -103,7 +105,7 @@ module _ (g : Gathering) (pass : CollectingPass) (x : Snapshot) (is_pass : IsCol
       let h = whole.has_open in
       let task_is : IsTask (job_of g) x.task = subst (λ (o : Opening). IsTask o.job x.task) h.gathering.opening_is is_task in
       let may_is = subst (λ (o : Opening). MaySend o x.task (snapshots_of x.task (received_by g.pass)) x) h.gathering.opening_is may in
-      let above = larger (job_of g) (every_of g) (received_by g.pass) x task_is may_is h.gathering.received in
+      let above = larger (job_of g) (start_of g) (every_of g) (received_by g.pass) x task_is may_is h.gathering.received in
       record {
         is_open = open_more cp h;
         received_it = subst (λ l. Contains l x) (sym more) (Contains-push (received_by g.pass) x);
@@ -127,12 +129,12 @@ module _ (g : Gathering) (pass : CollectingPass) (is_pass : IsCollecting g.chann
             collector = h.gathering.collector;
             pass = is_pass;
             opening_is = h.gathering.opening_is;
-            received = subst (AreReceived (job_of g) (every_of g)) (sym same) h.gathering.received;
+            received = subst (AreReceived (job_of g) (start_of g) (every_of g)) (sym same) h.gathering.received;
             ahead = subst (λ l. All (Contains l) g.ahead.items) (sym same) h.gathering.ahead;
             once = h.gathering.once;
           };
           opened = h.opened;
-          last = λ final. subst (λ l. MayBeLast (job_of g) (every_of g) l cp.number) (sym same) (h.last final);
+          last = λ final. subst (λ l. MayBeLast (job_of g) (start_of g) (every_of g) l cp.number) (sym same) (h.last final);
           acknowledged_are = λ i a y is at. subst (λ l. IsSnapshotFor l i a cp.number y) (sym same) (h.acknowledged_are i a y is at);
           missing = h.missing;
         };
@@ -242,19 +244,21 @@ from_some : (opened : Option Checkpoint) (P : Checkpoint → Type 0) (checkpoint
 from_some opened P checkpoint is p = let q = subst (λ o. IsSomeAnd o P) is p in q
 
 -- a source is at its end at a last checkpoint
-ended_at_last : (job : Job) (every : Option ℕ) (received : List Snapshot) (cp : Checkpoint) (x : Snapshot) → AreReceived job every received → MayBeLast job every received cp.number → Contains received x → x.number ≡ cp.number → IsTask job x.task
+ended_at_last : (job : Job) (start : Start) (every : Option ℕ) (received : List Snapshot) (cp : Checkpoint) (x : Snapshot) → AreReceived job start every received → MayBeLast job start every received cp.number → Contains received x → x.number ≡ cp.number → IsTask job x.task
     → x.task.stage ≡ 0 → x.ended ≡ true
-ended_at_last job None received cp x h may c at is_task first = h.all_ended refl x c first
-ended_at_last job (Some n) received cp x h may c at is_task first =
-    let had : HadEnded received x.task.index cp.number = may x.task.index (subst (λ s. x.task.index < tasks job s) first is_task.index_is) in
+ended_at_last job start None received cp x h may c at is_task first = h.all_ended refl x c first
+ended_at_last job start (Some n) received cp x h may c at is_task first = ⊎_elim
+    (λ (was : was_ended start x.task.index ≡ true). h.were_ended x c first was)
+    (λ (had : HadEnded received x.task.index cp.number).
     let same : had.snapshot.task ≡ x.task = had.task_is ∙ ap (λ s. task_at s x.task.index) (sym first) in
-    h.stay_ended had.snapshot x had.received_it c same first (omega (arith, had.before, at)) had.ended
+    h.stay_ended had.snapshot x had.received_it c same first (omega (arith, had.before, at)) had.ended)
+    (may x.task.index (subst (λ s. x.task.index < tasks job s) first is_task.index_is))
 
 module _ (g : Gathering) (cp : Checkpoint) (x : Snapshot) (h : IsInHand cp g x) (at : x.number ≡ cp.number) where
   pub fits_here : fitting.FitsTask (job_of g) cp.final_one x
   fits_here =
       let f = h.is_open.gathering.received.fit x h.received_it in
-      fits (job_of g) cp.final_one x f.0 f.1 (λ final first. ended_at_last (job_of g) (every_of g) (received_by g.pass) cp x h.is_open.gathering.received (h.is_open.last final) h.received_it at f.0 first)
+      fits (job_of g) cp.final_one x f.0 f.1 (λ final first. ended_at_last (job_of g) (start_of g) (every_of g) (received_by g.pass) cp x h.is_open.gathering.received (h.is_open.last final) h.received_it at f.0 first)
 
   pub due : IsDue g.collector x
   due = record {
@@ -283,8 +287,8 @@ module _ (g : Gathering) (cp : Checkpoint) (x : Snapshot) (h : IsInHand cp g x) 
         record {
           collector = is_collector;
           pass = was.pass;
-          opening_is = subst (λ j. opening_of g.channel.now ≡ opening j 0 (every_of g)) (ap (λ j. j.now) (sym same)) was.opening_is;
-          received = subst (λ j. AreReceived j (every_of g) (received_by g.pass)) (ap (λ j. j.now) (sym same)) was.received;
+          opening_is = subst (λ j. opening_of g.channel.now ≡ opening j (start_of g) (every_of g)) (ap (λ j. j.now) (sym same)) was.opening_is;
+          received = subst (λ j. AreReceived j (start_of g) (every_of g) (received_by g.pass)) (ap (λ j. j.now) (sym same)) was.received;
           ahead = was.ahead;
           once = was.once;
         }
@@ -307,7 +311,7 @@ module _ (g : Gathering) (cp : Checkpoint) (x : Snapshot) (h : IsInHand cp g x) 
     has_open_acked more = record {
       gathering = gathers_acked;
       opened = more.same_open ∙ h.is_open.opened;
-      last = λ final. subst (λ j. MayBeLast j (every_of g) (received_by g.pass) cp.number) (ap (λ j. j.now) (sym same)) (h.is_open.last final);
+      last = λ final. subst (λ j. MayBeLast j (start_of g) (every_of g) (received_by g.pass) cp.number) (ap (λ j. j.now) (sym same)) (h.is_open.last final);
       acknowledged_are = λ i a y is some.
           let task_is : fitting.IsTask (job_of g) i a = subst (λ j. fitting.IsTask j i a) (ap (λ j. j.now) same) is in
           acknowledged_for i a y task_is (sym (more.one_more i a task_is) ∙ some);
@@ -377,7 +381,7 @@ module _ (g : Gathering) (cp : Checkpoint) (x : Snapshot) (h : IsInHand cp g x) 
 
 -- ---- a checkpoint is opened
 
-pub opens : (g : Gathering) (cp : Checkpoint) (c : Collector) → IsBetween cp.number g → (cp.final_one ≡ true → MayBeLast (job_of g) (every_of g) (received_by g.pass) cp.number)
+pub opens : (g : Gathering) (cp : Checkpoint) (c : Collector) → IsBetween cp.number g → (cp.final_one ≡ true → MayBeLast (job_of g) (start_of g) (every_of g) (received_by g.pass) cp.number)
     → IsCollector c → c.job ≡ g.collector.job → c.opened ≡ Some cp → ((i a : ℕ) → acknowledged c i a ≡ None) → IsOpen cp (record { collector = c; channel = g.channel; pass = g.pass; ahead = g.ahead })
 opens g cp c h last is_collector same opened none =
     let was = h.gathering in
@@ -386,13 +390,13 @@ opens g cp c h last is_collector same opened none =
         gathering = record {
           collector = is_collector;
           pass = was.pass;
-          opening_is = subst (λ j. opening_of g.channel.now ≡ opening j 0 (every_of g)) (ap (λ j. j.now) (sym same)) was.opening_is;
-          received = subst (λ j. AreReceived j (every_of g) (received_by g.pass)) (ap (λ j. j.now) (sym same)) was.received;
+          opening_is = subst (λ j. opening_of g.channel.now ≡ opening j (start_of g) (every_of g)) (ap (λ j. j.now) (sym same)) was.opening_is;
+          received = subst (λ j. AreReceived j (start_of g) (every_of g) (received_by g.pass)) (ap (λ j. j.now) (sym same)) was.received;
           ahead = was.ahead;
           once = was.once;
         };
         opened = opened;
-        last = λ final. subst (λ j. MayBeLast j (every_of g) (received_by g.pass) cp.number) (ap (λ j. j.now) (sym same)) (last final);
+        last = λ final. subst (λ j. MayBeLast j (start_of g) (every_of g) (received_by g.pass) cp.number) (ap (λ j. j.now) (sym same)) (last final);
         acknowledged_are = λ i a y _ is. absurd (some_none y (sym (none i a) ∙ is));
         missing = λ k d low at. none (slice_index_or g.ahead.items k d).task.stage (slice_index_or g.ahead.items k d).task.index;
       };

@@ -9,6 +9,7 @@ use Rattle.flow_defs.specs.declared.cause.Cause.TheVariants as causes
 use Rattle.flow_defs.specs.declared.job.Job.{Job}
 use Rattle.flow_defs.specs.declared.image.Image.{Image}
 use Rattle.flow_defs.specs.declared.image.Snapshot.{Snapshot}
+use Rattle.job_start.specs.declared.start.Start.{Start}
 use Rattle.collector.specs.declared.collector.Checkpoint.{Checkpoint}
 use Rattle.collector.specs.Faults.{IsFaultOf}
 use Rattle.collector.specs.Images.{SnapshotsMakeFitting}
@@ -24,8 +25,8 @@ use Rattle.collecting_worker.specs.Steps.{BreaksFor, HasBroken, HasKept, IsImage
 use Rattle.collecting_worker.proofs.Breaks.{cause_of, complete_at}
 use Rattle.collecting_worker.proofs.Going.{IsGoing, goes_on, last_is_it, next_image, one_more, still_stored}
 
-module _ (law : SnapshotsMakeFitting) (job : Job) (every : Option ℕ) (old new : Worker) (before mid after : Option (List KeptImage)) (cp : Checkpoint) (starts : StartsWith (received_by new.gathering.pass) (received_by old.gathering.pass))
-    (going : IsGoing job every (received_by old.gathering.pass) before mid (mine old.last_pass) old.last cp.number cp.final_one) (job_is : new.job.now ≡ job) where
+module _ (law : SnapshotsMakeFitting) (job : Job) (start : Start) (every : Option ℕ) (old new : Worker) (before mid after : Option (List KeptImage)) (cp : Checkpoint) (starts : StartsWith (received_by new.gathering.pass) (received_by old.gathering.pass))
+    (going : IsGoing job start every (received_by old.gathering.pass) before mid (mine old.last_pass) old.last cp.number cp.final_one) (job_is : new.job.now ≡ job) where
   abbrev received : List Snapshot
   received = received_by new.gathering.pass
 
@@ -33,17 +34,17 @@ module _ (law : SnapshotsMakeFitting) (job : Job) (every : Option ℕ) (old new 
   not_done fell rose met cause h is = let no = subst (BreaksFor new.job.now received cp fell rose met) is h in no
 
   pub broken_account : (fell count rose : ℕ) (met : List (ℕ × StopEntry)) (cause : Cause) → fell ≤ count → count ≤ rose → HasBroken old new mid after cause → BreaksFor new.job.now received cp count rose met cause
-      → CollectAccount job every received before after (mine new.last_pass) new.last fell rose met cause
+      → CollectAccount job start every received before after (mine new.last_pass) new.last fell rose met cause
   broken_account fell count rose met cause low high broken why =
-      let was = still_stored job every (received_by old.gathering.pass) received before mid (mine old.last_pass) going.images starts going.stored in
+      let was = still_stored job start every (received_by old.gathering.pass) received before mid (mine old.last_pass) going.images starts going.stored in
       record {
         images = going.images;
-        stored = subst (λ k. AreStored job every received before k (mine new.last_pass) going.images) (sym broken.kept) (subst (λ t. AreStored job every received before mid t going.images) (sym broken.told) was);
+        stored = subst (λ k. AreStored job start every received before k (mine new.last_pass) going.images) (sym broken.kept) (subst (λ t. AreStored job start every received before mid t going.images) (sym broken.told) was);
         last_is = broken.last_is ∙ going.last_is;
         done = λ is. absurd (not_done count rose met cause why is);
         never_falls = omega (arith, low, high);
-        cause_is = cause_of job every received going.images cp fell count rose met cause
-            (λ image complete. next_image law job every (received_by old.gathering.pass) received starts before mid after (mine old.last_pass) (mine new.last_pass) old.last new.last cp going image complete)
+        cause_is = cause_of job start every received going.images cp fell count rose met cause
+            (λ image complete. next_image law job start every (received_by old.gathering.pass) received starts before mid after (mine old.last_pass) (mine new.last_pass) old.last new.last cp going image complete)
             low (subst (λ j. BreaksFor j received cp count rose met cause) job_is why);
       }
 
@@ -54,25 +55,25 @@ module _ (law : SnapshotsMakeFitting) (job : Job) (every : Option ℕ) (old new 
     sound : IsFaultOf job image None
     sound = subst (λ j. IsFaultOf j image None) job_is ready.sound
 
-    pub done_account : (fell rose : ℕ) (met : List (ℕ × StopEntry)) → fell ≤ rose → cp.final_one ≡ true → CollectAccount job every received before after (mine new.last_pass) new.last fell rose met causes.Done
+    pub done_account : (fell rose : ℕ) (met : List (ℕ × StopEntry)) → fell ≤ rose → cp.final_one ≡ true → CollectAccount job start every received before after (mine new.last_pass) new.last fell rose met causes.Done
     done_account fell rose met low final = record {
       images = going.images ++ image ∷ [];
-      stored = one_more law job every (received_by old.gathering.pass) received starts before mid after (mine old.last_pass) (mine new.last_pass) old.last new.last cp going image complete sound ready.can ready.readable kept.kept kept.told kept.last_is;
-      last_is = last_is_it law job every (received_by old.gathering.pass) received starts before mid after (mine old.last_pass) (mine new.last_pass) old.last new.last cp going image complete sound ready.can ready.readable kept.kept kept.told kept.last_is;
+      stored = one_more law job start every (received_by old.gathering.pass) received starts before mid after (mine old.last_pass) (mine new.last_pass) old.last new.last cp going image complete sound ready.can ready.readable kept.kept kept.told kept.last_is;
+      last_is = last_is_it law job start every (received_by old.gathering.pass) received starts before mid after (mine old.last_pass) (mine new.last_pass) old.last new.last cp going image complete sound ready.can ready.readable kept.kept kept.told kept.last_is;
       done = λ _. subst (λ o. IsSomeAnd o (λ (x : Image). x.final_one ≡ true)) (sym kept.last_is) (complete.image_is.last ∙ final);
       never_falls = low;
       cause_is = tt;
     }
 
-    pub going_on : (number : ℕ) → number ≡ suc cp.number → cp.final_one ≡ false → IsGoing job every received before after (mine new.last_pass) new.last number all_ended
+    pub going_on : (number : ℕ) → number ≡ suc cp.number → cp.final_one ≡ false → IsGoing job start every received before after (mine new.last_pass) new.last number all_ended
     going_on number next not_last =
-        goes_on law job every (received_by old.gathering.pass) received starts before mid after (mine old.last_pass) (mine new.last_pass) old.last new.last cp going image complete sound ready.can ready.readable kept.kept kept.told kept.last_is
+        goes_on law job start every (received_by old.gathering.pass) received starts before mid after (mine old.last_pass) (mine new.last_pass) old.last new.last cp going image complete sound ready.can ready.readable kept.kept kept.told kept.last_is
         number all_ended next not_last kept.all_ended_is
 
 -- there is no number for one more
-pub full_account : (job : Job) (every : Option ℕ) (received : List Snapshot) (before after : Option (List KeptImage)) (told : List Stored) (last : Option Image) (number : ℕ) (final_one : Bool) (fell rose : ℕ) (met : List (ℕ × StopEntry))
-    → IsGoing job every received before after told last number final_one → fell ≤ rose → CollectAccount job every received before after told last fell rose met causes.Memory
-full_account job every received before after told last number final_one fell rose met going low = record {
+pub full_account : (job : Job) (start : Start) (every : Option ℕ) (received : List Snapshot) (before after : Option (List KeptImage)) (told : List Stored) (last : Option Image) (number : ℕ) (final_one : Bool) (fell rose : ℕ) (met : List (ℕ × StopEntry))
+    → IsGoing job start every received before after told last number final_one → fell ≤ rose → CollectAccount job start every received before after told last fell rose met causes.Memory
+full_account job start every received before after told last number final_one fell rose met going low = record {
   images = going.images;
   stored = going.stored;
   last_is = going.last_is;

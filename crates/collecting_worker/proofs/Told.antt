@@ -60,5 +60,5 @@ made_are_collected job every base received images sent made linked beginnings = 
 )
 
 pub stored_are_collected : StoredAreCollected
-stored_are_collected job every base received before after told images sent start stored beginnings =
-    made_are_collected job every base received images sent stored.made (stored.collected base start) beginnings
+stored_are_collected job start every base received before after told images sent is stored beginnings =
+    made_are_collected job every base received images sent stored.made (stored.collected base is) beginnings

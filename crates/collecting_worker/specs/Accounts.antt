@@ -9,6 +9,8 @@ use Rattle.flow_defs.specs.declared.image.Image.{Image}
 use Rattle.flow_defs.specs.declared.image.Snapshot.{Snapshot}
 use Rattle.flow_defs.specs.Jobs.{IsJob}
 use Rattle.plain_machine.specs.Spelling.{CanSpell}
+use Rattle.job_start.specs.declared.start.Start.{Start}
+use Rattle.job_start.specs.Starts.{IsStartFor}
 use Rattle.job_text.specs.JobText.{IsJobText}
 use Rattle.job_text.specs.KnownKinds.{every_kind}
 use Rattle.channel_state.specs.Contents.{TEXT_MOST}
@@ -28,13 +30,15 @@ pub record HasText (job : Job) : Type 0 where
   pub text : IsJobText every_kind job.text.items job
   pub short : length job.text.items ≤ TEXT_MOST
 
--- The worker is lent fresh passes: of the channel of snapshots, which is opened for this job from the start on and for this interval,
--- of the cell of the last image, whose entries are its own, and of the stop cell. An interval has at least one line.
-pub record IsLent (every : Option ℕ) (world : CollectWorld) : Type 0 where
+-- The worker is lent fresh passes: of the channel of snapshots, which is opened for this job from this start on and for this interval,
+-- of the cell of the last image, whose entries are its own, and of the stop cell. The start is one of this job. An interval has at
+-- least one line.
+pub record IsLent (start : Start) (every : Option ℕ) (world : CollectWorld) : Type 0 where
   pub job : HasText world.job.now
+  pub is_start : IsStartFor world.job.now start
   pub interval : IfSome every (λ n. 1 ≤ n)
   pub pass : channels.IsCollecting world.snapshots.now world.collecting
-  pub opening : channels.opening_of world.snapshots.now ≡ channels.opening world.job.now 0 every
+  pub opening : channels.opening_of world.snapshots.now ≡ channels.opening world.job.now start every
   pub none_received : channels.received_by world.collecting ≡ []
   pub last_pass : IsPassOf world.last_image.now world.last_pass
   pub first : number world.last_pass ≡ 0
@@ -44,25 +48,25 @@ pub record IsLent (every : Option ℕ) (world : CollectWorld) : Type 0 where
 -- Why the worker ends behind these images. It is the keeper's fault only where a call of it failed and no fault was met before. It is
 -- another fault of its own only where the next image has it: a number or length that is too large to be spelled, or saved bytes that
 -- are no records or stand in a last image.
-abbrev pub IsCollectCause : Job → Option ℕ → List Snapshot → List Image → ℕ → ℕ → List (ℕ × StopEntry) → Cause → Type 0
-IsCollectCause job every received images fell rose met causes.Done = ⊤
-IsCollectCause job every received images fell rose met causes.Stopped = ⊤
-IsCollectCause job every received images fell rose met (causes.Input source) = ⊥
-IsCollectCause job every received images fell rose met causes.Keeper = HasRisen fell rose × (first_met met ≡ Some causes.Keeper)
-IsCollectCause job every received images fell rose met causes.Link = ⊥
-IsCollectCause job every received images fell rose met (causes.LongLine source) = ⊥
-IsCollectCause job every received images fell rose met (causes.BigSource source) = ⊥
-IsCollectCause job every received images fell rose met causes.BigImage = (image : Image) × IsNext job every received images image × (CanSpell image → ⊥)
-IsCollectCause job every received images fell rose met (causes.OverCredit channel received_number announced) = ⊥
-IsCollectCause job every received images fell rose met (causes.Peer fault) = (image : Image) × IsNext job every received images image × IsFaultOf job image (Some fault)
-IsCollectCause job every received images fell rose met causes.Memory = ⊤
+abbrev pub IsCollectCause : Job → Start → Option ℕ → List Snapshot → List Image → ℕ → ℕ → List (ℕ × StopEntry) → Cause → Type 0
+IsCollectCause job start every received images fell rose met causes.Done = ⊤
+IsCollectCause job start every received images fell rose met causes.Stopped = ⊤
+IsCollectCause job start every received images fell rose met (causes.Input source) = ⊥
+IsCollectCause job start every received images fell rose met causes.Keeper = HasRisen fell rose × (first_met met ≡ Some causes.Keeper)
+IsCollectCause job start every received images fell rose met causes.Link = ⊥
+IsCollectCause job start every received images fell rose met (causes.LongLine source) = ⊥
+IsCollectCause job start every received images fell rose met (causes.BigSource source) = ⊥
+IsCollectCause job start every received images fell rose met causes.BigImage = (image : Image) × IsNext job start every received images image × (CanSpell image → ⊥)
+IsCollectCause job start every received images fell rose met (causes.OverCredit channel received_number announced) = ⊥
+IsCollectCause job start every received images fell rose met (causes.Peer fault) = (image : Image) × IsNext job start every received images image × IsFaultOf job image (Some fault)
+IsCollectCause job start every received images fell rose met causes.Memory = ⊤
 
 -- What the worker did by its passes and its keeper: it stored images, the last of which it hands back. It was done only where that is
 -- the last of the job.
-pub record CollectAccount (job : Job) (every : Option ℕ) (received : List Snapshot) (before after : Option (List KeptImage)) (told : List Stored) (last : Option Image) (fell rose : ℕ) (met : List (ℕ × StopEntry)) (cause : Cause) : Type 0 where
+pub record CollectAccount (job : Job) (start : Start) (every : Option ℕ) (received : List Snapshot) (before after : Option (List KeptImage)) (told : List Stored) (last : Option Image) (fell rose : ℕ) (met : List (ℕ × StopEntry)) (cause : Cause) : Type 0 where
   pub images : List Image
-  pub stored : AreStored job every received before after told images
+  pub stored : AreStored job start every received before after told images
   pub last_is : last ≡ last_or None images
   pub done : cause ≡ causes.Done → IsSomeAnd last (λ image. image.final_one ≡ true)
   pub never_falls : fell ≤ rose
-  pub cause_is : IsCollectCause job every received images fell rose met cause
+  pub cause_is : IsCollectCause job start every received images fell rose met cause

@@ -1,11 +1,13 @@
 -- What the worker has at hand while it gathers the snapshots of a checkpoint. That those of a later one wait in a list is this project's
 -- own choice.
-use Rattle.std.specs.Prelude.{◌≡◌, ◌≢◌, ◌⊎◌, ℕ, ◌<◌, ◌≤◌, ⊤, true, List, length, All, AllPairs, Contains, Option, Some, None}
+use Rattle.std.specs.Prelude.{◌≡◌, ◌≢◌, ◌⊎◌, ℕ, ◌+◌, ◌<◌, ◌≤◌, ⊤, Bool, true, List, length, All, AllPairs, Contains, Option, Some, None}
 use Rattle.turn_cell.specs.History.{StartsWith}
 use Rattle.flow_defs.specs.declared.job.Job.{Job}
 use Rattle.flow_defs.specs.declared.image.Image.{Image}
 use Rattle.flow_defs.specs.declared.image.Snapshot.{Snapshot}
 use Rattle.flow_defs.specs.Jobs.{tasks}
+use Rattle.job_start.specs.declared.start.Start.{Start}
+use Rattle.job_start.specs.Starts.{was_ended, all_were_ended}
 use Rattle.checkpoint_laws.specs.Chapters.{task_at}
 use Rattle.collector.specs.declared.collector.Checkpoint.{Checkpoint}
 use Rattle.collector.specs.declared.collector.Collector.{Collector}
@@ -20,11 +22,13 @@ use Rattle.collecting_worker.specs.Images.{IsSnapshotFor}
 
 -- ---- what was received
 
--- The snapshots of each task are numbered from 1 on and fit it. A source stays at its end, and with no interval it is there at once.
-pub record AreReceived (job : Job) (every : Option ℕ) (received : List Snapshot) : Type 0 where
+-- The snapshots of each task are numbered one by one behind the start, and fit it. A source stays at its end, where it may have been in the
+-- start, and with no interval it is there at once.
+pub record AreReceived (job : Job) (start : Start) (every : Option ℕ) (received : List Snapshot) : Type 0 where
   pub fit : (x : Snapshot) → Contains received x → IsTask job x.task × FitsTask job x
-  pub numbers : (x : Snapshot) → Contains received x → x.number ≤ length (snapshots_of x.task received)
+  pub numbers : (x : Snapshot) → Contains received x → x.number ≤ start.number + length (snapshots_of x.task received)
   pub stay_ended : (x y : Snapshot) → Contains received x → Contains received y → x.task ≡ y.task → y.task.stage ≡ 0 → x.number < y.number → x.ended ≡ true → y.ended ≡ true
+  pub were_ended : (x : Snapshot) → Contains received x → x.task.stage ≡ 0 → was_ended start x.task.index ≡ true → x.ended ≡ true
   pub all_ended : every ≡ None → (x : Snapshot) → Contains received x → x.task.stage ≡ 0 → x.ended ≡ true
 
 -- They are not snapshots of one task for one checkpoint.
@@ -39,26 +43,33 @@ pub record HadEnded (received : List Snapshot) (a k : ℕ) : Type 0 where
   pub before : snapshot.number < k
   pub ended : snapshot.ended ≡ true
 
--- Checkpoint k may be the last one: there is no interval, or all sources were at their ends before it.
-abbrev pub MayBeLast : Job → Option ℕ → List Snapshot → ℕ → Type 0
-MayBeLast job None received k = ⊤
-MayBeLast job (Some interval) received k = (a : ℕ) → a < tasks job 0 → HadEnded received a k
+-- Whether the first checkpoint behind the start is the last one: there is no interval, or all sources were at their ends in the start.
+abbrev pub first_is_last : Start → Option ℕ → Bool
+first_is_last start None = true
+first_is_last start (Some interval) = all_were_ended start
+
+-- Checkpoint k may be the last one: there is no interval, or all sources were at their ends before it, in the start or by what they told.
+abbrev pub MayBeLast : Job → Start → Option ℕ → List Snapshot → ℕ → Type 0
+MayBeLast job start None received k = ⊤
+MayBeLast job start (Some interval) received k = (a : ℕ) → a < tasks job 0 → (was_ended start a ≡ true) ⊎ HadEnded received a k
 
 -- ---- the worker between two checkpoints, and in one
 
 abbrev pub job_of : Gathering → Job
 job_of g = g.collector.job.now
 
+abbrev pub start_of : Gathering → Start
+start_of g = (opening_of g.channel.now).start
+
 abbrev pub every_of : Gathering → Option ℕ
 every_of g = (opening_of g.channel.now).every
 
--- Its pass is of its channel, which is opened for the job of its collector from the start on, and the snapshots that wait were received
--- each once.
+-- Its pass is of its channel, which is opened for the job of its collector, and the snapshots that wait were received each once.
 pub record IsGathering (g : Gathering) : Type 0 where
   pub collector : IsCollector g.collector
   pub pass : IsCollecting g.channel.now g.pass
-  pub opening_is : opening_of g.channel.now ≡ opening (job_of g) 0 (every_of g)
-  pub received : AreReceived (job_of g) (every_of g) (received_by g.pass)
+  pub opening_is : opening_of g.channel.now ≡ opening (job_of g) (start_of g) (every_of g)
+  pub received : AreReceived (job_of g) (start_of g) (every_of g) (received_by g.pass)
   pub ahead : All (Contains (received_by g.pass)) g.ahead.items
   pub once : AllPairs AreTwo g.ahead.items
 
@@ -80,7 +91,7 @@ IsMissing collector k x = x.number ≡ k → acknowledged collector x.task.stage
 pub record HasOpen (checkpoint : Checkpoint) (g : Gathering) : Type 0 where
   pub gathering : IsGathering g
   pub opened : g.collector.opened ≡ Some checkpoint
-  pub last : checkpoint.final_one ≡ true → MayBeLast (job_of g) (every_of g) (received_by g.pass) checkpoint.number
+  pub last : checkpoint.final_one ≡ true → MayBeLast (job_of g) (start_of g) (every_of g) (received_by g.pass) checkpoint.number
   pub acknowledged_are : (i a : ℕ) (x : Snapshot) → fitting.IsTask (job_of g) i a → acknowledged g.collector i a ≡ Some x → IsSnapshotFor (received_by g.pass) i a checkpoint.number x
   pub missing : All (IsMissing g.collector checkpoint.number) g.ahead.items
 

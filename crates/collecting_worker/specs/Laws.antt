@@ -4,7 +4,8 @@ use Rattle.flow_defs.specs.declared.job.Job.{Job}
 use Rattle.flow_defs.specs.declared.image.Image.{Image}
 use Rattle.flow_defs.specs.declared.image.Snapshot.{Snapshot}
 use Rattle.flow_defs.specs.Jobs.{last_edge, tasks}
-use Rattle.plain_machine.specs.Images.{IsStart}
+use Rattle.job_start.specs.declared.start.Start.{Start}
+use Rattle.job_start.specs.Starts.{IsBase}
 use Rattle.checkpoint_laws.specs.Chapters.{task_at}
 use Rattle.checkpoint_laws.specs.Collecting.{IsMadeOf, Collected}
 use Rattle.checkpoint_laws.specs.Runs.{image_at}
@@ -24,7 +25,7 @@ pub record AreCollected (job : Job) (every : Option ℕ) (base : Image) (images 
 -- The images that were stored are so, where the snapshots that were received are a beginning of those that each task sent.
 abbrev pub StoredAreCollected : Type 0
 StoredAreCollected =
-    (job : Job) (every : Option ℕ) (base : Image) (received : List Snapshot) (before after : Option (List KeptImage)) (told : List Stored) (images : List Image) (sent : ℕ → ℕ → List Snapshot) →
-    IsStart job base → AreStored job every received before after told images →
+    (job : Job) (start : Start) (every : Option ℕ) (base : Image) (received : List Snapshot) (before after : Option (List KeptImage)) (told : List Stored) (images : List Image) (sent : ℕ → ℕ → List Snapshot) →
+    IsBase job start base → AreStored job start every received before after told images →
     ((i a : ℕ) → i ≤ suc (last_edge job) → a < tasks job i → IsBeginning (snapshots_of (task_at i a) received) (sent i a)) →
     (snapshot : ℕ → ℕ → ℕ → Snapshot) × AreCollected job every base images sent snapshot

@@ -2,7 +2,7 @@
 ghost use Rattle.std.specs.Prelude.{◌≡◌, ◌≢◌, ◌+◌, [], ℕ, true, IfOk, IfErr, IfSome, IfNone, OnErr};
 ghost use Rattle.turn_cell.specs.Passes.{IsPassOf, IsSamePass, seen};
 ghost use Rattle.snapshot_channel.specs.Passes.{IsCollecting, received_by};
-ghost use Rattle.collecting_worker.specs.Gathering.{IsBetween, IsComplete, IsInHand, IsOpen, IsSameGathering, MayBeLast, every_of, job_of};
+ghost use Rattle.collecting_worker.specs.Gathering.{IsBetween, IsComplete, IsInHand, IsOpen, IsSameGathering, MayBeLast, every_of, job_of, start_of};
 ghost use Rattle.collecting_worker.specs.Steps.{BreaksFor};
 
 use crate::ahead::take_numbered;
@@ -39,7 +39,7 @@ impl<'a> Gathering<'a> {
         stop_pass: &mut Pass<StopState>,
     ) -> Result<Image, Cause>
         requires between { IsBetween checkpoint.number self.old }
-        requires last { checkpoint.final_one ≡ true → MayBeLast (job_of self.old) (every_of self.old) (received_by self.old.pass) checkpoint.number }
+        requires last { checkpoint.final_one ≡ true → MayBeLast (job_of self.old) (start_of self.old) (every_of self.old) (received_by self.old.pass) checkpoint.number }
         requires stop { IsPassOf stop.now stop_pass.old }
         ensures same { IsSameGathering self.old self.new }
         ensures pass { IsCollecting self.new.channel.now self.new.pass }

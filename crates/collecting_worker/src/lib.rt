@@ -1,6 +1,6 @@
 //! The worker that collects the snapshots of the tasks of a job, makes an image of each checkpoint and stores it.
 //!
-//! It stands on snapshot_channel, collector, channel_state and outside. Contracts see the images that it
+//! It stands on job_start, snapshot_channel, collector, channel_state and outside. Contracts see the images that it
 //! stored as a list, and what it received, kept and told beside them.
 #![tactic(auto)]
 

@@ -3,11 +3,12 @@ ghost use Rattle.std.specs.Prelude.{◌≡◌, ◌≢◌, ◌≤◌, ◌<◌, �
 ghost use Rattle.turn_cell.specs.Passes.{mine, number, seen};
 ghost use Rattle.flow_defs.specs.declared.cause.Cause.TheVariants.{Stopped};
 ghost use Rattle.plain_machine.specs.Spelling.{spelling};
+ghost use Rattle.job_start.specs.Starts.{IsStartFor};
 ghost use Rattle.snapshot_channel.specs.Passes.{received_by};
 ghost use Rattle.outside.specs.Keepers.{IsAboveLast};
 ghost use Rattle.outside.specs.Stops.{told_of};
 ghost use Rattle.collecting_worker.specs.Accounts.{CollectAccount};
-ghost use Rattle.collecting_worker.specs.Gathering.{MayBeLast, every_of};
+ghost use Rattle.collecting_worker.specs.Gathering.{MayBeLast, every_of, first_is_last, start_of};
 ghost use Rattle.collecting_worker.specs.Steps.{BreaksFor, HasBroken, HasKept, HasOwnPasses, IsImageReady, IsSameWorker, IsWorker};
 
 use crate::gathering::Gathering;
@@ -17,6 +18,7 @@ use crate::storing::store;
 use collector::Checkpoint;
 use collector::laws::snapshots_make_fitting;
 use flow_defs::{Bytes, Cause, Image, Job};
+use job_start::Start;
 use outside::{LastImage, StopState, Stored, tell_cause, tell_stop, tell_stored};
 use std::alloc::Global;
 use std::sync::Wait;
@@ -41,6 +43,16 @@ pub struct Spelled {
     pub bytes: Bytes,
 }
 
+// Whether the first checkpoint behind the start is the last one.
+fn first_is_last(start: &Start, every: Option<u64>) -> bool
+    ensures { result ≡ first_is_last start.now every }
+{
+    match every {
+        Some(_) => start.all_were_ended(),
+        None => true,
+    }
+}
+
 impl<'a> Worker<'a> {
     /// Stores the image of one checkpoint after the other, until that of the last one.
     pub fn run<K: ImageStore, R: Wait>(
@@ -48,22 +60,25 @@ impl<'a> Worker<'a> {
         rt: &R,
         alloc: Global,
         keeper: &mut K,
+        start: &Start,
         every: Option<u64>,
     ) -> Cause
-        requires worker { IsWorker 1 self.old }
+        requires worker { IsWorker (start.now.number + 1) self.old }
+        requires start { (start_of self.old.gathering ≡ start.now) × IsStartFor self.old.job.now start.now }
         requires every { every_of self.old.gathering ≡ every }
         requires fresh { (mine self.old.last_pass ≡ []) × (mine self.old.stop_pass ≡ []) × (self.old.last ≡ None) }
         requires cell { K.is_stopped_by keeper.old self.old.stop.now }
-        requires above { (n : ℕ) → 0 < n → IsAboveLast (K.images keeper.old) n }
+        requires above { (n : ℕ) → start.now.number < n → IsAboveLast (K.images keeper.old) n }
         ensures same { IsSameWorker self.old self.new }
         ensures own { HasOwnPasses self.new }
-        ensures account { CollectAccount self.old.job.now every (received_by self.new.gathering.pass) (K.images keeper.old) (K.images keeper.new) (mine self.new.last_pass) self.new.last (K.faults keeper.old) (K.faults keeper.new) (seen self.new.stop_pass) result }
+        ensures account { CollectAccount self.old.job.now start.now every (received_by self.new.gathering.pass) (K.images keeper.old) (K.images keeper.new) (mine self.new.last_pass) self.new.last (K.faults keeper.old) (K.faults keeper.new) (seen self.new.stop_pass) result }
         ensures told { mine self.new.stop_pass ≡ told_of result }
         ensures stopped { result ≡ Stopped → seen self.new.stop_pass ≢ [] }
     {
         snapshots_make_fitting();
-        let mut final_one = every.is_none();
-        for number in 1..u64::MAX {
+        let mut final_one = first_is_last(start, every);
+        for before in start.number..u64::MAX - 1 {
+            let number = before + 1;
             let checkpoint = Checkpoint { number, final_one };
             match self.store_next(rt, alloc, keeper, checkpoint) {
                 Ok(all_ended) => {
@@ -89,7 +104,7 @@ impl<'a> Worker<'a> {
     ) -> Result<bool, Cause>
         requires worker { IsWorker checkpoint.number self.old }
         requires number { 1 ≤ checkpoint.number }
-        requires last { checkpoint.final_one ≡ true → MayBeLast self.old.job.now (every_of self.old.gathering) (received_by self.old.gathering.pass) checkpoint.number }
+        requires last { checkpoint.final_one ≡ true → MayBeLast self.old.job.now (start_of self.old.gathering) (every_of self.old.gathering) (received_by self.old.gathering.pass) checkpoint.number }
         requires cell { K.is_stopped_by keeper.old self.old.stop.now }
         requires above { IsAboveLast (K.images keeper.old) checkpoint.number }
         ensures cell { K.is_stopped_by keeper.new self.new.stop.now }
@@ -117,7 +132,7 @@ impl<'a> Worker<'a> {
     ) -> Result<Spelled, Cause>
         requires worker { IsWorker checkpoint.number self.old }
         requires number { 1 ≤ checkpoint.number }
-        requires last { checkpoint.final_one ≡ true → MayBeLast self.old.job.now (every_of self.old.gathering) (received_by self.old.gathering.pass) checkpoint.number }
+        requires last { checkpoint.final_one ≡ true → MayBeLast self.old.job.now (start_of self.old.gathering) (every_of self.old.gathering) (received_by self.old.gathering.pass) checkpoint.number }
         ensures same { IsSameWorker self.old self.new }
         ensures own { HasOwnPasses self.new }
         ensures still { (self.new.last_pass ≡ self.old.last_pass) × (self.new.last ≡ self.old.last) }

@@ -12,6 +12,7 @@ use crate::image_store::ImageStore;
 use crate::worker::Worker;
 use collector::Collector;
 use flow_defs::{Cause, Image, Job};
+use job_start::Start;
 use outside::{LastImage, StopState, look_for_stop, tell_stop};
 use snapshot_channel::{CollectingPass, SnapshotChannel};
 use std::alloc::Global;
@@ -42,10 +43,10 @@ pub struct CollectEnd {
     pub cause: Cause,
 }
 
-/// Collects the snapshots of all tasks, and stores the image of one checkpoint after the other, from number 1
-/// on. `every` is how many lines a source reads between two checkpoints, from 1. With None the first checkpoint
-/// is the last; else it is the one behind the image in which all sources are ended. As Flink's default one
-/// checkpoint is open at a time; a snapshot for a later one waits until that is open.
+/// Collects the snapshots of all tasks, and stores the image of one checkpoint after the other, from the number
+/// behind the start's on. `every` is how many lines a source reads between two checkpoints, from 1. With None the
+/// first checkpoint is the last; else it is the one behind the image, or the start, in which all sources are ended.
+/// As Flink's default one checkpoint is open at a time; a snapshot for a later one waits until that is open.
 ///
 /// An image is stored in a turn of the stop cell that shows no entry, as `ImageStore` asks for, so none is stored
 /// behind one. The others are told of it behind that.
@@ -57,15 +58,16 @@ pub fn collect_images<K: ImageStore, R: Wait>(
     rt: &R,
     alloc: Global,
     keeper: &mut K,
+    start: &Start,
     every: Option<u64>,
     world: CollectWorld<'_>,
 ) -> CollectEnd
-    requires lent { IsLent every world }
+    requires lent { IsLent start.now every world }
     requires cell { K.is_stopped_by keeper.old world.stop.now }
-    requires above { (n : ℕ) → 0 < n → IsAboveLast (K.images keeper.old) n }
+    requires above { (n : ℕ) → start.now.number < n → IsAboveLast (K.images keeper.old) n }
     ensures collecting { IsCollecting world.entry.snapshots.now result.collecting }
     ensures last_pass { IsPassOf world.entry.last_image.now result.last_pass × (number result.last_pass ≡ 0) }
-    ensures account { CollectAccount world.entry.job.now every (received_by result.collecting) (K.images keeper.old) (K.images keeper.new) (mine result.last_pass) result.last (K.faults keeper.old) (K.faults keeper.new) (seen result.stop_pass) result.cause }
+    ensures account { CollectAccount world.entry.job.now start.now every (received_by result.collecting) (K.images keeper.old) (K.images keeper.new) (mine result.last_pass) result.last (K.faults keeper.old) (K.faults keeper.new) (seen result.stop_pass) result.cause }
     ensures stop { ToldStop world.entry.stop.now result.cause world.entry.stop_pass result.stop_pass }
 {
     let CollectWorld {
@@ -103,7 +105,7 @@ pub fn collect_images<K: ImageStore, R: Wait>(
         stop_pass,
         last: None,
     };
-    let cause = worker.run(rt, alloc, keeper, every);
+    let cause = worker.run(rt, alloc, keeper, start, every);
     end_worker(rt, worker, cause)
 }
 

@@ -1,6 +1,7 @@
 -- The job of the tests, with two sources and one task that counts, what its tasks send, and their passes.
-use Rattle.std.proofs.Common.{◌≡◌, ℕ, Bool, true, false, Option, Some, None, List, [], ◌∷◌, ◌++◌, map, length, refl, sym, ap, ◌∙◌}
-use Rattle.std.specs.Prelude.{All, is_some, not, ◌||◌}
+use Rattle.std.proofs.Common.{◌≡◌, ℕ, zero, suc, ◌+◌, Bool, true, false, Option, Some, None, List, [], ◌∷◌, ◌++◌, map, length, replicate, refl, sym, ap, ◌∙◌, subst}
+use Rattle.std.specs.Prelude.{All, slice_get, unwrap_or, ◌||◌}
+use Rattle.std.proofs.lemmas.List.{replicate_more}
 use Rattle.std.specs.List.{list_any}
 use Rattle.std.proofs.lemmas.List.Elements.{All-pop}
 use Rattle.flow_defs.specs.declared.job.Job.{Job}
@@ -26,16 +27,33 @@ any_more [] x some before = or_false x.ended some
 any_more (y ∷ xs) x some before = by_head y.ended (list_any (λ (y : Snapshot). y.ended) (xs ++ x ∷ [])) (list_any (λ (y : Snapshot). y.ended) xs) x.ended some before (any_more xs x)
 
 -- it stays at its end
-pub at_end_more : (every : Option ℕ) (sent : List Snapshot) (x : Snapshot) → (IsAtEnd every sent → x.ended ≡ true) → IsAtEnd every (sent ++ x ∷ []) → x.ended ≡ true
-at_end_more None sent x before now = before tt
-at_end_more (Some n) sent x before now = any_more sent x now before
+pub at_end_more : (every : Option ℕ) (was : Bool) (sent : List Snapshot) (x : Snapshot) → (IsAtEnd every was sent → x.ended ≡ true) → IsAtEnd every was (sent ++ x ∷ []) → x.ended ≡ true
+at_end_more None was sent x before now = before tt
+at_end_more (Some n) was sent x before now = by_head was (list_any (λ (y : Snapshot). y.ended) (sent ++ x ∷ [])) (list_any (λ (y : Snapshot). y.ended) sent) x.ended now before (any_more sent x)
 
-pub at_end_first : (every opened : Option ℕ) (ended : Bool) (sent : List Snapshot) → opened ≡ every → is_some every ≡ not ended → sent ≡ [] → IsAtEnd opened sent → ended ≡ true
-at_end_first None opened true sent same is fresh now = refl
-at_end_first None opened false sent same is fresh now = absurd (cc)
-at_end_first (Some n) opened true sent same is fresh now = refl
-at_end_first (Some n) None false sent same is fresh now = absurd (cc)
-at_end_first (Some n) (Some m) false sent same is fresh now = let no : list_any (λ (y : Snapshot). y.ended) sent ≡ false = ap (list_any (λ (y : Snapshot). y.ended)) fresh in absurd (cc)
+pub at_end_first : (every : Option ℕ) (was ended : Bool) (sent : List Snapshot) → sent ≡ [] → (IsAtEnd every was [] → ended ≡ true) → IsAtEnd every was sent → ended ≡ true
+at_end_first every was ended sent fresh begun now = begun (subst (IsAtEnd every was) fresh now)
+
+-- a source that was at its end in the start is so at the first checkpoint
+pub at_end_begun : (every : Option ℕ) (was stood ended : Bool) → (was ≡ true → stood ≡ true) → (IsAtEnd every stood [] → ended ≡ true) → IsAtEnd every was [] → ended ≡ true
+at_end_begun None was stood ended less begun now = begun tt
+at_end_begun (Some n) was stood ended less begun now = begun (ap (λ b. b || false) (less (or_false was now)))
+
+pub at_end_some : (n : ℕ) (was : Bool) → IsAtEnd (Some n) was [] → was ≡ true
+at_end_some n was now = or_false was now
+
+-- ---- the start
+
+pub flags_more : (flags new : List Bool) (n : ℕ) (b : Bool) → flags ≡ replicate n b → new ≡ flags ++ b ∷ [] → new ≡ replicate (n + 1) b
+flags_more flags new n b so_far more = more ∙ ap (λ l. l ++ b ∷ []) so_far ∙ replicate_more n b
+
+copied_at : (n a : ℕ) (b : Bool) → unwrap_or (slice_get (replicate n b) a) false ≡ true → b ≡ true
+copied_at zero a b was = absurd (cc)
+copied_at (suc n) zero b was = was
+copied_at (suc n) (suc a) b was = copied_at n a b was
+
+pub all_stood : (flags : List Bool) (n : ℕ) (b : Bool) → flags ≡ replicate n b → (a : ℕ) → unwrap_or (slice_get flags a) false ≡ true → b ≡ true
+all_stood flags n b are a was = copied_at n a b (ap (λ l. unwrap_or (slice_get l a) false) (sym are) ∙ was)
 
 -- ---- the passes of the channel
 

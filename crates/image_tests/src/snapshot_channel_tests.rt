@@ -7,6 +7,7 @@ ghost use Rattle.snapshot_channel.specs.Passes.{IsCollecting, IsFresh, IsPassOf,
 use crate::snapshots::told;
 use fixtures::counting_job;
 use flow_defs::{Job, ListOf, TaskId};
+use job_start::Start;
 use snapshot_channel::{CollectingPass, Opened, SnapshotChannel, TaskPass};
 use std::alloc::Global;
 use std::sync::Wait;
@@ -24,16 +25,18 @@ struct Ends {
 fn open_ends(alloc: Global, job: &Job) -> Result<Ends, Fail>
     requires is_job { IsJob job.now }
     requires counting { (job.now.stages.items ≡ []) × (length job.now.sources.items ≡ 1) × (job.now.agg_tasks ≡ 1) }
-    ensures base { IfOk result (λ ends. (opening_of ends.channel).base ≡ 6) }
+    ensures number { IfOk result (λ ends. (opening_of ends.channel).start.number ≡ 6) }
     ensures collecting { IfOk result (λ ends. IsCollecting ends.channel ends.collecting) }
     ensures source { IfOk result (λ ends. IsFresh ends.channel ends.of_source × (task_of ends.of_source ≡ task 0 0)) }
     ensures count { IfOk result (λ ends. IsFresh ends.channel ends.of_count × (task_of ends.of_count ≡ task 1 0)) }
 {
+    let mut start = Start::new(alloc, job)?;
+    start.number = 6;
     let Opened {
         channel,
         collecting,
         mut passes,
-    } = SnapshotChannel::open(alloc, job, 6, None)?;
+    } = SnapshotChannel::open(alloc, job, &start, None)?;
     let Some(of_count) = passes.pop() else {
         return Err("there is no pass".into());
     };
@@ -59,7 +62,7 @@ fn send_next<R: Wait>(
 ) -> Result<(), Fail>
     requires pass { IsPassOf channel.now pass.old }
     requires task { task_of pass.old ≡ task }
-    requires number { number ≡ (opening_of channel.now).base + length (sent_by pass.old) + 1 }
+    requires number { number ≡ (opening_of channel.now).start.number + length (sent_by pass.old) + 1 }
     ensures pass { IsPassOf channel.now pass.new × (task_of pass.new ≡ task) }
     ensures sent { OnOk result (length (sent_by pass.new) ≡ length (sent_by pass.old) + 1) }
 {

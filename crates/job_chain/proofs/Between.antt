@@ -3,7 +3,6 @@ use Rattle.std.proofs.Common.{◌≡◌, ℕ, List, [], ◌∷◌, ◌++◌, sym
 use Rattle.std.proofs.lemmas.List.{append_cancel_left}
 use Rattle.turn_cell.specs.History.{StartsWith, by, entries_of}
 use Rattle.flow_defs.specs.declared.parcel.Parcel.{Parcel}
-use Rattle.subpartition.specs.declared.entry.SendEntry.{SendEntry}
 use Rattle.subpartition.specs.Sending.{parcels_put, taken}
 use Rattle.subpartition.specs.Theorems as sending
 use Rattle.subpartition.proofs.Telling.{by-append, parcels_told}

@@ -2,7 +2,6 @@
 use Rattle.std.proofs.Common.{◌≡◌, ℕ, zero, suc, ◌<◌, ◌≤◌, Bool, true, false, leb, ltb, List, [], ◌++◌, length, Option, refl, sym, ap, subst, ◌∙◌, arith}
 use Rattle.std.specs.Prelude.{map, ◌&&◌}
 use Rattle.std.specs.List.{AllByRecursion}
-use Rattle.std.specs.FinMap.{empty}
 use Rattle.std.proofs.lemmas.Bool.{and_parts, and_from, leb-true, ltb-true, ltb-false, le-leb, lt-ltb}
 use Rattle.turn_cell.specs.History.{StartsWith}
 use Rattle.flow_defs.specs.declared.image.Image.{Image}
@@ -10,7 +9,9 @@ use Rattle.flow_defs.specs.declared.image.Snapshot.{Snapshot}
 use Rattle.flow_defs.specs.declared.job.Job.{Job}
 use Rattle.flow_defs.specs.declared.parcel.Parcel.{Parcel}
 use Rattle.flow_defs.specs.Jobs.{last_edge, tasks, exchange}
-use Rattle.plain_machine.specs.Images.{IsStart}
+use Rattle.plain_machine.specs.Chains.{IsUnchanged}
+use Rattle.job_start.specs.declared.start.Start.{Start}
+use Rattle.job_start.specs.Starts.{IsBase}
 use Rattle.plain_machine.proofs.Channels.{ends_of}
 use Rattle.checkpoint_laws.specs.Chapters as told
 use Rattle.checkpoint_laws.specs.Chapters.{Chapter}
@@ -23,11 +24,11 @@ use Rattle.task_output.specs.Outputs.{parcels_to, place_to}
 use Rattle.task_taking.specs.Takings.{told_of, stop_if}
 use Rattle.task_taking.specs.Endings.{Gave}
 use Rattle.job_chain.specs.Travelling.{PutIsInline}
-use Rattle.job_chain.specs.Runs.{HasNoFlight, IsAlignedRun, AlignedIsChain, AlignedEndsInTally}
+use Rattle.job_chain.specs.Runs.{HasNoFlight, StartIsStill, IsAlignedRun, AlignedIsChain, AlignedEndsInWorth, AlignedEndsInTally}
 use Rattle.source_task.specs.Accounts.{SourceHasAccount}
 use Rattle.stage_task.specs.Accounts.{StageHasAccount}
 use Rattle.aggregate_task.specs.Accounts.{AggregateHasAccount}
-use Rattle.job_chain.specs.Ran.{TellsGiven, JobRan, RanIsChain, RanEndsInTally, lines_of}
+use Rattle.job_chain.specs.Ran.{TellsGiven, JobRan, RanIsChain, RanEndsInWorth, RanEndsInTally, lines_of}
 use Rattle.job_chain.proofs.Tasks.{contained, source_none, stage_none, aggregate_none, way_is}
 
 -- The laws that are used.
@@ -37,8 +38,8 @@ pub record Laws : Type 0 where
   pub aggregate : AggregateHasAccount
   pub in_line : PutIsInline
 
-module _ (laws : Laws) (job : Job) (size : ℕ) (every : Option ℕ) (bytes : ℕ → List ℕ) (base : Image) (own : ℕ → ℕ → List SendPass) (gate : ℕ → ℕ → List InputPass) (sent : ℕ → ℕ → List Snapshot) (images : List Image)
-    (start : IsStart job base) (ran : JobRan job size every bytes base own gate sent images) where
+module _ (laws : Laws) (job : Job) (size : ℕ) (start : Start) (every : Option ℕ) (bytes : ℕ → List ℕ) (base : Image) (own : ℕ → ℕ → List SendPass) (gate : ℕ → ℕ → List InputPass) (sent : ℕ → ℕ → List Snapshot) (images : List Image)
+    (is_base : IsBase job start base) (same : IsUnchanged job (lines_of bytes) base) (ran : JobRan job size start every bytes base own gate sent images) where
   abbrev parcels : ℕ → ℕ → ℕ → List Parcel
   parcels i a b = parcels_to job i (own i a) b
 
@@ -61,8 +62,8 @@ module _ (laws : Laws) (job : Job) (size : ℕ) (every : Option ℕ) (bytes : �
   of_source : (a : ℕ) → a < tasks job 0 → TellsOf 0 a
   of_source a inside =
       let did = ran.sources a inside in
-      let has = laws.source job (lines_of bytes) base a size every (own 0 a) (sent 0 a) did.history (bytes a) did.fell did.rose did.cause start inside refl did.account in
-      (has.0, has.1, record { account = has.2; gave = λ e is. absurd (omega (arith, is)); no_flight = source_none a every 0 0 0 did.account.groups (sent 0 a) did.account.snapshots })
+      let has = laws.source job (lines_of bytes) start base a size every (own 0 a) (sent 0 a) did.history (bytes a) did.fell did.rose did.cause is_base same inside refl did.account in
+      (has.0, has.1, record { account = has.2; gave = λ e is. absurd (omega (arith, is)); no_flight = source_none a every _ _ _ did.account.groups (sent 0 a) did.account.snapshots })
 
   behind : {e f : ℕ} → suc e ≡ suc f → e ≡ f
   behind is = omega (arith, is)
@@ -70,7 +71,7 @@ module _ (laws : Laws) (job : Job) (size : ℕ) (every : Option ℕ) (bytes : �
   of_stage : (e b : ℕ) → e < last_edge job → b < tasks job (suc e) → TellsOf (suc e) b
   of_stage e b low inside =
       let did = ran.stages e b low inside in
-      let has = laws.stage job (lines_of bytes) base e b size every did.gate_account (own (suc e) b) (sent (suc e) b) did.history did.takes did.cause start low inside did.account in (
+      let has = laws.stage job (lines_of bytes) base e b size start every did.gate_account (own (suc e) b) (sent (suc e) b) did.history did.takes did.cause is_base low inside did.account in (
         has.0,
         has.1,
         record {
@@ -81,7 +82,7 @@ module _ (laws : Laws) (job : Job) (size : ℕ) (every : Option ℕ) (bytes : �
             rest = did.account.rest;
             given = subst (λ (groups : List (List (ℕ × List ℕ))). Gave job e b did.gate_account groups did.account.rest) (sym has.2) did.account.given;
           });
-          no_flight = stage_none job e b 0 0 did.account.groups (sent (suc e) b) did.account.snapshots;
+          no_flight = stage_none job e b _ _ did.account.groups (sent (suc e) b) did.account.snapshots;
         },
       )
 
@@ -90,7 +91,7 @@ module _ (laws : Laws) (job : Job) (size : ℕ) (every : Option ℕ) (bytes : �
       let e = last_edge job in
       let did = ran.aggregates b inside in
       let more : ℕ → List (List ℕ) = λ c. [] in
-      let has = laws.aggregate job (lines_of bytes) base b every did.gate_account (sent (suc e) b) did.history did.takes did.cause (parcels (suc e) b) more start inside did.account in (
+      let has = laws.aggregate job (lines_of bytes) base b start every did.gate_account (sent (suc e) b) did.history did.takes did.cause (parcels (suc e) b) more is_base inside did.account in (
         has.0,
         more,
         record {
@@ -101,7 +102,7 @@ module _ (laws : Laws) (job : Job) (size : ℕ) (every : Option ℕ) (bytes : �
             rest = did.account.rest;
             given = subst (λ (groups : List (List (ℕ × List ℕ))). Gave job e b did.gate_account groups did.account.rest) (sym has.2) did.account.given;
           });
-          no_flight = aggregate_none job b 0 empty did.account.groups (sent (suc e) b) did.account.snapshots;
+          no_flight = aggregate_none job b _ _ did.account.groups (sent (suc e) b) did.account.snapshots;
         },
       )
 
@@ -163,9 +164,14 @@ module _ (laws : Laws) (job : Job) (size : ℕ) (every : Option ℕ) (bytes : �
   }
 
 pub ran_is_chain : Laws → AlignedIsChain → RanIsChain
-ran_is_chain laws chain job size every bytes base own gate sent images positive start ran =
-    chain job (lines_of bytes) every base images _ sent _ _ ran.snapshot positive start (aligned laws job size every bytes base own gate sent images start ran)
+ran_is_chain laws chain job size start every bytes base own gate sent images positive is_base still same ran =
+    chain job (lines_of bytes) every base images _ sent _ _ ran.snapshot positive is_base.fits still same (aligned laws job size start every bytes base own gate sent images is_base same ran)
 
-pub ran_ends_in_tally : Laws → AlignedEndsInTally → RanEndsInTally
-ran_ends_in_tally laws ends job size every bytes base own gate sent images is positive start ran last =
-    ends job (lines_of bytes) every base images _ sent _ _ ran.snapshot is positive start (aligned laws job size every bytes base own gate sent images start ran) last
+pub ran_ends_in_worth : Laws → AlignedEndsInWorth → RanEndsInWorth
+ran_ends_in_worth laws ends job size start every bytes base own gate sent images is positive is_base still same ran last =
+    ends job (lines_of bytes) every base images _ sent _ _ ran.snapshot is positive is_base.fits still same (aligned laws job size start every bytes base own gate sent images is_base same ran) last
+
+pub ran_ends_in_tally : Laws → StartIsStill → AlignedEndsInTally → RanEndsInTally
+ran_ends_in_tally laws still ends job size start every bytes base own gate sent images is positive begins is_base ran last =
+    ends job (lines_of bytes) every base images _ sent _ _ ran.snapshot is positive begins
+    (aligned laws job size start every bytes base own gate sent images is_base (still job (lines_of bytes) base begins).1 ran) last

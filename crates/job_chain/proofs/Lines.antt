@@ -5,9 +5,8 @@ use Rattle.turn_cell.specs.History.{StartsWith}
 use Rattle.flow_defs.specs.declared.task.BarrierKind.TheVariants.{Inline, Front}
 use Rattle.flow_defs.specs.declared.parcel.Parcel.{Parcel}
 use Rattle.flow_defs.specs.declared.parcel.Parcel.TheVariants.{Data, Barrier, End}
-use Rattle.subpartition.specs.declared.entry.SendEntry.{SendEntry}
 use Rattle.subpartition.specs.declared.entry.SendEntry.TheVariants as sends
-use Rattle.subpartition.specs.Sending.{parcels_put, taken, outbox}
+use Rattle.subpartition.specs.Sending.{parcels_put, outbox}
 use Rattle.subpartition.proofs.Travelling.{travelled_is}
 use Rattle.input_channel.specs.declared.entry.ReceiveEntry.{ReceiveEntry}
 use Rattle.input_channel.specs.declared.entry.ReceiveEntry.TheVariants as receives

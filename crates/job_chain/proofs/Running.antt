@@ -14,7 +14,7 @@ use Rattle.checkpoint_laws.specs.Runs.{took_before}
 use Rattle.checkpoint_laws.specs.Theorems.{StretchesAreRecords, SnapshotEndsChapter}
 use Rattle.checkpoint_laws.proofs.Told as chains
 use Rattle.job_chain.specs.Cuts.{CutAtBarrier, taken_in}
-use Rattle.job_chain.specs.Runs.{AlignedIsTold, AlignedIsChain, AlignedEndsInTally}
+use Rattle.job_chain.specs.Runs.{StartIsStill, AlignedIsTold, AlignedIsChain, AlignedEndsInWorth, AlignedEndsInTally}
 
 -- what was taken in the first chapters
 taken_by : (s k : ℕ) (chapters : List Chapter) → taken_in s k (map (λ (c : Chapter). c.took) chapters) ≡ of_sender s (took_before k chapters)
@@ -29,7 +29,7 @@ no_piece : (e a b : ℕ) (pieces : List Saved) → pieces ≡ [] → piece e a b
 no_piece e a b pieces none = ap (piece e a b) none
 
 pub aligned_is_told : CutAtBarrier → StretchesAreRecords → SnapshotEndsChapter → AlignedIsTold
-aligned_is_told cuts spanned ends job lines every base images chapters sent parcels more snapshot start run = record {
+aligned_is_told cuts spanned ends job lines every base images chapters sent parcels more snapshot still run = record {
   workers = run.workers;
   cuts = λ e a b k channel low.
       let at = ends_of job e a b channel in
@@ -44,16 +44,24 @@ aligned_is_told cuts spanned ends job lines every base images chapters sent parc
       let none_in = no_piece e a b (snapshot k (suc e) b).saved_in.items (run.no_flight k (suc e) b low (omega (arith, at.edge)) at.receiver).0 in
       let none_out = no_piece e a b (snapshot k e a).saved_out.items (run.no_flight k e a low (omega (arith, at.edge)) at.sender).1 in
       let taken = all_encoded (of_sender a (took_before (suc k) (chapters (suc e) b))) in
-      ap (λ l. l ++ put_before (suc k) (parcels e a b)) (saved_at_start job base start e a b) ∙ whole ∙ ap all_encoded (taken_by a (suc k) (chapters (suc e) b))
+      ap (λ l. l ++ put_before (suc k) (parcels e a b)) (still e a b channel) ∙ whole ∙ ap all_encoded (taken_by a (suc k) (chapters (suc e) b))
       ∙ sym (append-nil taken) ∙ ap (λ l. taken ++ l) (sym (ap (λ l. l ++ piece e a b (snapshot k e a).saved_out.items) none_in ∙ none_out));
 }
 
+pub start_is_still : chains.Laws → StartIsStill
+start_is_still laws job lines base start = (λ e a b channel. saved_at_start job base start e a b, chains.unchanged_at_start laws job lines base start)
+
 pub aligned_is_chain : CutAtBarrier → StretchesAreRecords → SnapshotEndsChapter → chains.Laws → AlignedIsChain
-aligned_is_chain cuts spanned ends laws job lines every base images chapters sent parcels more snapshot positive start run =
-    chains.told_is_chain laws job lines every base images chapters sent parcels more snapshot positive start.fits (chains.unchanged_at_start laws job lines base start)
-    (aligned_is_told cuts spanned ends job lines every base images chapters sent parcels more snapshot start run)
+aligned_is_chain cuts spanned ends laws job lines every base images chapters sent parcels more snapshot positive fits still same run =
+    chains.told_is_chain laws job lines every base images chapters sent parcels more snapshot positive fits same
+    (aligned_is_told cuts spanned ends job lines every base images chapters sent parcels more snapshot still run)
+
+pub aligned_ends_in_worth : CutAtBarrier → StretchesAreRecords → SnapshotEndsChapter → chains.Laws → AlignedEndsInWorth
+aligned_ends_in_worth cuts spanned ends laws job lines every base images chapters sent parcels more snapshot is positive fits still same run last =
+    chains.told_ends_in_worth laws job lines every base images chapters sent parcels more snapshot is positive fits same
+    (aligned_is_told cuts spanned ends job lines every base images chapters sent parcels more snapshot still run) last
 
 pub aligned_ends_in_tally : CutAtBarrier → StretchesAreRecords → SnapshotEndsChapter → chains.Laws → AlignedEndsInTally
 aligned_ends_in_tally cuts spanned ends laws job lines every base images chapters sent parcels more snapshot is positive start run last =
     chains.told_ends_in_tally laws job lines every base images chapters sent parcels more snapshot is positive start
-    (aligned_is_told cuts spanned ends job lines every base images chapters sent parcels more snapshot start run) last
+    (aligned_is_told cuts spanned ends job lines every base images chapters sent parcels more snapshot (start_is_still laws job lines base start).0 run) last

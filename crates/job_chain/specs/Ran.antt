@@ -1,4 +1,4 @@
--- What the workers of a job did in a run with aligned checkpoints, from the start on, and what comes of it: the images that were stored are
+-- What the workers of a job did in a run with aligned checkpoints, from an image on, and what comes of it: the images that were stored are
 -- a chain. As in Flink a job goes on from its last checkpoint as if nothing had been lost or repeated. That this follows from what each
 -- worker tells of itself, with no order between them, is this project's own choice.
 use Rattle.std.specs.Prelude.{◌≡◌, ℕ, suc, ◌<◌, true, List, Option, Some}
@@ -11,9 +11,11 @@ use Rattle.flow_defs.specs.declared.job.Job.{Job}
 use Rattle.flow_defs.specs.Jobs.{last_edge, tasks, exchange, is_channel, IsJob}
 use Rattle.flow_defs.specs.Lines.{lines}
 use Rattle.flow_defs.specs.Tables.{join}
-use Rattle.plain_machine.specs.Worth.{tally}
-use Rattle.plain_machine.specs.Images.{IsStart}
-use Rattle.plain_machine.specs.Chains.{Chain, last_of}
+use Rattle.plain_machine.specs.Worth.{tally, worth}
+use Rattle.plain_machine.specs.Images.{cut_of, IsStart}
+use Rattle.plain_machine.specs.Chains.{Chain, last_of, IsUnchanged}
+use Rattle.job_start.specs.declared.start.Start.{Start}
+use Rattle.job_start.specs.Starts.{IsBase}
 use Rattle.checkpoint_laws.specs.Runs.{IsInterval}
 use Rattle.conn_parts.specs.Shares.{mine_at, seen_at}
 use Rattle.record_writer.specs.Writers.{SendPass, ways_on, receiver_at, sender_at, ways_into}
@@ -26,38 +28,39 @@ use Rattle.source_task.specs.Sources.{SourceAccount}
 use Rattle.stage_task.specs.Stages.{StageAccount}
 use Rattle.aggregate_task.specs.Aggregates.{AggregateAccount}
 use Rattle.collecting_worker.specs.Laws.{AreCollected}
+use Rattle.job_chain.specs.Runs.{HasNoneInFlight}
 
 -- ---- what each did, whatever its cause
 
 -- A source of these bytes, by its passes and its snapshots.
-pub record SourceDid (job : Job) (a size : ℕ) (every : Option ℕ) (bytes : List ℕ) (own : List SendPass) (sent : List Snapshot) : Type 0 where
+pub record SourceDid (job : Job) (a size : ℕ) (start : Start) (every : Option ℕ) (bytes : List ℕ) (own : List SendPass) (sent : List Snapshot) : Type 0 where
   pub history : List (ℕ × Stored)
   pub fell : ℕ
   pub rose : ℕ
   pub cause : Cause
-  pub account : SourceAccount job a size every own sent history (Some bytes) fell rose cause
+  pub account : SourceAccount job a size start every own sent history (Some bytes) fell rose cause
 
 -- A gate's account tells what the polls by its passes gave.
 abbrev pub TellsGiven : List InputPass → Account → Type 0
 TellsGiven gate account = (c : ℕ) → account.told c ≡ told (given_in (seen_at c gate)) (account.left c)
 
 -- A stateless task, by the passes of its gate besides.
-pub record StageDid (job : Job) (e b size : ℕ) (every : Option ℕ) (gate : List InputPass) (own : List SendPass) (sent : List Snapshot) : Type 0 where
+pub record StageDid (job : Job) (e b size : ℕ) (start : Start) (every : Option ℕ) (gate : List InputPass) (own : List SendPass) (sent : List Snapshot) : Type 0 where
   pub gate_account : Account
   pub tells : TellsGiven gate gate_account
   pub history : List (ℕ × Stored)
   pub takes : List TakeRun
   pub cause : Cause
-  pub account : StageAccount job e b size every gate_account own sent history takes cause
+  pub account : StageAccount job e b size start every gate_account own sent history takes cause
 
 -- A task of the aggregate.
-pub record AggregateDid (job : Job) (b : ℕ) (every : Option ℕ) (gate : List InputPass) (sent : List Snapshot) : Type 0 where
+pub record AggregateDid (job : Job) (b : ℕ) (start : Start) (every : Option ℕ) (gate : List InputPass) (sent : List Snapshot) : Type 0 where
   pub gate_account : Account
   pub tells : TellsGiven gate gate_account
   pub history : List (ℕ × Stored)
   pub takes : List TakeRun
   pub cause : Cause
-  pub account : AggregateAccount job b every gate_account sent history takes cause
+  pub account : AggregateAccount job b start every gate_account sent history takes cause
 
 -- The channel from task a to task b is number `way` of those on which a sends, and number `lane` of those from which b takes. What the polls
 -- of b's gate gave of it begins what a put there.
@@ -72,12 +75,12 @@ pub record BeginsAt (job : Job) (e a b : ℕ) (own : List SendPass) (gate : List
 
 -- ---- the run
 
--- All workers of a job, by stage and task, where these are the bytes of its sources, the passes by which the tasks sent and those of their
--- gates, the snapshots that they sent, and the images that were stored.
-pub record JobRan (job : Job) (size : ℕ) (every : Option ℕ) (bytes : ℕ → List ℕ) (base : Image) (own : ℕ → ℕ → List SendPass) (gate : ℕ → ℕ → List InputPass) (sent : ℕ → ℕ → List Snapshot) (images : List Image) : Type 0 where
-  pub sources : (a : ℕ) → a < tasks job 0 → SourceDid job a size every (bytes a) (own 0 a) (sent 0 a)
-  pub stages : (e b : ℕ) → e < last_edge job → b < tasks job (suc e) → StageDid job e b size every (gate e b) (own (suc e) b) (sent (suc e) b)
-  pub aggregates : (b : ℕ) → b < tasks job (suc (last_edge job)) → AggregateDid job b every (gate (last_edge job) b) (sent (suc (last_edge job)) b)
+-- All workers of a job, by stage and task, which went on from here, where these are the bytes of its sources, the passes by which the tasks
+-- sent and those of their gates, the snapshots that they sent, and the images that were stored behind the base.
+pub record JobRan (job : Job) (size : ℕ) (start : Start) (every : Option ℕ) (bytes : ℕ → List ℕ) (base : Image) (own : ℕ → ℕ → List SendPass) (gate : ℕ → ℕ → List InputPass) (sent : ℕ → ℕ → List Snapshot) (images : List Image) : Type 0 where
+  pub sources : (a : ℕ) → a < tasks job 0 → SourceDid job a size start every (bytes a) (own 0 a) (sent 0 a)
+  pub stages : (e b : ℕ) → e < last_edge job → b < tasks job (suc e) → StageDid job e b size start every (gate e b) (own (suc e) b) (sent (suc e) b)
+  pub aggregates : (b : ℕ) → b < tasks job (suc (last_edge job)) → AggregateDid job b start every (gate (last_edge job) b) (sent (suc (last_edge job)) b)
   pub channels : (e a b : ℕ) → is_channel job e a b ≡ true → BeginsAt job e a b (own e a) (gate e b)
   pub snapshot : ℕ → ℕ → ℕ → Snapshot
   pub collected : AreCollected job every base images sent snapshot
@@ -91,12 +94,21 @@ lines_of bytes a = lines (bytes a)
 -- The images are a chain, whatever the causes with which the workers ended,
 abbrev pub RanIsChain : Type 0
 RanIsChain =
-    (job : Job) (size : ℕ) (every : Option ℕ) (bytes : ℕ → List ℕ) (base : Image) (own : ℕ → ℕ → List SendPass) (gate : ℕ → ℕ → List InputPass) (sent : ℕ → ℕ → List Snapshot) (images : List Image) →
-    IsInterval every → IsStart job base → JobRan job size every bytes base own gate sent images → Chain job (lines_of bytes) every base images
+    (job : Job) (size : ℕ) (start : Start) (every : Option ℕ) (bytes : ℕ → List ℕ) (base : Image) (own : ℕ → ℕ → List SendPass) (gate : ℕ → ℕ → List InputPass) (sent : ℕ → ℕ → List Snapshot) (images : List Image) →
+    IsInterval every → IsBase job start base → HasNoneInFlight job base → IsUnchanged job (lines_of bytes) base →
+    JobRan job size start every bytes base own gate sent images → Chain job (lines_of bytes) every base images
 
--- and where the last one is marked so, its tables joined are the tally of all lines.
+-- and where the last one is marked so, its tables joined are what the base is worth,
+abbrev pub RanEndsInWorth : Type 0
+RanEndsInWorth =
+    (job : Job) (size : ℕ) (start : Start) (every : Option ℕ) (bytes : ℕ → List ℕ) (base : Image) (own : ℕ → ℕ → List SendPass) (gate : ℕ → ℕ → List InputPass) (sent : ℕ → ℕ → List Snapshot) (images : List Image) →
+    IsJob job → IsInterval every → IsBase job start base → HasNoneInFlight job base → IsUnchanged job (lines_of bytes) base →
+    JobRan job size start every bytes base own gate sent images →
+    (last_of base images).final_one ≡ true → join job.agg (last_of base images).tables.items ≡ worth job (lines_of bytes) (cut_of job base)
+
+-- and from the start of the job on the tally of all lines.
 abbrev pub RanEndsInTally : Type 0
 RanEndsInTally =
-    (job : Job) (size : ℕ) (every : Option ℕ) (bytes : ℕ → List ℕ) (base : Image) (own : ℕ → ℕ → List SendPass) (gate : ℕ → ℕ → List InputPass) (sent : ℕ → ℕ → List Snapshot) (images : List Image) →
-    IsJob job → IsInterval every → IsStart job base → JobRan job size every bytes base own gate sent images →
+    (job : Job) (size : ℕ) (start : Start) (every : Option ℕ) (bytes : ℕ → List ℕ) (base : Image) (own : ℕ → ℕ → List SendPass) (gate : ℕ → ℕ → List InputPass) (sent : ℕ → ℕ → List Snapshot) (images : List Image) →
+    IsJob job → IsInterval every → IsStart job base → IsBase job start base → JobRan job size start every bytes base own gate sent images →
     (last_of base images).final_one ≡ true → join job.agg (last_of base images).tables.items ≡ tally job (lines_of bytes)

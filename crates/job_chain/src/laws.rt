@@ -1,9 +1,9 @@
 //! The laws of a channel that barriers cut, and of a run. Each function does nothing; what it ensures is the law.
 ghost use Rattle.job_chain.specs.Travelling.{PutIsInline, GivenBeginsPut, GateTellsPolled};
 ghost use Rattle.job_chain.specs.Cuts.{CutAtBarrier};
-ghost use Rattle.job_chain.specs.Runs.{AlignedIsTold, AlignedIsChain, AlignedEndsInTally};
+ghost use Rattle.job_chain.specs.Runs.{StartIsStill, AlignedIsTold, AlignedIsChain, AlignedEndsInWorth, AlignedEndsInTally};
 ghost use Rattle.job_chain.specs.Channels.{GivenFollowsPut};
-ghost use Rattle.job_chain.specs.Ran.{RanIsChain, RanEndsInTally};
+ghost use Rattle.job_chain.specs.Ran.{RanIsChain, RanEndsInWorth, RanEndsInTally};
 
 use aggregate_task::laws::aggregates_have_accounts;
 use checkpoint_laws::laws::accounts_tell;
@@ -34,11 +34,13 @@ pub fn barriers_cut_channels()
     encodings_give_records();
 }
 
-/// The images of a run with aligned checkpoints are a chain, for every cause with which it ended, and a last
-/// one has the tally in its tables.
+/// The images of a run with aligned checkpoints are a chain, for every cause with which it ended. A last one has
+/// in its tables what the image was worth from which the run went on, and from the start of the job the tally.
 pub fn aligned_runs_are_chains()
+    ensures start { StartIsStill }
     ensures told { AlignedIsTold }
     ensures chain { AlignedIsChain }
+    ensures worth { AlignedEndsInWorth }
     ensures tally { AlignedEndsInTally }
 {
     encodings_give_records();
@@ -61,10 +63,13 @@ pub fn channels_carry_barriers()
     parcels_travel_in_line();
 }
 
-/// The images that a run stores from the start on are a chain, whatever the cause with which each of its
-/// workers ended, and a last one has the tally in its tables.
+/// The images that a run stores from an image with nothing in flight on are a chain, whatever the cause with which
+/// each of its workers ended. A last one has in its tables what that image was worth, and from the start of the job
+/// the tally.
 pub fn runs_are_chains()
+    ensures start { StartIsStill }
     ensures chain { RanIsChain }
+    ensures worth { RanEndsInWorth }
     ensures tally { RanEndsInTally }
 {
     sources_have_accounts();

@@ -12,6 +12,7 @@ use Rattle.job_cells.specs.declared.edge.Edge.{Edge}
 use Rattle.job_workers.specs.declared.task.SourceTask.{SourceTask}
 use Rattle.job_workers.specs.declared.task.StageTask.{StageTask}
 use Rattle.job_workers.specs.declared.task.AggregateTask.{AggregateTask}
+use Rattle.job_start.specs.Starts.{IsStartFor}
 use Rattle.task_output.specs.Acking.{IsLent}
 use Rattle.job_workers.specs.Tasks.{IsGateBehind}
 use Rattle.job_deploy.specs.declared.senders.Senders.{Senders}
@@ -68,7 +69,7 @@ module _ (job : Job) (edges : List Edge) (e k : ℕ) (edge : Edge) (same : k ≡
 module _ (job : Job) (size : ℕ) (every : Option ℕ) (snapshots : SnapshotChannel) (edges : List Edge) where
   pub stage_at : (e b : ℕ) (task : StageTask) → task.edge ≡ e → task.index ≡ b → e < last_edge job → b < tasks job (suc e) →
       IsGateAt job size every snapshots edges e b (cells_in task.gate.lanes) → IsGateBehind job e task.gate → IsPartitionAt job size every snapshots edges (suc e) b task.world.partition → IsPartitionOf job (suc e) b task.world.partition →
-      IsLentOf job size every snapshots edges task.every task.world → IsLent job (suc e) b task.every task.world → IsStageAt job size every snapshots edges e b task
+      IsLentOf job size every snapshots edges task.every task.world → IsLent job (suc e) b task.start.now task.every task.world → IsStageAt job size every snapshots edges e b task
   stage_at e b task edge_is index_is low here gate behind partition of lent may = record {
     edge = edge_is;
     index = index_is;
@@ -79,28 +80,29 @@ module _ (job : Job) (size : ℕ) (every : Option ℕ) (snapshots : SnapshotChan
       stage = subst (λ (j : ℕ). (j < last_edge job) × (task.index < tasks job (suc j))) (sym edge_is) (low, subst (λ (i : ℕ). i < tasks job (suc e)) (sym index_is) here);
       gate = subst (λ (j : ℕ). IsGateBehind job j task.gate) (sym edge_is) behind;
       partition = subst (λ (j : ℕ). IsPartitionOf job (suc j) task.index task.world.partition) (sym edge_is) (subst (λ (i : ℕ). IsPartitionOf job (suc e) i task.world.partition) (sym index_is) of);
-      lent = subst (λ (j : ℕ). IsLent job (suc j) task.index task.every task.world) (sym edge_is) (subst (λ (i : ℕ). IsLent job (suc e) i task.every task.world) (sym index_is) may);
+      lent = subst (λ (j : ℕ). IsLent job (suc j) task.index task.start.now task.every task.world) (sym edge_is) (subst (λ (i : ℕ). IsLent job (suc e) i task.start.now task.every task.world) (sym index_is) may);
     };
   }
 
   pub aggregate_at : (b : ℕ) (task : AggregateTask) → task.index ≡ b → b < tasks job (suc (last_edge job)) →
       IsGateAt job size every snapshots edges (last_edge job) b (cells_in task.gate.lanes) → IsGateBehind job (last_edge job) task.gate →
-      IsLentOf job size every snapshots edges task.every task.world → IsLent job (suc (last_edge job)) b task.every task.world → IsAggregateAt job size every snapshots edges b task
-  aggregate_at b task index_is here gate behind lent may = record {
+      IsLentOf job size every snapshots edges task.every task.world → IsStartFor job task.start.now → IsLent job (suc (last_edge job)) b task.start.now task.every task.world → IsAggregateAt job size every snapshots edges b task
+  aggregate_at b task index_is here gate behind lent start may = record {
     index = index_is;
     gate = gate;
     lent = lent;
     may = record {
       index = subst (λ (i : ℕ). i < tasks job (suc (last_edge job))) (sym index_is) here;
       gate = behind;
-      lent = subst (λ (i : ℕ). IsLent job (suc (last_edge job)) i task.every task.world) (sym index_is) may;
+      start = start;
+      lent = subst (λ (i : ℕ). IsLent job (suc (last_edge job)) i task.start.now task.every task.world) (sym index_is) may;
     };
   }
 
   pub source_at : {S : Type 0} (inputs : List S) (a : ℕ) (task : SourceTask S) (lent : SourceLent) → task.index ≡ a → slice_get inputs a ≡ Some task.input →
-      lent ≡ record { every = task.every; world = task.world } → IsLentAt job size every snapshots edges a lent → IsSourceAt job size every snapshots edges inputs a task
+      lent ≡ record { start = task.start; every = task.every; world = task.world } → IsLentAt job size every snapshots edges a lent → IsSourceAt job size every snapshots edges inputs a task
   source_at inputs a task lent index_is input same is =
-      let is' : IsLentAt job size every snapshots edges a (record { every = task.every; world = task.world }) = subst (λ (l : SourceLent). IsLentAt job size every snapshots edges a l) same is in
+      let is' : IsLentAt job size every snapshots edges a (record { start = task.start; every = task.every; world = task.world }) = subst (λ (l : SourceLent). IsLentAt job size every snapshots edges a l) same is in
       record {
         index = index_is;
         input = input;
@@ -108,7 +110,7 @@ module _ (job : Job) (size : ℕ) (every : Option ℕ) (snapshots : SnapshotChan
         lent = is'.lent;
         may = record {
           partition = subst (λ (i : ℕ). IsPartitionOf job 0 i task.world.partition) (sym index_is) is'.partition;
-          lent = subst (λ (i : ℕ). IsLent job 0 i task.every task.world) (sym index_is) is'.may;
+          lent = subst (λ (i : ℕ). IsLent job 0 i task.start.now task.every task.world) (sym index_is) is'.may;
         };
       }
 
@@ -134,6 +136,6 @@ module _ (job : Job) (size : ℕ) (every : Option ℕ) (snapshots : SnapshotChan
     sources_are lents inputs row many lent over = record {
       many = over.many ∙ many;
       each = λ a place at.
-          let found = over.each a place at in let lent_here : SourceLent = record { every = found.task.every; world = found.task.world } in
+          let found = over.each a place at in let lent_here : SourceLent = record { start = found.task.start; every = found.task.every; world = found.task.world } in
           (found.task, found.is, source_at inputs a found.task lent_here found.index found.input refl (lent.each a lent_here found.lent));
     }

@@ -12,13 +12,15 @@ use Rattle.flow_defs.specs.Jobs.{last_edge, tasks}
 use Rattle.outside.specs.declared.last_image.LastImage.{LastImage}
 use Rattle.outside.specs.declared.last_image.Stored.{Stored}
 use Rattle.plain_machine.specs.Worth.{concat_below}
+use Rattle.job_start.specs.declared.start.Start.{Start}
+use Rattle.job_start.specs.Starts.{IsStartFor}
 use Rattle.snapshot_channel.specs.declared.opened.SnapshotChannel.{SnapshotChannel}
 use Rattle.snapshot_channel.specs.declared.opened.TaskPass.{TaskPass}
 use Rattle.snapshot_channel.specs.declared.views.Opening.{Opening}
 use Rattle.snapshot_channel.specs.Passes as channels
 use Rattle.snapshot_channel.specs.Snapshots.{tasks_below, task}
 use Rattle.task_output.specs.declared.world.World.{World}
-use Rattle.task_output.specs.Acking.{IsLent}
+use Rattle.task_output.specs.Acking.{IsLent, base_of}
 use Rattle.job_deploy.specs.declared.shared.Shared.{Shared}
 use Rattle.job_deploy.specs.Placing.{AreFewer, AreStops, HasFirst, HasStages, HasStayed, HasTasks, HasTheirs, WereTaken, first_tasks}
 use Rattle.job_deploy.specs.Shared.{AreShared}
@@ -26,10 +28,10 @@ use Rattle.job_deploy.specs.Shared.{AreShared}
 -- ---- what stays
 
 pub stayed_none : (shared : Shared) → HasStayed shared shared
-stayed_none shared = record { every_is = refl; channel = refl }
+stayed_none shared = record { start_is = refl; every_is = refl; channel = refl }
 
 pub stayed_more : (a b c : Shared) → HasStayed a b → HasStayed b c → HasStayed a c
-stayed_more a b c one two = record { every_is = two.every_is ∙ one.every_is; channel = two.channel ∙ one.channel }
+stayed_more a b c one two = record { start_is = two.start_is ∙ one.start_is; every_is = two.every_is ∙ one.every_is; channel = two.channel ∙ one.channel }
 
 pub theirs_more : (a b c : Shared) → HasTheirs a b → HasTheirs b c → HasTheirs a c
 theirs_more a b c one two = record {
@@ -62,11 +64,15 @@ fewer_more n m k a b c sum one two = record {
 
 -- ---- passes of tasks
 
+opened_after : (job : Job) (before after : Shared) → HasStayed before after → channels.opening job before.start.now before.every ≡ channels.opening job after.start.now after.every
+opened_after job before after stayed = ap (λ (s : Start). channels.opening job s before.every) (sym stayed.start_is) ∙ ap (channels.opening job after.start.now) (sym stayed.every_is)
+
 -- Where none was taken they are those of the same tasks.
 pub tasks_kept : (job : Job) (whose : List TaskId) (before after : Shared) → HasStayed before after → HasTheirs before after → HasTasks job whose before → HasTasks job whose after
 tasks_kept job whose before after stayed theirs has = record {
+  start = subst (IsStartFor job) (sym stayed.start_is) has.start;
   interval = subst (λ (e : Option ℕ). IfSome e (λ n. 1 ≤ n)) (sym stayed.every_is) has.interval;
-  opening = ap channels.opening_of stayed.channel ∙ has.opening ∙ ap (channels.opening job 0) (sym stayed.every_is);
+  opening = ap channels.opening_of stayed.channel ∙ has.opening ∙ opened_after job before after stayed;
   fresh = subst (λ (c : SnapshotChannel). All (channels.IsFresh c) after.snapshot_passes.items) (sym stayed.channel)
       (subst (λ (l : List TaskPass). All (channels.IsFresh before.snapshots.now) l) (sym theirs.snapshot_passes) has.fresh);
   tasks_are = ap (map channels.task_of) theirs.snapshot_passes ∙ has.tasks_are;
@@ -124,8 +130,9 @@ module _ {P : Type 0} (job : Job) (i n : ℕ) (before after : Shared) (world : W
 
   pub first_left : HasFirst job i n after
   first_left = record {
+    start = subst (IsStartFor job) (sym stayed.start_is) has.start;
     interval = subst (λ (e : Option ℕ). IfSome e (λ n. 1 ≤ n)) (sym stayed.every_is) has.interval;
-    opening = ap channels.opening_of stayed.channel ∙ has.opening ∙ ap (channels.opening job 0) (sym stayed.every_is);
+    opening = ap channels.opening_of stayed.channel ∙ has.opening ∙ opened_after job before after stayed;
     fresh = subst (λ (c : SnapshotChannel). All (channels.IsFresh c) after.snapshot_passes.items) (sym stayed.channel) fresh.0;
     tasks_are = whose.0;
     last_passes = subst (λ (c : TurnCell LastImage Stored (Unit {0})). All (IsPassOf c) after.last_passes.items) (sym taken.last_image.1) last.0;
@@ -135,16 +142,20 @@ module _ {P : Type 0} (job : Job) (i n : ℕ) (before after : Shared) (world : W
         omega (arith, enough, long, longer, l);
   }
 
-  opening : channels.opening_of world.acks.snapshots.now ≡ channels.opening job 0 after.every
-  opening = ap channels.opening_of taken.channel ∙ has.opening ∙ ap (channels.opening job 0) (sym stayed.every_is)
+  pub may_start : IsStartFor job after.start.now
+  may_start = subst (IsStartFor job) (sym stayed.start_is) has.start
 
-  pub may_checkpoint : IsLent job i n after.every world
+  opening : channels.opening_of world.acks.snapshots.now ≡ channels.opening job after.start.now after.every
+  opening = ap channels.opening_of taken.channel ∙ has.opening ∙ opened_after job before after stayed
+
+  pub may_checkpoint : IsLent job i n after.start.now after.every world
   may_checkpoint = record {
     interval = subst (λ (e : Option ℕ). IfSome e (λ n. 1 ≤ n)) (sym stayed.every_is) has.interval;
     passes = record {
       snapshots = subst (λ (c : SnapshotChannel). channels.IsPassOf c world.acks.pass) (sym taken.channel) fresh.1.0;
       last_image = subst (λ (c : TurnCell LastImage Stored (Unit {0})). IsPassOf c world.acks.last_pass) (sym taken.last_image.0) last.1;
-      number_is = let none = taken.number in let base = ap (λ (o : Opening). o.base) opening in let unsent = ap length fresh.1.1 in omega (arith, none, base, unsent);
+      base_is = taken.base ∙ ap base_of (sym stayed.start_is ∙ sym (ap (λ (o : Opening). o.start) opening));
+      sent_is = taken.none_sent ∙ sym (ap length fresh.1.1);
     };
     fresh = fresh.1.1;
     task = whose.1;
@@ -155,6 +166,7 @@ module _ {P : Type 0} (job : Job) (i n : ℕ) (before after : Shared) (world : W
 -- What is shared at first are passes of all tasks.
 pub all_shared : (job : Job) (shared : Shared) → AreShared job shared → HasStages job (suc (suc (last_edge job))) shared
 all_shared job shared are = record {
+  start = are.start;
   interval = are.interval;
   opening = are.opening;
   fresh = are.fresh;

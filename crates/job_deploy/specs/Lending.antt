@@ -39,7 +39,7 @@ module _ (job : Job) (size : ℕ) (every : Option ℕ) (snapshots : SnapshotChan
     pub at : IsPartitionAt job size every snapshots edges 0 a source.world.partition
     pub partition : IsPartitionOf job 0 a source.world.partition
     pub lent : IsLentOf job size every snapshots edges source.every source.world
-    pub may : IsLent job 0 a source.every source.world
+    pub may : IsLent job 0 a source.start.now source.every source.world
 
   pub record AreLent (lents : List SourceLent) : Type 0 where
     pub many : length lents ≡ tasks job 0
@@ -62,7 +62,7 @@ pub record IsSourceOver {S : Type 0} (lents : List SourceLent) (inputs : List S)
   pub is : place ≡ Todo (Source task)
   pub index : task.index ≡ a
   pub input : slice_get inputs a ≡ Some task.input
-  pub lent : slice_get lents a ≡ Some (record { every = task.every; world = task.world })
+  pub lent : slice_get lents a ≡ Some (record { start = task.start; every = task.every; world = task.world })
 
 pub record AreSourcesOver {S : Type 0} (lents : List SourceLent) (inputs : List S) (row : List (TaskPlace S)) : Type 0 where
   pub many : length row ≡ length inputs

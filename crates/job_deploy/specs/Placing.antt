@@ -13,11 +13,13 @@ use Rattle.conn_parts.specs.Stopping.{StopCell, StopPass}
 use Rattle.plain_machine.specs.Worth.{concat_below}
 use Rattle.record_writer.specs.declared.partition.Partition.{Partition}
 use Rattle.record_writer.specs.Writers.{SendPass, AreOwnAt, ways_on, ways_into}
+use Rattle.job_start.specs.Starts.{IsStartFor}
 use Rattle.snapshot_channel.specs.Passes as channels
 use Rattle.snapshot_channel.specs.Snapshots as snapshots
 use Rattle.job_cells.specs.declared.edge.Edge.{Edge}
 use Rattle.job_cells.specs.Edges.{InputPass, AreGatesAt, place_into}
 use Rattle.task_output.specs.declared.world.World.{World}
+use Rattle.task_output.specs.Acking.{base_of}
 use Rattle.job_deploy.specs.declared.senders.Senders.{Senders}
 use Rattle.job_deploy.specs.declared.shared.Shared.{Shared}
 use Rattle.job_deploy.specs.declared.takers.Takers.{Takers}
@@ -31,8 +33,9 @@ IsStop cell pass = IsPassOf cell pass × (mine pass ≡ [])
 abbrev pub AreStops : Shared → Type 0
 AreStops shared = All (IsStop shared.stop.now) shared.stops.items
 
--- The interval and the channel of snapshots are the same.
+-- Where tasks go on, the interval and the channel of snapshots are the same.
 pub record HasStayed (before after : Shared) : Type 0 where
+  pub start_is : after.start.now ≡ before.start.now
   pub every_is : after.every ≡ before.every
   pub channel : after.snapshots.now ≡ before.snapshots.now
 
@@ -53,8 +56,9 @@ pub record HasTheirs (before after : Shared) : Type 0 where
 
 -- There are those of these tasks.
 pub record HasTasks (job : Job) (whose : List TaskId) (shared : Shared) : Type 0 where
+  pub start : IsStartFor job shared.start.now
   pub interval : IfSome shared.every (λ n. 1 ≤ n)
-  pub opening : channels.opening_of shared.snapshots.now ≡ channels.opening job 0 shared.every
+  pub opening : channels.opening_of shared.snapshots.now ≡ channels.opening job shared.start.now shared.every
   pub fresh : All (channels.IsFresh shared.snapshots.now) shared.snapshot_passes.items
   pub tasks_are : map channels.task_of shared.snapshot_passes.items ≡ whose
   pub last_passes : All (IsPassOf shared.last_image.now) shared.last_passes.items
@@ -77,7 +81,8 @@ pub record WereTaken {P : Type 0} (before after : Shared) (world : World P) : Ty
   pub snapshot_pass : before.snapshot_passes.items ≡ after.snapshot_passes.items ++ world.acks.pass ∷ []
   pub last_image : (world.acks.last_image.now ≡ before.last_image.now) × (after.last_image.now ≡ before.last_image.now)
   pub last_pass : before.last_passes.items ≡ after.last_passes.items ++ world.acks.last_pass ∷ []
-  pub number : world.acks.number ≡ 0
+  pub base : world.acks.base ≡ base_of before.start.now
+  pub none_sent : world.acks.sent ≡ 0
   pub stop : IsStop world.stop.now world.stop_pass
 
 -- ---- the two ends of an edge

@@ -3,14 +3,17 @@ ghost use Rattle.std.specs.Prelude.{◌≡◌, ◌<◌, length};
 ghost use Rattle.job_deploy.specs.Placing.{AreFewer, AreStops, HasTheirs, IsStop, WereTaken};
 
 use flow_defs::ListOf;
+use job_start::Start;
 use outside::{LastImage, StopState};
 use snapshot_channel::{SnapshotChannel, TaskPass};
-use task_output::{Acks, World};
+use task_output::{Acks, World, base_of};
 use turn_cell::{Pass, TurnCell};
 
 /// What all tasks of a job share for checkpoints and to stop by, and the passes of it that no task has yet.
 #[derive(Drop)]
 pub struct Shared<'a> {
+    /// From where the tasks go on.
+    pub start: &'a Start,
     /// How many lines a source reads between two checkpoints, from 1. None: there is only the last one.
     pub every: Option<u64>,
     pub snapshots: &'a SnapshotChannel,
@@ -53,7 +56,8 @@ impl<'a> Shared<'a> {
             pass: snapshot_pass,
             last_image: self.last_image,
             last_pass,
-            number: 0,
+            base: base_of(self.start),
+            sent: 0,
         };
         World {
             partition,

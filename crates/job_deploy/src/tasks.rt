@@ -12,6 +12,7 @@ use crate::shared::Shared;
 use crate::takers::Takers;
 use flow_defs::{Job, ListOf};
 use job_cells::Edge;
+use job_start::Start;
 use job_workers::{AggregateTask, Place, SourceTask, StageTask, Task, TaskRow};
 use record_writer::Partition;
 use std::alloc::{AllocError, Global};
@@ -20,6 +21,7 @@ use task_output::World;
 /// What a source is lent.
 #[derive(Drop)]
 pub struct SourceLent<'a, 'p> {
+    pub start: &'a Start,
     pub every: Option<u64>,
     pub world: World<'a, Partition<'a, 'p>>,
 }
@@ -47,6 +49,7 @@ fn source_lent<'a, 'p>(
     let partition = senders.next(job, 0, size, edge);
     let world = shared.lend(partition);
     SourceLent {
+        start: shared.start,
         every: shared.every,
         world,
     }
@@ -112,6 +115,7 @@ fn stage_task<'a, 'p>(
         gate,
         edge: e as u32,
         index: takers.own.as_slice().len() as u32,
+        start: shared.start,
         every: shared.every,
         world,
     })
@@ -185,6 +189,7 @@ fn aggregate_task<'a, 'p>(
         alloc,
         gate,
         index: takers.own.as_slice().len() as u32,
+        start: shared.start,
         every: shared.every,
         world,
     })
@@ -237,11 +242,16 @@ pub fn source_row<'a, 'p, S: Drop>(
     let mut lents = lents;
     let mut row = row;
     'sources: while let Some(input) = inputs.pop() {
-        let SourceLent { every, world } = lents.take_last();
+        let SourceLent {
+            start,
+            every,
+            world,
+        } = lents.take_last();
         let task = SourceTask {
             alloc,
             input,
             index: inputs.as_slice().len() as u32,
+            start,
             every,
             world,
         };

@@ -1,7 +1,6 @@
 -- The images that were stored in a run are a chain with nothing in flight.
 use Rattle.std.proofs.Common.{◌≡◌, ℕ, zero, suc, ◌<◌, ◌≤◌, List, [], ◌∷◌, ◌++◌, length, Option, ap, subst, ◌∙◌, arith, inl, inr}
 use Rattle.std.specs.Prelude.{IfSome, None, slice_index_or}
-use Rattle.std.specs.FinMap.{empty}
 use Rattle.std.specs.List.{AllByRecursion, last_or}
 use Rattle.std.proofs.lemmas.Bool.{cases_lt}
 use Rattle.turn_cell.specs.Passes.{mine, seen}
@@ -16,6 +15,7 @@ use Rattle.plain_machine.specs.Images.{IsStart}
 use Rattle.plain_machine.specs.Theorems.{StartExists}
 use Rattle.plain_machine.proofs.Channels.{ends_of}
 use Rattle.plain_machine.specs.Spelling.{CanSpell}
+use Rattle.job_start.specs.declared.start.Start.{Start}
 use Rattle.checkpoint_laws.specs.Chapters.{task_at}
 use Rattle.checkpoint_laws.specs.Collecting.{Collected, piece}
 use Rattle.checkpoint_laws.specs.Runs.{IsInterval}
@@ -31,14 +31,15 @@ use Rattle.collecting_worker.specs.Laws.{AreCollected, StoredAreCollected}
 use Rattle.collecting_worker.proofs.Going.{all_more, linked_more}
 use Rattle.collecting_worker.proofs.Told.{made_are_collected, sent_it}
 use Rattle.job_chain.specs.Ran.{JobRan, RanIsChain}
+use Rattle.job_chain.specs.Runs.{HasNoneInFlight, StartIsStill}
 use Rattle.job_chain.proofs.Tasks.{contained, source_none, stage_none, aggregate_none}
 use Rattle.job_workers.specs.declared.collecting.CollectTask.{CollectTask}
 use Rattle.job_workers.specs.declared.place.Place.{Place}
 use Rattle.job_workers.specs.declared.place.Place.TheVariants.{Ended}
 use Rattle.job_ends.specs.Ended.{own_at, gate_at, snapshots_at}
 use Rattle.job_outcome.specs.Outcomes.{AreTold}
-use Rattle.job_outcome.specs.Storing.{HasNoneInFlight, HasStored, IsTooLarge}
-use Rattle.job_outcome.specs.Theorems.{HaveRun, Run, AreSettledWith, StoredImagesAreChain, KeeperGotImages}
+use Rattle.job_outcome.specs.Storing.{HasStored, IsTooLarge}
+use Rattle.job_outcome.specs.Theorems.{HaveRun, Run, start_of, AreSettledWith, StoredImagesAreChain, KeeperGotImages}
 use Rattle.job_outcome.specs.Words.{WorldWords}
 use Rattle.job_outcome.proofs.Jobs.{source_did, stage_did, aggregate_did}
 
@@ -57,26 +58,26 @@ none_of_both xs ys e f = ap (λ (l : List ℕ). l ++ ys) e ∙ f
 abbrev NoneIn : Snapshot → Type 0
 NoneIn x = (x.saved_in.items ≡ []) × (x.saved_out.items ≡ [])
 
-module _ {job : Job} {size : ℕ} {every : Option ℕ} {bytes : ℕ → List ℕ} {base : Image}
+module _ {job : Job} {size : ℕ} {start : Start} {every : Option ℕ} {bytes : ℕ → List ℕ} {base : Image}
     {own : ℕ → ℕ → List SendPass} {gate : ℕ → ℕ → List InputPass} {sent : ℕ → ℕ → List Snapshot} {images : List Image}
-    (ran : JobRan job size every bytes base own gate sent images) where
+    (ran : JobRan job size start every bytes base own gate sent images) where
   -- Each task sent snapshots with nothing in flight,
   none_behind : (e b : ℕ) → e ≤ last_edge job → b < tasks job (suc e) → AllByRecursion NoneIn (sent (suc e) b)
   none_behind e b low inside = elim (cases_lt e (last_edge job)) [
     | inl before ↦
         let did = ran.stages e b before inside in
-        stage_none job e b 0 0 did.account.groups (sent (suc e) b) did.account.snapshots
+        stage_none job e b _ _ did.account.groups (sent (suc e) b) did.account.snapshots
     | inr behind ↦
         let is : last_edge job ≡ e = omega (arith, low, behind) in
         subst (λ (k : ℕ). b < tasks job (suc k) → AllByRecursion NoneIn (sent (suc k) b)) is
         (λ within. let did = ran.aggregates b within in
-        aggregate_none job b 0 empty did.account.groups (sent (suc (last_edge job)) b) did.account.snapshots) inside
+        aggregate_none job b _ _ did.account.groups (sent (suc (last_edge job)) b) did.account.snapshots) inside
   ]
 
   none_sent : (i a : ℕ) → i ≤ suc (last_edge job) → a < tasks job i → AllByRecursion NoneIn (sent i a)
   none_sent zero a low inside =
       let did = ran.sources a inside in
-      source_none a every 0 0 0 did.account.groups (sent 0 a) did.account.snapshots
+      source_none a every _ _ _ did.account.groups (sent 0 a) did.account.snapshots
   none_sent (suc e) b low inside = none_behind e b (omega (arith, low)) inside
 
   -- and of such each image was made.
@@ -107,19 +108,20 @@ pub same_end : (place : Place CollectTask CollectEnd) (x y : CollectEnd) → pla
 same_end place x y e f = cc
 
 module _ {S O I L N : Type 0} {words : WorldWords S O I L N} {run : Run S O I} (ran : HaveRun words run) where
-  open run use {job, size, every, inputs, before, after, fell, rose, rows, collected}
+  open run use {job, size, every, snapshots, inputs, before, after, fell, rose, rows, collected}
 
   module _ (end : CollectEnd) (is : collected ≡ Ended end) where
     -- The account of the worker that collected, of this job and interval.
-    abbrev AccountOf : Job → Option ℕ → CollectEnd → Type 0
-    AccountOf j n x = CollectAccount j n (received_by x.collecting) before after (mine x.last_pass) x.last fell rose (seen x.stop_pass) x.cause
+    abbrev AccountOf : Job → Start → Option ℕ → CollectEnd → Type 0
+    AccountOf j s n x = CollectAccount j s n (received_by x.collecting) before after (mine x.last_pass) x.last fell rose (seen x.stop_pass) x.cause
 
-    pub account_of : AccountOf job every end
+    pub account_of : AccountOf job (start_of snapshots) every end
     account_of =
-        subst (λ (x : CollectEnd). AccountOf job every x) (same_end collected ran.end end ran.end_is is)
-        (subst (λ (n : Option ℕ). AccountOf job n ran.end) ran.task_is.1
-        (subst (λ (j : Job). AccountOf j ran.task.every ran.end) ran.task_is.0
-        ran.collector.account))
+        subst (λ (x : CollectEnd). AccountOf job (start_of snapshots) every x) (same_end collected ran.end end ran.end_is is)
+        (subst (λ (s : Start). AccountOf job s every ran.end) ran.task_is.3
+        (subst (λ (n : Option ℕ). AccountOf job ran.task.start.now n ran.end) ran.task_is.1
+        (subst (λ (j : Job). AccountOf j ran.task.start.now ran.task.every ran.end) ran.task_is.0
+        ran.collector.account)))
 
     module _ (bytes : ℕ → List ℕ) (told : AreTold words.left inputs bytes) (settled : AreSettledWith job rows end) where
       -- The snapshots of each task that were received are a beginning of those that it sent.
@@ -128,7 +130,7 @@ module _ {S O I L N : Type 0} {words : WorldWords S O I L N} {run : Run S O I} (
 
       -- What all workers did, where these images are collected behind a start.
       abbrev AllDid : Image → List Image → Type 0
-      AllDid base = JobRan job size every bytes base (own_at rows) (gate_at rows) (snapshots_at rows)
+      AllDid base = JobRan job size (start_of snapshots) every bytes base (own_at rows) (gate_at rows) (snapshots_at rows)
 
       ran_behind : (base : Image) (images : List Image) →
           ((snapshot : ℕ → ℕ → ℕ → Snapshot) × AreCollected job every base images (snapshots_at rows) snapshot) → AllDid base images
@@ -142,30 +144,31 @@ module _ {S O I L N : Type 0} {words : WorldWords S O I L N} {run : Run S O I} (
       }
 
       -- So the images are a chain.
-      chain_of : RanIsChain → (base : Image) (images : List Image) → IsStart job base → AllDid base images → Chain job (λ a. lines (bytes a)) every base images
-      chain_of chains base images start did =
-          let chain = chains job size every bytes base (own_at rows) (gate_at rows) (snapshots_at rows) in
-          chain images (interval_of every ran.interval) start did
+      chain_of : StartIsStill → RanIsChain → (base : Image) (images : List Image) → IsStart job base → AllDid base images → Chain job (λ a. lines (bytes a)) every base images
+      chain_of stills chains base images start did =
+          let chain = chains job size (start_of snapshots) every bytes base (own_at rows) (gate_at rows) (snapshots_at rows) in
+          let still = stills job (λ a. lines (bytes a)) base start in
+          chain images (interval_of every ran.interval) (ran.begins base start) still.0 still.1 did
 
       module _ (collects : StoredAreCollected) where
         -- What all workers did.
         pub job_ran : (base : Image) → IsStart job base → AllDid base account_of.images
         job_ran base start =
-            let collected_are = collects job every base (received_by end.collecting) before after (mine end.last_pass) account_of.images in
-            ran_behind base account_of.images (collected_are (snapshots_at rows) start account_of.stored beginnings)
+            let collected_are = collects job (start_of snapshots) every base (received_by end.collecting) before after (mine end.last_pass) account_of.images in
+            ran_behind base account_of.images (collected_are (snapshots_at rows) (ran.begins base start) account_of.stored beginnings)
 
-        has_stored : StartExists → RanIsChain → HasStored job (λ a. lines (bytes a)) every before after
-        has_stored starts chains = record {
+        has_stored : StartExists → StartIsStill → RanIsChain → HasStored job (λ a. lines (bytes a)) every before after
+        has_stored starts stills chains = record {
           images = account_of.images;
           kept = account_of.stored.kept;
-          chain = λ base start. chain_of chains base account_of.images start (job_ran base start);
+          chain = λ base start. chain_of stills chains base account_of.images start (job_ran base start);
           still = let first = starts job in still (job_ran first.0 first.1);
           spelled = account_of.stored.spelled;
           readable = account_of.stored.readable;
         }
 
         -- The image that is next behind those that were stored is of the chain with them.
-        module _ (image : Image) (next : IsNext job every (received_by end.collecting) account_of.images image) where
+        module _ (image : Image) (next : IsNext job (start_of snapshots) every (received_by end.collecting) account_of.images image) where
           none_of_task : (base : Image) → IsStart job base → (i a : ℕ) → i ≤ suc (last_edge job) → a < tasks job i → NoneIn (next.made.snapshot i a)
           none_of_task base start i a stage low =
               contained NoneIn (snapshots_at rows i a) (next.made.snapshot i a) (none_sent (job_ran base start) i a stage low)
@@ -191,30 +194,30 @@ module _ {S O I L N : Type 0} {words : WorldWords S O I L N} {run : Run S O I} (
               let collected_are = made_are_collected job every base (received_by end.collecting) with_next (snapshots_at rows) in
               collected_are
               (all_more (IsMadeFrom job (received_by end.collecting)) account_of.images image account_of.stored.made next.made)
-              (linked_more (Collected job every) base image account_of.images (account_of.stored.collected base start)
-              (next.collected (λ final. nothing_saved base start) base start)) beginnings
+              (linked_more (Collected job every) base image account_of.images (account_of.stored.collected base (ran.begins base start))
+              (next.collected (λ final. nothing_saved base start) base (ran.begins base start))) beginnings
 
-          pub too_large : RanIsChain → (CanSpell image → ⊥) → IsTooLarge job (λ a. lines (bytes a)) every before after
-          too_large chains large = record {
+          pub too_large : StartIsStill → RanIsChain → (CanSpell image → ⊥) → IsTooLarge job (λ a. lines (bytes a)) every before after
+          too_large stills chains large = record {
             images = account_of.images;
             kept = account_of.stored.kept;
             image = image;
-            chain = λ base start. chain_of chains base with_next start (ran_behind base with_next (next_collected base start));
+            chain = λ base start. chain_of stills chains base with_next start (ran_behind base with_next (next_collected base start));
             large = large;
           }
 
   -- The images that were stored, of which the worker that collected left the last one.
-  pub stored_by : StartExists → StoredAreCollected → RanIsChain → (end : CollectEnd) (bytes : ℕ → List ℕ) → collected ≡ Ended end →
+  pub stored_by : StartExists → StartIsStill → StoredAreCollected → RanIsChain → (end : CollectEnd) (bytes : ℕ → List ℕ) → collected ≡ Ended end →
       AreTold words.left inputs bytes → AreSettledWith job rows end →
       (stored : HasStored job (λ a. lines (bytes a)) every before after) × (end.last ≡ last_or None stored.images)
   unfolding has_stored
-  stored_by starts collects chains end bytes is told settled = (has_stored end is bytes told settled collects starts chains, (account_of end is).last_is)
+  stored_by starts stills collects chains end bytes is told settled = (has_stored end is bytes told settled collects starts stills chains, (account_of end is).last_is)
 
 -- ---- the laws
 
 module _ {S O I L N : Type 0} (words : WorldWords S O I L N) where
-  pub stored_images_are_chain : StartExists → StoredAreCollected → RanIsChain → StoredImagesAreChain words
-  stored_images_are_chain starts collects chains run end bytes ran = stored_by ran starts collects chains end bytes
+  pub stored_images_are_chain : StartExists → StartIsStill → StoredAreCollected → RanIsChain → StoredImagesAreChain words
+  stored_images_are_chain starts stills collects chains run end bytes ran = stored_by ran starts stills collects chains end bytes
 
   pub keeper_got_images : KeeperGotImages words
   keeper_got_images run ran = ((ran.collector.account.images, ran.collector.account.stored.kept), ran.collector.account.never_falls)

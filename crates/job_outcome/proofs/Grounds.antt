@@ -20,6 +20,7 @@ use Rattle.conn_read_items.specs.Receiving.{EndedBy as ItemsEndedBy, MetPeer as 
 use Rattle.conn_send_control.specs.Announcing.{IsSendCause as IsAnnounceCause}
 use Rattle.input_gate.specs.Gates.{Account}
 use Rattle.snapshot_channel.specs.Passes.{received_by}
+use Rattle.task_output.specs.Acking.{base_of}
 use Rattle.task_taking.specs.Endings.{IsTakerEnd}
 use Rattle.source_task.specs.Sources.{IsSourceCause}
 use Rattle.collecting_worker.specs.declared.world.CollectEnd.{CollectEnd}
@@ -34,7 +35,8 @@ use Rattle.job_workers.specs.declared.collecting.CollectTask.{CollectTask}
 use Rattle.job_workers.specs.declared.place.Place.{Place}
 use Rattle.job_ends.specs.Ended.{TaskPlace, LoopPlace, HasLinkFault, faults_in}
 use Rattle.job_outcome.specs.Outcomes.{HasEnded, StandsAt, cause_of_task, cause_of_loop, cause_of_collector}
-use Rattle.job_outcome.specs.Theorems.{HaveRun, Run, IsNewWire, AreInputsLeft, AreLeftIn, AreSettledWith, HasGrounds, HasLargeImage, InputsComeBack, CausesHaveGrounds}
+use Rattle.job_chain.specs.Runs.{StartIsStill}
+use Rattle.job_outcome.specs.Theorems.{HaveRun, Run, start_of, IsNewWire, AreInputsLeft, AreLeftIn, AreSettledWith, HasGrounds, HasLargeImage, InputsComeBack, CausesHaveGrounds}
 use Rattle.job_outcome.specs.Words.{WorldWords}
 use Rattle.job_outcome.proofs.Chaining.{account_of, same_end, too_large}
 use Rattle.job_outcome.proofs.Places.{same_some, some_same, at_place, place_low, all_at, each_at}
@@ -50,7 +52,7 @@ risen_above fell rose none (inr full) = omega (arith, full)
 -- ---- what ran
 
 module _ {S O I L N : Type 0} {words : WorldWords S O I L N} {run : Run S O I} (ran : HaveRun words run) where
-  open run use {job, every, edges, inputs, wires, fell, rose, rows, loops, collected}
+  open run use {job, every, snapshots, edges, inputs, wires, fell, rose, rows, loops, collected}
   open words use {left, faults, links}
   open words.links use {of_out, got, ended, of_in}
 
@@ -102,8 +104,8 @@ module _ {S O I L N : Type 0} {words : WorldWords S O I L N} {run : Run S O I} (
     of_source a t causes.Memory h d s = tt
     of_source a t other h d s = absurd h
 
-    module _ (interval : Option ℕ) (history : List (ℕ × Stored)) (gate : Account) (groups : List (List (ℕ × List ℕ))) (rest : List (ℕ × List ℕ)) where
-      of_taker : (cause : Cause) → IsTakerEnd interval history gate groups rest cause → Ground cause
+    module _ (base : Stored) (interval : Option ℕ) (history : List (ℕ × Stored)) (gate : Account) (groups : List (List (ℕ × List ℕ))) (rest : List (ℕ × List ℕ)) where
+      of_taker : (cause : Cause) → IsTakerEnd base interval history gate groups rest cause → Ground cause
       of_taker causes.Done h d s = absurd (d refl)
       of_taker causes.Stopped h d s = absurd (s refl)
       of_taker (causes.Peer peers.Left) h d s = inl tt
@@ -114,8 +116,8 @@ module _ {S O I L N : Type 0} {words : WorldWords S O I L N} {run : Run S O I} (
     by_last : (i : ℕ) (place : TaskPlace S) (cause : Cause) → StandsAt rows (suc (last_edge job)) i place → cause_of_task place ≡ Some cause → Ground cause
     by_last i place cause stands is =
         let s = aggregate_at ran i (low_at (suc (last_edge job)) i place stands) in
-        of_taker s.task.every (seen s.end.left.last_image) s.by.given s.by.account.groups s.by.account.rest cause
-        (subst (IsTakerEnd s.task.every (seen s.end.left.last_image) s.by.given s.by.account.groups s.by.account.rest) (cause_at (suc (last_edge job)) i place cause stands is s.end) s.by.account.cause_is)
+        of_taker (base_of s.task.start.now) s.task.every (seen s.end.left.last_image) s.by.given s.by.account.groups s.by.account.rest cause
+        (subst (IsTakerEnd (base_of s.task.start.now) s.task.every (seen s.end.left.last_image) s.by.given s.by.account.groups s.by.account.rest) (cause_at (suc (last_edge job)) i place cause stands is s.end) s.by.account.cause_is)
 
     by_task : (s i : ℕ) (place : TaskPlace S) (cause : Cause) → StandsAt rows s i place → cause_of_task place ≡ Some cause → Ground cause
     by_task zero i place cause stands is =
@@ -125,8 +127,8 @@ module _ {S O I L N : Type 0} {words : WorldWords S O I L N} {run : Run S O I} (
     by_task (suc e) i place cause stands is = elim (cases_lt e (last_edge job)) [
       | inl before ↦
           let s = stage_at ran e i before (low_at (suc e) i place stands) in
-          of_taker s.task.every (seen s.end.left.last_image) s.by.given s.by.account.groups s.by.account.rest cause
-          (subst (IsTakerEnd s.task.every (seen s.end.left.last_image) s.by.given s.by.account.groups s.by.account.rest) (cause_at (suc e) i place cause stands is s.end) s.by.account.cause_is)
+          of_taker (base_of s.task.start.now) s.task.every (seen s.end.left.last_image) s.by.given s.by.account.groups s.by.account.rest cause
+          (subst (IsTakerEnd (base_of s.task.start.now) s.task.every (seen s.end.left.last_image) s.by.given s.by.account.groups s.by.account.rest) (cause_at (suc e) i place cause stands is s.end) s.by.account.cause_is)
       | inr behind ↦
           let low = place_low rows (suc e) stands.row stands.row_is in
           let is_last : e ≡ last_edge job = omega (arith, low, behind, ran.rows_many, ran.deployed.rows_many) in
@@ -265,16 +267,16 @@ module _ {S O I L N : Type 0} {words : WorldWords S O I L N} {run : Run S O I} (
 
     -- ---- the worker that collects
 
-    module _ (collects : StoredAreCollected) (chains : RanIsChain) where
+    module _ (stills : StartIsStill) (collects : StoredAreCollected) (chains : RanIsChain) where
       -- The image that it could not spell.
-      of_chain : (image : Image) → IsNext job every (received_by ran.end.collecting) (account_of ran ran.end ran.end_is).images image → (CanSpell image → ⊥) → HasLargeImage words run
+      of_chain : (image : Image) → IsNext job (start_of snapshots) every (received_by ran.end.collecting) (account_of ran ran.end ran.end_is).images image → (CanSpell image → ⊥) → HasLargeImage words run
       of_chain image next large end bytes is told_are settled =
           let same = same_end collected end ran.end is ran.end_is in
           let large_one = too_large ran ran.end ran.end_is bytes told_are (subst (λ (x : CollectEnd). AreSettledWith job rows x) same settled) in
-          large_one collects image next chains large
+          large_one collects image next stills chains large
 
       abbrev CollectCause : Cause → Type 0
-      CollectCause = IsCollectCause job every (received_by ran.end.collecting) (account_of ran ran.end ran.end_is).images fell rose (seen ran.end.stop_pass)
+      CollectCause = IsCollectCause job (start_of snapshots) every (received_by ran.end.collecting) (account_of ran ran.end ran.end_is).images fell rose (seen ran.end.stop_pass)
 
       of_collector : (cause : Cause) → CollectCause cause → Ground cause
       of_collector causes.Done h d s = absurd (d refl)
@@ -303,5 +305,5 @@ module _ {S O I L N : Type 0} (words : WorldWords S O I L N) where
   pub inputs_come_back : InputsComeBack words
   inputs_come_back run ran = inputs_back ran
 
-  pub causes_have_grounds : StoredAreCollected → RanIsChain → CausesHaveGrounds words
-  causes_have_grounds collects chains run after cause ran come many = by_any ran after come collects chains cause
+  pub causes_have_grounds : StartIsStill → StoredAreCollected → RanIsChain → CausesHaveGrounds words
+  causes_have_grounds stills collects chains run after cause ran come many = by_any ran after come stills collects chains cause

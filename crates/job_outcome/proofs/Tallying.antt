@@ -1,6 +1,6 @@
 -- Where the workers are done, the last image has the tally in its tables.
-use Rattle.std.proofs.Common.{◌≡◌, ℕ, ◌<◌, ◌≤◌, true, List, [], ◌∷◌, ◌++◌, length, Option, Some, None, refl, sym, ap, subst, ◌∙◌, arith, inl, inr}
-use Rattle.std.specs.Prelude.{IsSome, IsSomeAnd}
+use Rattle.std.proofs.Common.{◌≡◌, ℕ, ◌<◌, ◌≤◌, Bool, true, List, [], ◌∷◌, ◌++◌, length, Option, Some, None, refl, sym, ap, subst, ◌∙◌, arith, inl, inr}
+use Rattle.std.specs.Prelude.{IsSome, IsSomeAnd, drop}
 use Rattle.std.specs.List.{AllByRecursion, last_or}
 use Rattle.std.proofs.lemmas.List.{append-nil}
 use Rattle.flow_defs.specs.Lines.{lines}
@@ -23,7 +23,9 @@ use Rattle.job_workers.specs.declared.place.Place.{Place}
 use Rattle.job_workers.specs.declared.place.Place.TheVariants.{Ended}
 use Rattle.job_ends.specs.Ended.{own_at, gate_at, snapshots_at}
 use Rattle.job_outcome.specs.Outcomes.{AllDone, AreTold, AreWithin, StandsAt, cause_of_collector}
-use Rattle.job_outcome.specs.Theorems.{HaveRun, Run, AreSettledWith, DoneWorkersTally, DoneCollectorHasLast}
+use Rattle.job_chain.proofs.Tasks.{from_first}
+use Rattle.snapshot_channel.specs.Snapshots.{has_ended}
+use Rattle.job_outcome.specs.Theorems.{HaveRun, Run, start_of, AreSettledWith, DoneWorkersTally, DoneCollectorHasLast}
 use Rattle.job_outcome.specs.Words.{WorldWords}
 use Rattle.job_outcome.proofs.Places.{some_same}
 use Rattle.job_outcome.proofs.Running.{source_at}
@@ -54,25 +56,29 @@ some_with P (Some x) h = refl
 -- ---- a run in which the worker that collects is done
 
 module _ {S O I L N : Type 0} {words : WorldWords S O I L N} {run : Run S O I} (ran : HaveRun words run) where
-  open run use {job, size, every, inputs, rows, loops, collected}
+  open run use {job, size, every, snapshots, inputs, rows, loops, collected}
 
   -- Where all are done, no source is over a limit.
-  source_within : (bytes : ℕ → List ℕ) → AreTold words.left inputs bytes → AllDone rows loops collected → (a : ℕ) → a < tasks job 0 →
+  source_within : StartExists → (bytes : ℕ → List ℕ) → AreTold words.left inputs bytes → AllDone rows loops collected → (a : ℕ) → a < tasks job 0 →
       (length (bytes a) ≤ SOURCE_MAX) × AllByRecursion IsShort (lines (bytes a))
-  source_within bytes told done a low =
+  source_within starts bytes told done a low =
       let s = source_at ran a low in
       let did = source_did ran bytes told a low in
       let account = did.0.account in
       let stands : StandsAt rows 0 a (Ended s.end.left) = record { row = s.end.row; row_is = s.end.row_is; place_is = s.end.left_is } in
       let is_done = did.1 ∙ some_same s.end.left.cause Done (done.by_tasks 0 a (Ended s.end.left) stands) in
-      let at_end = account.at_end (account.done is_done).0 in
+      let base = starts job in
+      let first = from_first job (start_of snapshots) base.0 a base.1 (ran.begins base.0 base.1) low in
+      let ended = (account.done is_done).0 in
+      let none = account.at_end ended in
+      let whole = account.whole (subst (λ (b : Bool). has_ended b (snapshots_at rows 0 a) ≡ true) first.1 ended) first.1 in
       let all : all_of account.groups ++ (account.rest ++ account.begun) ≡ lines (bytes a) =
-      ap (λ (l : List (List ℕ)). all_of account.groups ++ l) at_end.1 ∙ append-nil (all_of account.groups) ∙ sym at_end.0 in
-      (account.within is_done, subst (λ (l : List (List ℕ)). AllByRecursion IsShort l) all account.short)
+      ap (λ (l : List (List ℕ)). all_of account.groups ++ l) none ∙ append-nil (all_of account.groups) ∙ sym whole ∙ ap (λ (n : ℕ). drop n (lines (bytes a))) first.0 in
+      (account.within is_done first.1, subst (λ (l : List (List ℕ)). AllByRecursion IsShort l) all account.short)
 
-  within : (bytes : ℕ → List ℕ) → AreTold words.left inputs bytes → AllDone rows loops collected → AreWithin job bytes
-  within bytes told done a low (inl big) = let few = (source_within bytes told done a low).0 in omega (arith, few, big)
-  within bytes told done a low (inr long) = none_long (lines (bytes a)) (source_within bytes told done a low).1 long
+  within : StartExists → (bytes : ℕ → List ℕ) → AreTold words.left inputs bytes → AllDone rows loops collected → AreWithin job bytes
+  within starts bytes told done a low (inl big) = let few = (source_within starts bytes told done a low).0 in omega (arith, few, big)
+  within starts bytes told done a low (inr long) = none_long (lines (bytes a)) (source_within starts bytes told done a low).1 long
 
   -- The worker that collects is done where all are.
   collector_done : (end : CollectEnd) → collected ≡ Ended end → AllDone rows loops collected → end.cause ≡ Done
@@ -97,15 +103,15 @@ module _ {S O I L N : Type 0} {words : WorldWords S O I L N} {run : Run S O I} (
         let first = starts job in
         let same = last_stored end is is_done image last first.0 in
         let did = job_ran ran end is bytes told settled collects in
-        let tally_of = tallies job size every bytes first.0 (own_at rows) (gate_at rows) (snapshots_at rows) in
+        let tally_of = tallies job size (start_of snapshots) every bytes first.0 (own_at rows) (gate_at rows) (snapshots_at rows) in
         subst (λ (x : Image). join job.agg x.tables.items ≡ tally job (λ a. lines (bytes a))) same
-        (tally_of (account_of ran end is).images ran.is_job (interval_of every ran.interval) first.1 (did first.0 first.1)
+        (tally_of (account_of ran end is).images ran.is_job (interval_of every ran.interval) first.1 (ran.begins first.0 first.1) (did first.0 first.1)
         (subst (λ (x : Image). x.final_one ≡ true) (sym same) (final end is is_done image last)))
 
     pub tally_by : (end : CollectEnd) (bytes : ℕ → List ℕ) (image : Image) → collected ≡ Ended end →
         end.last ≡ Some image → AllDone rows loops collected → AreTold words.left inputs bytes → AreSettledWith job rows end →
         (join job.agg image.tables.items ≡ tally job (λ a. lines (bytes a))) × AreWithin job bytes
-    tally_by end bytes image is last done told settled = (tally_is is (collector_done end is done) last bytes told settled, within bytes told done)
+    tally_by end bytes image is last done told settled = (tally_is is (collector_done end is done) last bytes told settled, within starts bytes told done)
 
 -- ---- the laws
 

@@ -4,18 +4,14 @@ use Rattle.std.specs.Prelude.{◌≡◌, ℕ, true, List, [], ◌∷◌, ◌++�
 use Rattle.std.specs.List.{AllByRecursion}
 use Rattle.flow_defs.specs.declared.image.Image.{Image}
 use Rattle.flow_defs.specs.declared.job.Job.{Job}
-use Rattle.flow_defs.specs.Jobs.{is_channel}
 use Rattle.flow_defs.specs.Tables.{Values, join}
-use Rattle.plain_machine.specs.Images.{IsStart, saved}
+use Rattle.plain_machine.specs.Images.{IsStart}
 use Rattle.plain_machine.specs.Chains.{Chain, last_of}
 use Rattle.plain_machine.specs.Spelling.{CanSpell}
 use Rattle.channel_state.specs.ImageFaults.{IsReadable}
 use Rattle.outside.specs.Keepers.{KeptImage}
+use Rattle.job_chain.specs.Runs.{HasNoneInFlight}
 use Rattle.collecting_worker.specs.Images.{with_images}
-
--- Nothing is in flight on any channel of the job.
-abbrev pub HasNoneInFlight : Job → Image → Type 0
-HasNoneInFlight job image = (e a b : ℕ) → is_channel job e a b ≡ true → saved job image e a b ≡ []
 
 -- The images that a keeper told before stay, and these come behind them. Where it doesn't tell its images this holds of every list.
 abbrev pub HasKept : Option (List KeptImage) → Option (List KeptImage) → List Image → Type 0

@@ -10,12 +10,15 @@ use Rattle.flow_defs.specs.Lines.{lines}
 use Rattle.flow_defs.specs.Tables.{join}
 use Rattle.flow_defs.specs.declared.image.Image.{Image}
 use Rattle.plain_machine.specs.Worth.{tally}
+use Rattle.plain_machine.specs.Images.{IsStart}
+use Rattle.job_start.specs.declared.start.Start.{Start}
+use Rattle.job_start.specs.Starts.{IsBase}
 use Rattle.outside.specs.declared.wires.Wire.{Wire}
 use Rattle.outside.specs.Links.{IsNewOut, IsNewIn, NeverFails}
 use Rattle.outside.specs.Keepers.{KeptImage}
 use Rattle.outside.specs.Faults.{HasRisen}
 use Rattle.snapshot_channel.specs.declared.opened.SnapshotChannel.{SnapshotChannel}
-use Rattle.snapshot_channel.specs.Passes.{received_by}
+use Rattle.snapshot_channel.specs.Passes.{opening_of, received_by}
 use Rattle.collecting_worker.specs.declared.world.CollectEnd.{CollectEnd}
 use Rattle.job_cells.specs.declared.edge.Edge.{Edge}
 use Rattle.job_cells.specs.Edges.{AreEdgesOf}
@@ -63,6 +66,10 @@ pub record IsNewWire {O I L N : Type 0} (links : LinkWords O I L N) (wire : Wire
   pub control_out : IsNewOut (links.sent wire.control_out) (links.finished wire.control_out) (links.of_out wire.control_out)
   pub control_in : IsNewIn (links.got wire.control_in) (links.ended wire.control_in) (links.of_in wire.control_in)
 
+-- From where the tasks go on for which a channel of snapshots is opened.
+abbrev pub start_of : SnapshotChannel → Start
+start_of channel = (opening_of channel).start
+
 -- A run of a job: the size of its segments, behind how many lines it has checkpoints, its channel of snapshots, its edges, its inputs and its wires;
 -- which images the keeper told before and after, and how many faults it had counted; and what each worker left in its place.
 pub record Run (S O I : Type 0) : Type 0 where
@@ -101,7 +108,8 @@ module _ {S O I L N : Type 0} (words : WorldWords S O I L N) where
     pub loops_many : length run.loops ≡ length loops_before
     pub loops_left : Pairs (λ (old new : Items (LoopPlace O I)). RowLeaves (LeftByLoop words.line words.sent words.of_out words.end_line words.got words.ended words.of_in) old.items new.items) loops_before run.loops
     pub task : CollectTask
-    pub task_is : (task.world.job.now ≡ run.job) × (task.every ≡ run.every) × (task.world.snapshots.now ≡ run.snapshots)
+    pub task_is : (task.world.job.now ≡ run.job) × (task.every ≡ run.every) × (task.world.snapshots.now ≡ run.snapshots) × (task.start.now ≡ start_of run.snapshots)
+    pub begins : (base : Image) → IsStart run.job base → IsBase run.job (start_of run.snapshots) base
     pub interval : IfSome run.every (λ n. 1 ≤ n)
     pub end : CollectEnd
     pub end_is : run.collected ≡ Ended end

@@ -1,3 +1,4 @@
 pub mod CountLemmas
+pub mod RowLemmas
 pub mod LinesLemmas
 pub mod JoinLemmas

@@ -50,6 +50,23 @@ impl Counts {
         }
     }
 
+    /// The counts of this table, as a task goes on from a checkpoint with them. Each key is copied once.
+    pub fn of_table(alloc: Global, table: &Table) -> Result<Self, AllocError>
+        ensures { IfOk result (λ counts. counts ≡ table.now) }
+    {
+        let rows = table.rows();
+        let mut numbers = HashMap::new(alloc);
+        for row in rows {
+            let key = Bytes::of(alloc, row.key.as_slice())?;
+            put_new(&mut numbers, key, row.value)?;
+        }
+        Ok(Counts {
+            alloc,
+            numbers,
+            key: Bytes::new(alloc),
+        })
+    }
+
     /// Adds one more record by the function of the aggregate. A record that is its own key, as in a count, is
     /// kept as that key where it is new, so that only the map takes memory. Where the key is but a front of
     /// the record, a new one is copied, and one that came before takes no memory, once a longer one was

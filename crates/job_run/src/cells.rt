@@ -7,14 +7,17 @@ use crate::images::{ImagePasses, open_images};
 use crate::stops::{StopPasses, open_stops};
 use flow_defs::{Job, ListOf};
 use job_deploy::tasks_needed;
+use job_start::Start;
 use outside::{LastImage, StopState};
 use snapshot_channel::{CollectingPass, Opened, SnapshotChannel, TaskPass};
 use std::alloc::{AllocError, Global};
 use turn_cell::{Pass, TurnCell};
 
-/// The channel of snapshots, the cell of the image that was stored last, and the stop cell.
+/// From where the tasks go on, the channel of snapshots, the cell of the image that was stored last, and the stop
+/// cell.
 #[derive(Drop)]
 pub struct RunCells {
+    pub start: Start,
     pub channel: SnapshotChannel,
     pub last_image: TurnCell<LastImage>,
     pub stop: TurnCell<StopState>,
@@ -41,15 +44,16 @@ pub struct OpenedCells {
     pub room: ListOf<TaskPass>,
 }
 
-/// What the workers of a job share where a source reads so many lines between two checkpoints, from 1, or to its end
-/// where that is None. Checkpoints count from 1.
+/// What the workers of a job share that begins with its first lines, where a source reads so many lines between two
+/// checkpoints, from 1, or to its end where that is None. Checkpoints count from 1.
 pub fn open_cells(alloc: Global, job: &Job, every: Option<u64>) -> Result<OpenedCells, AllocError>
     requires { IsJob job.now }
     ensures { IfOk result (λ opened. AreCellsOf job.now every opened) }
 {
     let mut room = ListOf::new(alloc);
     room.reserve(tasks_needed(job) as usize)?;
-    let opened = SnapshotChannel::open(alloc, job, 0, every)?;
+    let start = Start::new(alloc, job)?;
+    let opened = SnapshotChannel::open(alloc, job, &start, every)?;
     let images = open_images(alloc, job)?;
     let stops = open_stops(alloc, job)?;
     let Opened {
@@ -70,6 +74,7 @@ pub fn open_cells(alloc: Global, job: &Job, every: Option<u64>) -> Result<Opened
     } = stops;
     Ok(OpenedCells {
         cells: RunCells {
+            start,
             channel,
             last_image,
             stop,

@@ -86,6 +86,7 @@ where
         stops,
     } = dealt;
     let shared = Shared {
+        start: &cells.start,
         every,
         snapshots: &cells.channel,
         snapshot_passes: snapshots,
@@ -109,6 +110,7 @@ where
     let mut loops = loops;
     let mut collected = Place::Todo(CollectTask {
         alloc,
+        start: &cells.start,
         every,
         world,
     });

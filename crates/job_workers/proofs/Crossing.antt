@@ -15,7 +15,9 @@ use Rattle.crossbeam_channel.proofs.flavors.array.ruled.Sending.TheSendSync as s
 use Rattle.turn_cell.proofs.cell.TurnCell.TheSendSync as cell
 use Rattle.turn_cell.proofs.pass.Pass.TheSendSync as pass
 use Rattle.flow_defs.proofs.image.Snapshot.TheSendSync as snapshot
+use Rattle.job_start.proofs.start.Start.TheSendSync as start
 use Rattle.outside.proofs.last_image.LastImage.TheSendSync as last_image
+use Rattle.outside.proofs.last_image.Stored.TheSendSync as stored
 use Rattle.outside.proofs.stop.StopState.TheSendSync as stop
 use Rattle.snapshot_channel.specs.contracts.opened.SnapshotChannel as channel
 use Rattle.snapshot_channel.proofs.opened.TaskPass.TheSendSync as task_pass
@@ -107,7 +109,10 @@ acks_send a = declared_send (acks.the_type a) (
     search (sendable, task_pass.the_send) depth 20,
     (
       search (sendable, crosses, cell.the_sync, last_image.the_send) depth 20,
-      (search (sendable, crosses, pass.the_send, last_image.the_send) depth 20, (search sendable depth 20, tt)),
+      (
+        search (sendable, crosses, pass.the_send, last_image.the_send) depth 20,
+        (search (sendable, stored.the_send) depth 20, (search sendable depth 20, tt)),
+      ),
     ),
   ),
 )
@@ -119,8 +124,19 @@ world_send a P p = declared_send (world.the_type a P) (
 )
 
 source_send : (a p : NamedLft) (S : RattleType) → IsSend S → IsSend (source.the_row a p S)
-source_send a p S s = declared_send (source.the_type a p S)
-    (search (sendable, crosses) depth 20, (search (sendable, s) depth 20, (search sendable depth 20, (search sendable depth 20, (search (sendable, world_send, partition.the_send) depth 20, tt)))))
+source_send a p S s = declared_send (source.the_type a p S) (
+  search (sendable, crosses) depth 20,
+  (
+    search (sendable, s) depth 20,
+    (
+      search sendable depth 20,
+      (
+        search (sendable, start.the_sync) depth 20,
+        (search sendable depth 20, (search (sendable, world_send, partition.the_send) depth 20, tt)),
+      ),
+    ),
+  ),
+)
 
 stage_send : (a p : NamedLft) → IsSend (stage.the_row a p)
 stage_send a p = declared_send (stage.the_type a p) (
@@ -131,15 +147,29 @@ stage_send a p = declared_send (stage.the_type a p) (
       search sendable depth 20,
       (
         search sendable depth 20,
-        (search sendable depth 20, (search (sendable, world_send, partition.the_send) depth 20, tt)),
+        (
+          search (sendable, start.the_sync) depth 20,
+          (search sendable depth 20, (search (sendable, world_send, partition.the_send) depth 20, tt)),
+        ),
       ),
     ),
   ),
 )
 
 aggregate_send : (a p : NamedLft) → IsSend (aggregate.the_row a p)
-aggregate_send a p = declared_send (aggregate.the_type a p)
-    (search (sendable, crosses) depth 20, (search (sendable, gate_send) depth 20, (search sendable depth 20, (search sendable depth 20, (search (sendable, world_send) depth 20, tt)))))
+aggregate_send a p = declared_send (aggregate.the_type a p) (
+  search (sendable, crosses) depth 20,
+  (
+    search (sendable, gate_send) depth 20,
+    (
+      search sendable depth 20,
+      (
+        search (sendable, start.the_sync) depth 20,
+        (search sendable depth 20, (search (sendable, world_send) depth 20, tt)),
+      ),
+    ),
+  ),
+)
 
 pub task_send : (a p : NamedLft) (S : RattleType) → IsSend S → IsSend (task.the_row a p S)
 task_send a p S s = variants_send (task.enum a p S) ((source_send a p S s, tt), ((stage_send a p, tt), ((aggregate_send a p, tt), tt)))

@@ -9,7 +9,7 @@ use Rattle.job_workers.specs.declared.collecting.CollectTask.{CollectTask}
 
 -- It is lent fresh passes.
 abbrev pub MayCollect : CollectTask → Type 0
-MayCollect task = IsLent task.every task.world
+MayCollect task = IsLent task.start.now task.every task.world
 
 -- A keeper takes images from number 1 on.
 abbrev pub TakesImages : Option (List KeptImage) → Type 0
@@ -19,4 +19,4 @@ TakesImages told = (n : ℕ) → 0 < n → IsAboveLast told n
 -- those after, and has counted so many faults.
 pub record LeftByCollector (before after : Option (List KeptImage)) (fell rose : ℕ) (task : CollectTask) (end : CollectEnd) : Type 0 where
   pub collecting : IsCollecting task.world.snapshots.now end.collecting
-  pub account : CollectAccount task.world.job.now task.every (received_by end.collecting) before after (mine end.last_pass) end.last fell rose (seen end.stop_pass) end.cause
+  pub account : CollectAccount task.world.job.now task.start.now task.every (received_by end.collecting) before after (mine end.last_pass) end.last fell rose (seen end.stop_pass) end.cause

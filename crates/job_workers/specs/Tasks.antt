@@ -17,6 +17,7 @@ use Rattle.input_gate.specs.Gates.{Account, IsNew}
 use Rattle.input_gate.specs.States.{GateState, account_in}
 use Rattle.input_gate.specs.Turning.{InputCell, InputPass}
 use Rattle.checkpoint_laws.specs.Chapters.{task_at}
+use Rattle.job_start.specs.Starts.{IsStartFor}
 use Rattle.snapshot_channel.specs.declared.opened.SnapshotChannel.{SnapshotChannel}
 use Rattle.snapshot_channel.specs.declared.opened.TaskPass.{TaskPass}
 use Rattle.snapshot_channel.specs.Passes as channels
@@ -40,18 +41,19 @@ IsGateBehind job e gate = IsNew (account_in gate) × ((account_in gate).channels
 
 pub record MayRunSource {S : Type 0} (job : Job) (task : SourceTask S) : Type 0 where
   pub partition : IsPartitionOf job 0 task.index task.world.partition
-  pub lent : IsLent job 0 task.index task.every task.world
+  pub lent : IsLent job 0 task.index task.start.now task.every task.world
 
 pub record MayRunStage (job : Job) (task : StageTask) : Type 0 where
   pub stage : (task.edge < last_edge job) × (task.index < tasks job (suc task.edge))
   pub gate : IsGateBehind job task.edge task.gate
   pub partition : IsPartitionOf job (suc task.edge) task.index task.world.partition
-  pub lent : IsLent job (suc task.edge) task.index task.every task.world
+  pub lent : IsLent job (suc task.edge) task.index task.start.now task.every task.world
 
 pub record MayRunAggregate (job : Job) (task : AggregateTask) : Type 0 where
   pub index : task.index < tasks job (suc (last_edge job))
   pub gate : IsGateBehind job (last_edge job) task.gate
-  pub lent : IsLent job (suc (last_edge job)) task.index task.every task.world
+  pub start : IsStartFor job task.start.now
+  pub lent : IsLent job (suc (last_edge job)) task.index task.start.now task.every task.world
 
 abbrev pub MayRunTask : {S : Type 0} → Job → Task S → Type 0
 MayRunTask job (Source task) = MayRunSource job task
@@ -97,7 +99,7 @@ pub record LeftBySource {S : Type 0} (left : S → Option (List ℕ)) (faults : 
   pub partition : HasPartitionPasses job 0 task.world.partition end.partition
   pub snapshots : HasSnapshotPass 0 task.index task.world.acks.snapshots.now end.snapshots
   pub last_image : IsPassOf task.world.acks.last_image.now end.last_image
-  pub account : SourceAccount job task.index task.world.partition.size task.every (passes_in end.partition) (snapshots_in end.snapshots) (seen end.last_image) (left task.input) (faults task.input) (faults input) end.cause
+  pub account : SourceAccount job task.index task.world.partition.size task.start.now task.every (passes_in end.partition) (snapshots_in end.snapshots) (seen end.last_image) (left task.input) (faults task.input) (faults input) end.cause
 
 -- A stateless task has its account by what its gate's passes tell.
 pub record LeftByStage {S : Type 0} (job : Job) (task : StageTask) (end : TaskLeft S) : Type 0 where
@@ -109,7 +111,7 @@ pub record LeftByStage {S : Type 0} (job : Job) (task : StageTask) (end : TaskLe
   pub given : Account
   pub tells : TellsGiven (gate_in end.gate) given
   pub takes : List TakeRun
-  pub account : StageAccount job task.edge task.index task.world.partition.size task.every given (passes_in end.partition) (snapshots_in end.snapshots) (seen end.last_image) takes end.cause
+  pub account : StageAccount job task.edge task.index task.world.partition.size task.start.now task.every given (passes_in end.partition) (snapshots_in end.snapshots) (seen end.last_image) takes end.cause
 
 -- So has a task of the aggregate.
 pub record LeftByAggregate {S : Type 0} (job : Job) (task : AggregateTask) (end : TaskLeft S) : Type 0 where
@@ -121,7 +123,7 @@ pub record LeftByAggregate {S : Type 0} (job : Job) (task : AggregateTask) (end 
   pub given : Account
   pub tells : TellsGiven (gate_in end.gate) given
   pub takes : List TakeRun
-  pub account : AggregateAccount job task.index task.every given (snapshots_in end.snapshots) (seen end.last_image) takes end.cause
+  pub account : AggregateAccount job task.index task.start.now task.every given (snapshots_in end.snapshots) (seen end.last_image) takes end.cause
 
 abbrev pub LeftByTask : {S : Type 0} → (S → Option (List ℕ)) → (S → ℕ) → Job → Task S → TaskLeft S → Type 0
 LeftByTask left faults job (Source task) end = LeftBySource left faults job task end

@@ -4,15 +4,17 @@ ghost use Rattle.job_workers.specs.Collecting.{LeftByCollector, MayCollect, Take
 use crate::keeping::KeepingWorker;
 use crate::place::Place;
 use collecting_worker::{CollectEnd, CollectWorld, collect_images};
+use job_start::Start;
 use outside::Keeper;
 use std::alloc::Global;
 use std::sync::Wait;
 
-/// What the worker that collects is run with: how many lines a source reads between two checkpoints, from 1, or
-/// None for the last one alone, and what it shares with others.
+/// What the worker that collects is run with: from where the tasks of the job go on, how many lines a source reads
+/// between two checkpoints, from 1, or None for the last one alone, and what it shares with others.
 #[derive(Drop)]
 pub struct CollectTask<'a> {
     pub alloc: Global,
+    pub start: &'a Start,
     pub every: Option<u64>,
     pub world: CollectWorld<'a>,
 }
@@ -32,9 +34,10 @@ impl<'a, K: Keeper> KeepingWorker<K> for CollectTask<'a> {
     fn run<R: Wait>(self, rt: &R, keeper: &mut K) -> CollectEnd {
         let CollectTask {
             alloc,
+            start,
             every,
             world,
         } = self;
-        collect_images(rt, alloc, keeper, every, world)
+        collect_images(rt, alloc, keeper, start, every, world)
     }
 }

@@ -8,6 +8,7 @@ use crate::place::Worker;
 use aggregate_task::run_aggregate;
 use flow_defs::{Cause, Job};
 use input_gate::{CellGate, GatePasses};
+use job_start::Start;
 use outside::{LastImage, Source};
 use record_writer::{Partition, PartitionPasses};
 use snapshot_channel::TaskPass;
@@ -25,6 +26,8 @@ pub struct SourceTask<'a, 'p, S> {
     pub alloc: Global,
     pub input: S,
     pub index: u32,
+    /// From where the tasks of the job go on.
+    pub start: &'a Start,
     /// How many lines a source reads between two checkpoints, from 1. None: there is only the last one.
     pub every: Option<u64>,
     pub world: World<'a, Partition<'a, 'p>>,
@@ -37,6 +40,7 @@ pub struct StageTask<'a, 'p> {
     pub gate: CellGate<'a, 'p>,
     pub edge: u32,
     pub index: u32,
+    pub start: &'a Start,
     pub every: Option<u64>,
     pub world: World<'a, Partition<'a, 'p>>,
 }
@@ -47,6 +51,7 @@ pub struct AggregateTask<'a, 'p> {
     pub alloc: Global,
     pub gate: CellGate<'a, 'p>,
     pub index: u32,
+    pub start: &'a Start,
     pub every: Option<u64>,
     pub world: World<'a, ()>,
 }
@@ -85,11 +90,12 @@ fn run_source_task<'a, 'p, S: Source, R: Wait>(
         alloc,
         input,
         index,
+        start,
         every,
         world,
     } = task;
     let mut input = input;
-    let end = run_source(rt, alloc, job, &mut input, index, every, world);
+    let end = run_source(rt, alloc, job, &mut input, index, start, every, world);
     let TaskEnd { passes, cause, .. } = end;
     let WorldPasses {
         partition,
@@ -123,10 +129,13 @@ fn run_stage_task<'a, 'p, S, R: Wait>(
         gate,
         edge,
         index,
+        start,
         every,
         world,
     } = task;
-    let end = run_stage(rt, alloc, job, functions, gate, edge, index, every, world);
+    let end = run_stage(
+        rt, alloc, job, functions, gate, edge, index, start, every, world,
+    );
     let TaskEnd {
         gate,
         passes,
@@ -164,10 +173,11 @@ fn run_aggregate_task<'a, 'p, S, R: Wait>(
         alloc,
         gate,
         index,
+        start,
         every,
         world,
     } = task;
-    let end = run_aggregate(rt, alloc, job, functions, gate, index, every, world);
+    let end = run_aggregate(rt, alloc, job, functions, gate, index, start, every, world);
     let TaskEnd {
         gate,
         passes,

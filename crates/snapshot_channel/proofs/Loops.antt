@@ -5,6 +5,7 @@ use Rattle.std.proofs.lemmas.List.Elements.{All-pop, All-nil}
 use Rattle.crossbeam_channel.specs.Claims.{view}
 use Rattle.flow_defs.specs.declared.task.TaskId.{TaskId}
 use Rattle.flow_defs.specs.declared.job.Job.{Job}
+use Rattle.job_start.specs.declared.start.Start.{Start}
 use Rattle.flow_defs.specs.Jobs.{tasks, last_edge}
 use Rattle.plain_machine.specs.Worth.{concat_below}
 use Rattle.snapshot_channel.specs.declared.opened.SnapshotChannel.{SnapshotChannel}
@@ -65,8 +66,8 @@ opening_begins o channel collecting passes e h v none =
       };
     }
 
-pub opening_ends : (job : Job) (base : ℕ) (every : Option ℕ) (o : Opened) (n : ℕ) → n ≡ length job.stages.items + 2 → IsOpening (opening job base every) o.channel n o.collecting o.passes.items → IsOpened job base every o
-opening_ends job base every o n e h =
+pub opening_ends : (job : Job) (start : Start) (every : Option ℕ) (o : Opened) (n : ℕ) → n ≡ length job.stages.items + 2 → IsOpening (opening job start every) o.channel n o.collecting o.passes.items → IsOpened job start every o
+opening_ends job start every o n e h =
     let d = h.dealt in
     let all : n ≡ suc (suc (last_edge job)) = omega arith in
     record {

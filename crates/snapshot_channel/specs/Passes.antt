@@ -5,6 +5,7 @@ use Rattle.crossbeam_channel.specs.Ends.{sends_on, receives_on}
 use Rattle.flow_defs.specs.declared.job.Job.{Job}
 use Rattle.flow_defs.specs.declared.task.TaskId.{TaskId}
 use Rattle.flow_defs.specs.declared.image.Snapshot.{Snapshot}
+use Rattle.job_start.specs.declared.start.Start.{Start}
 use Rattle.snapshot_channel.specs.declared.opened.SnapshotChannel.{SnapshotChannel}
 use Rattle.snapshot_channel.specs.declared.opened.TaskPass.{TaskPass}
 use Rattle.snapshot_channel.specs.declared.opened.CollectingPass.{CollectingPass}
@@ -16,12 +17,12 @@ use Rattle.snapshot_channel.specs.declared.views.View.TheVariants.{Sending, Coll
 use Rattle.snapshot_channel.specs.Snapshots.{task, all_tasks, tasks_below, IsTask, MaySendAll, snapshots_of, IsBeginning}
 use Rattle.snapshot_channel.specs.Views.{handed, IsFrom}
 
-abbrev pub opening : Job → ℕ → Option ℕ → Opening
-opening job base every = record { job = job; base = base; every = every }
+abbrev pub opening : Job → Start → Option ℕ → Opening
+opening job start every = record { job = job; start = start; every = every }
 
 -- For what the channel was opened.
 abbrev pub opening_of : SnapshotChannel → Opening
-opening_of channel = opening channel.job.value channel.base channel.every
+opening_of channel = opening channel.job.value channel.start.value channel.every
 
 -- ---- what the views say
 
@@ -108,10 +109,10 @@ pub record IsDealt (channel : SnapshotChannel) (n : ℕ) (collecting : Collectin
   pub passes_are : All (IsFresh channel) passes
   pub tasks_are : map task_of passes ≡ tasks_below (opening_of channel).job n
 
--- The channel is opened for this job: each of its tasks has a pass, in the order of their stages and then
+-- The channel is opened for this job and from where it goes on: each of its tasks has a pass, in the order of their stages and then
 -- of their indices, and nothing is sent.
-pub record IsOpened (job : Job) (base : ℕ) (every : Option ℕ) (o : Opened) : Type 0 where
-  pub opening_is : opening_of o.channel ≡ opening job base every
+pub record IsOpened (job : Job) (start : Start) (every : Option ℕ) (o : Opened) : Type 0 where
+  pub opening_is : opening_of o.channel ≡ opening job start every
   pub collecting_is : IsCollecting o.channel o.collecting
   pub none_received : received_by o.collecting ≡ []
   pub passes_are : All (IsFresh o.channel) o.passes.items

@@ -1,7 +1,7 @@
 -- Which snapshots a task may send. As in FLIP-76 a task acknowledges each checkpoint with one snapshot.
 -- That checkpoints are numbered one by one, and what a source that has ended tells, is this project's
 -- own choice.
-use Rattle.std.specs.Prelude.{◌≡◌, ◌≢◌, ℕ, zero, suc, ◌+◌, ◌<◌, ◌≤◌, ◌==◌, ◌&&◌, Bool, true, false, ⊤, List, [], ◌∷◌, ◌++◌, length, filter, All, AllPairs, Option, Some, None}
+use Rattle.std.specs.Prelude.{◌≡◌, ◌≢◌, ℕ, zero, suc, ◌+◌, ◌<◌, ◌≤◌, ◌==◌, ◌&&◌, ◌||◌, Bool, true, false, ⊤, List, [], ◌∷◌, ◌++◌, length, filter, All, AllPairs, Option, Some, None}
 use Rattle.std.specs.List.{list_any}
 use Rattle.flow_defs.specs.declared.job.Job.{Job}
 use Rattle.flow_defs.specs.declared.task.TaskId.{TaskId}
@@ -12,6 +12,7 @@ use Rattle.flow_defs.specs.declared.image.TakeRun.{TakeRun}
 use Rattle.flow_defs.specs.Jobs.{tasks, last_edge, is_channel}
 use Rattle.plain_machine.specs.Images.{AreRuns, HasShortKeys}
 use Rattle.plain_machine.specs.Worth.{concat_below}
+use Rattle.job_start.specs.Starts.{was_ended}
 use Rattle.snapshot_channel.specs.declared.views.Opening.{Opening}
 
 -- A task, by its stage and its index there.
@@ -69,19 +70,23 @@ pub record FitsTask (job : Job) (x : Snapshot) : Type 0 where
   pub goes_out : All (λ (p : Saved). ComesFrom job x.task p.channel) x.saved_out.items
   pub goes_out_once : HaveOwnChannels x.saved_out.items
 
+-- Whether a source has told that it is at its end, or was there before.
+abbrev pub has_ended : Bool → List Snapshot → Bool
+has_ended was before = was || list_any (λ (x : Snapshot). x.ended) before
+
 -- With no interval between checkpoints a source reads to its end. With one it stays at its end once it
--- has told so.
-abbrev pub IsAtEnd : Option ℕ → List Snapshot → Type 0
-IsAtEnd None before = ⊤
-IsAtEnd (Some every) before = list_any (λ (x : Snapshot). x.ended) before ≡ true
+-- is there.
+abbrev pub IsAtEnd : Option ℕ → Bool → List Snapshot → Type 0
+IsAtEnd None was before = ⊤
+IsAtEnd (Some every) was before = has_ended was before ≡ true
 
 -- What a task may send behind the snapshots that it has sent: a snapshot of its own, with the next
 -- number, that fits it. That of a source at its end tells so.
 pub record MaySend (opening : Opening) (t : TaskId) (before : List Snapshot) (x : Snapshot) : Type 0 where
   pub task_is : x.task ≡ t
-  pub number_is : x.number ≡ opening.base + length before + 1
+  pub number_is : x.number ≡ opening.start.number + length before + 1
   pub fits : FitsTask opening.job x
-  pub at_end : t.stage ≡ 0 → IsAtEnd opening.every before → x.ended ≡ true
+  pub at_end : t.stage ≡ 0 → IsAtEnd opening.every (was_ended opening.start t.index) before → x.ended ≡ true
 
 -- Behind those sent before, a task of the job may send these, one after another.
 abbrev pub MaySendAll : Opening → TaskId → List Snapshot → List Snapshot → Type 0

@@ -7,6 +7,7 @@ use Rattle.flow_defs.specs.declared.job.Job.{Job}
 use Rattle.flow_defs.specs.declared.job.AggKind.TheVariants.{Count}
 use Rattle.flow_defs.specs.declared.task.TaskId.{TaskId}
 use Rattle.flow_defs.specs.declared.image.Snapshot.{Snapshot}
+use Rattle.job_start.specs.declared.start.Start.{Start}
 use Rattle.snapshot_channel.specs.declared.views.Opening.{Opening}
 use Rattle.snapshot_channel.specs.declared.views.Sends.{Sends}
 use Rattle.snapshot_channel.specs.declared.views.Handed.{Handed}
@@ -25,8 +26,17 @@ no_job = record {
   text = record { items = []; room = 0 };
 }
 
+abbrev pub no_start : Start
+no_start = record {
+  number = 0;
+  offsets = record { items = []; room = 0 };
+  ended = record { items = []; room = 0 };
+  emitted = record { items = []; room = 0 };
+  tables = record { items = []; room = 0 };
+}
+
 abbrev pub no_opening : Opening
-no_opening = record { job = no_job; base = 0; every = None }
+no_opening = record { job = no_job; start = no_start; every = None }
 
 abbrev pub sends : Opening → TaskId → List Snapshot → Sends
 sends opening t sent = record { opening = opening; task = t; sent = sent }

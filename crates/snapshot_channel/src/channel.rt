@@ -11,6 +11,7 @@ use crate::opened::{CollectingPass, Line, LinePass, Opened, SnapshotChannel, Tas
 use crate::rule::{Deal, Gather, Got, Met, Open, Opens, Sent, Whose};
 use crossbeam_channel::bounded_with;
 use flow_defs::{Job, ListOf, Snapshot, TaskId};
+use job_start::Start;
 use std::alloc::{AllocError, Global};
 use std::marker::Brand;
 use std::snapshot;
@@ -20,14 +21,20 @@ use std::sync::Wait;
 const ROOM: usize = 64;
 
 // Opens a line for what `B` names.
-fn open_for<B: Opens>(line: &Line, pass: &mut LinePass, job: &Job, base: u64, every: Option<u64>)
-    requires opening { B.opening ≡ opening job.now base every }
+fn open_for<B: Opens>(
+    line: &Line,
+    pass: &mut LinePass,
+    job: &Job,
+    start: &Start,
+    every: Option<u64>,
+)
+    requires opening { B.opening ≡ opening job.now start.now every }
     requires seat { IsSeatAt (sends_on line.now) pass.old }
     requires unopened { IsUnopened (view pass.old) }
     ensures seat { IsSeatAt (sends_on line.now) pass.new }
-    ensures view { view pass.new ≡ opened (opening job.now base every) (view pass.old) }
+    ensures view { view pass.new ≡ opened (opening job.now start.now every) (view pass.old) }
 {
-    let (_job, _base, _every) = (job, base, every);
+    let (_job, _start, _every) = (job, start, every);
     let _spent = line.another::<Open<B>>(pass);
 }
 
@@ -44,20 +51,20 @@ fn deal_to<B: Whose>(line: &Line, pass: &mut LinePass, whose: TaskId) -> LinePas
 }
 
 impl SnapshotChannel {
-    /// A channel for this job: the number of the checkpoint before the first one, and the lines that a
-    /// source reads between two checkpoints, or None where it reads to its end. It has room for one
-    /// snapshot of each task of the largest job.
+    /// A channel for this job, whose tasks go on from here, and for the lines that a source reads between two
+    /// checkpoints, or None where it reads to its end. It has room for one snapshot of each task of the largest
+    /// job.
     pub fn open(
         alloc: Global,
         job: &Job,
-        base: u64,
+        start: &Start,
         every: Option<u64>,
     ) -> Result<Opened, AllocError>
         requires { IsJob job.now }
-        ensures { IfOk result (λ o. IsOpened job.now base every o) }
+        ensures { IfOk result (λ o. IsOpened job.now start.now every o) }
     {
         let mut passes = ListOf::new(alloc);
-        let (channel, mut collecting) = SnapshotChannel::line(alloc, job, base, every)?;
+        let (channel, mut collecting) = SnapshotChannel::line(alloc, job, start, every)?;
         for stage in 0..job.edges() + 1 {
             let count = job.tasks(stage);
             channel.deal_stage(&mut collecting, &mut passes, stage as u32, count)?;
@@ -106,20 +113,20 @@ impl SnapshotChannel {
     fn line(
         alloc: Global,
         job: &Job,
-        base: u64,
+        start: &Start,
         every: Option<u64>,
     ) -> Result<(SnapshotChannel, CollectingPass), AllocError>
-        ensures opening { IfOk result (λ r. opening_of r.0 ≡ opening job.now base every) }
+        ensures opening { IfOk result (λ r. opening_of r.0 ≡ opening job.now start.now every) }
         ensures collecting { IfOk result (λ r. IsCollecting r.0 r.1) }
-        ensures empty { IfOk result (λ r. view r.1.pass ≡ opened (opening job.now base every) unopened) }
+        ensures empty { IfOk result (λ r. view r.1.pass ≡ opened (opening job.now start.now every) unopened) }
     {
         let (line, line_end, mut pass) = bounded_with(alloc, ROOM)?;
-        open_for::<Brand>(&line, &mut pass, job, base, every);
+        open_for::<Brand>(&line, &mut pass, job, start, every);
         let channel = SnapshotChannel {
             line,
             line_end,
             job: snapshot::Snapshot::of(job),
-            base,
+            start: snapshot::Snapshot::of(start),
             every,
         };
         Ok((channel, CollectingPass { pass }))

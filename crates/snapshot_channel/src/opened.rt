@@ -6,6 +6,7 @@ use crate::rule::Order;
 use crate::views::View;
 use crossbeam_channel::{Pass, RuledReceiver, RuledSender};
 use flow_defs::{Job, ListOf, Snapshot};
+use job_start::Start;
 use std::snapshot;
 
 pub type Line = RuledSender<Snapshot, View, Order>;
@@ -20,7 +21,7 @@ pub struct SnapshotChannel {
     pub(crate) line: Line,
     pub(crate) line_end: LineEnd,
     pub(crate) job: snapshot::Snapshot<Job>,
-    pub(crate) base: u64,
+    pub(crate) start: snapshot::Snapshot<Start>,
     pub(crate) every: Option<u64>,
     ghost one_line: { receives_on line_end ≡ sends_on line },
 }

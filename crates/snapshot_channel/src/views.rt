@@ -1,12 +1,13 @@
 //! What a pass knows. No value of these types is made.
 use flow_defs::{Job, Snapshot, TaskId};
+use job_start::Start;
 use std::collections::LinkedList;
 
-/// What a channel is opened for: a job, the number of the checkpoint before the first one, and the lines
-/// that a source reads between two checkpoints, or none where it reads to its end.
+/// What a channel is opened for: a job, from where its tasks go on, and the lines that a source reads between
+/// two checkpoints, or none where it reads to its end.
 pub struct Opening {
     pub job: Job,
-    pub base: u64,
+    pub start: Start,
     pub every: Option<u64>,
 }
 

@@ -1,11 +1,10 @@
 -- What a source did, told by chapters.
-use Rattle.std.proofs.Common.{◌≡◌, ℕ, zero, suc, ◌+◌, ◌-◌, ◌<◌, ◌≤◌, Bool, true, false, List, [], ◌∷◌, ◌++◌, length, map, take, drop, Option, Some, None, refl, sym, ap, subst, ◌∙◌, append_assoc, arith}
-use Rattle.std.specs.Prelude.{slice_index, slice_range}
+use Rattle.std.proofs.Common.{◌≡◌, ℕ, zero, suc, ◌+◌, ◌-◌, ◌<◌, ◌≤◌, Bool, true, false, List, [], ◌∷◌, ◌++◌, length, map, take, drop, Option, Some, None, unwrap_or, refl, sym, ap, subst, ◌∙◌, append_assoc, arith}
+use Rattle.std.specs.Prelude.{slice_index, slice_get, slice_range}
 use Rattle.std.specs.List.{AllByRecursion}
 use Rattle.std.proofs.Math.Nat.{min-eq_left, min_comm}
 use Rattle.std.proofs.lemmas.Bool.{and_parts, ltb-true, lt-ltb, le-ltb, eqb-true}
-use Rattle.std.proofs.lemmas.List.{length-append}
-use Rattle.std.proofs.lemmas.List.Elements.{recursion_from_All}
+use Rattle.std.proofs.lemmas.List.{length-append, length-take-le, take-append-drop, drop_all}
 use Rattle.flow_defs.specs.declared.image.Snapshot.{Snapshot}
 use Rattle.flow_defs.specs.declared.job.Exchange.{Exchange}
 use Rattle.flow_defs.specs.declared.job.Exchange.TheVariants.{Hash, Rebalance, Forward}
@@ -18,9 +17,11 @@ use Rattle.plain_machine.specs.Places.{sender_place}
 use Rattle.plain_machine.specs.Theorems.{EmittedAreShort}
 use Rattle.checkpoint_laws.specs.Puts.{stretches}
 use Rattle.checkpoint_laws.specs.Chapters.{Linked, OffsetGoesOn, Chapter, opening, Step}
+use Rattle.job_start.specs.Starts.{from_of, was_ended}
 use Rattle.record_writer.specs.Writers.{ways, receiver_at}
+use Rattle.snapshot_channel.specs.Snapshots.{has_ended}
 use Rattle.task_output.specs.Outputs.{brought, all_of, place_to, parcels_to}
-use Rattle.source_task.specs.Emitting.{IsInterval, AreSnapshots, has_ended}
+use Rattle.source_task.specs.Emitting.{IsInterval, AreSnapshots}
 use Rattle.source_task.specs.Accounts.{SourceHasAccount}
 use Rattle.source_task.proofs.Snapshots.{or_first, or_second}
 
@@ -44,11 +45,17 @@ all_second : {A : Type 0} (P : A → Type 0) (xs ys : List A) → AllByRecursion
 all_second P [] ys all = all
 all_second P (x ∷ xs) ys all = all_second P xs ys all.1
 
-zero_at : (xs : List ℕ) → AllByRecursion (λ (n : ℕ). n ≡ 0) xs → (i : ℕ) → slice_index xs i ≡ 0
-zero_at [] all zero = refl
-zero_at [] all (suc i) = refl
-zero_at (x ∷ xs) all zero = all.0
-zero_at (x ∷ xs) all (suc i) = zero_at xs all.1 i
+none_last : (xs ys : List (List ℕ)) → xs ++ ys ≡ [] → ys ≡ []
+none_last [] ys e = e
+none_last (x ∷ xs) ys e = absurd (cc)
+
+same_tail : (xs ys : List (List ℕ)) → xs ++ ys ≡ xs → ys ≡ []
+same_tail [] ys e = e
+same_tail (x ∷ xs) ys e = same_tail xs ys (cc)
+
+is_there : (told : Option Bool) → unwrap_or told false ≡ true → told ≡ Some true
+is_there None is = absurd (cc)
+is_there (Some b) is = ap (λ (b : Bool). Some b) is
 
 -- ---- the chapters
 
@@ -90,7 +97,7 @@ goes (Some n) all old new lines true interval is within last =
 
 module _ (short_law : EmittedAreShort) (job : Job) (all : ℕ → List (List ℕ)) (a : ℕ) (every : Option ℕ) where
   steps_of : (k offset n : ℕ) (groups : List (List (List ℕ))) (xs : List Snapshot) (front tail : List (List ℕ)) (old : Chapter) → AreSnapshots a every k offset n groups xs
-      → old.snapshot.number ≡ k → old.snapshot.offset ≡ offset → old.snapshot.emitted ≡ n → offset ≡ length front → all a ≡ front ++ (all_of groups ++ tail) → AllByRecursion IsShort (all_of groups) → (has_ended xs ≡ true → tail ≡ [])
+      → old.snapshot.number ≡ k → old.snapshot.offset ≡ offset → old.snapshot.emitted ≡ n → offset ≡ length front → all a ≡ front ++ (all_of groups ++ tail) → AllByRecursion IsShort (all_of groups) → (has_ended false xs ≡ true → tail ≡ [])
       → Linked (Step job all every 0 a) old (chapters_of job a n groups xs)
   unfolding chapters_of
   steps_of k offset n [] [] front tail old are one two three is all_are short none = tt
@@ -110,7 +117,7 @@ module _ (short_law : EmittedAreShort) (job : Job) (all : ℕ → List (List ℕ
           task = at.task;
           number = at.number ∙ omega (arith, one);
           goes = goes every (length (all a)) old.snapshot.offset x.offset (length g) x.ended are.1 (at.offset_is ∙ omega (arith, two)) (omega (arith, at.offset_is, is, size))
-              (λ ended. let no_later = ap length (are.2 ended) in let no_tail = ap length (none (or_first x.ended (has_ended xs) ended)) in omega (arith, at.offset_is, is, size, no_later, no_tail));
+              (λ ended. let no_later = ap length (are.2 ended) in let no_tail = ap length (none (or_first x.ended (has_ended false xs) ended)) in omega (arith, at.offset_is, is, size, no_later, no_tail));
           emits = record {
             count = at.emitted_is ∙ ap (λ m. count_after m g) (sym three) ∙ ap (count_after old.snapshot.emitted) (sym slice);
             puts = λ b channel. record {
@@ -120,7 +127,7 @@ module _ (short_law : EmittedAreShort) (job : Job) (all : ℕ → List (List ℕ
           };
         },
         steps_of (suc k) (offset + length g) (count_after n g) groups xs (front ++ g) tail this are.3 at.number at.offset_is at.emitted_is (omega (arith, is, length-append front g))
-            (parts ∙ sym (append_assoc front g (later ++ tail))) (all_second IsShort g later short) (λ ended. none (or_second x.ended (has_ended xs) ended)),
+            (parts ∙ sym (append_assoc front g (later ++ tail))) (all_second IsShort g later short) (λ ended. none (or_second x.ended (has_ended false xs) ended)),
       )
 
 -- ---- the channel to a task
@@ -134,34 +141,48 @@ place_of Hash a n b within joined = record { inside = within; leads = refl }
 place_of Rebalance a n b within joined = record { inside = within; leads = refl }
 place_of Forward a n b within joined = record { inside = omega arith; leads = eqb-true a b joined }
 
+-- ---- the account
+
 pub source_has_account : EmittedAreShort → SourceHasAccount
-source_has_account short_law job all base a size every passes sent history bytes fell rose cause start inside all_is was =
+source_has_account short_law job all start base a size every passes sent history bytes fell rose cause is_base unchanged inside all_is was =
+    let from = from_of job start 0 a in
     let to = receiver_on job 0 a in
+    let at = is_base.at in
     let rest = was.rest ++ was.begun in
     let front = was.front in
-    let whole : all a ≡ [] ++ (all_of was.groups ++ (rest ++ front.0)) = all_is ∙ front.1 ∙ append_assoc (all_of was.groups) rest front.0 in
-    let chapters = chapters_of job a 0 was.groups sent in
+    let offset : slice_index base.offsets.items a ≡ from.offset = ap (λ l. slice_index l a) (sym at.offsets) in
+    let emitted : slice_index base.emitted.items (sender_place job 0 a) ≡ from.emitted = ap (λ l. slice_index l (sender_place job 0 a)) (sym at.emitted) in
+    let read : from.offset ≤ length (all a) = subst (λ n. n ≤ length (all a)) offset (unchanged.read a inside) in
+    let behind : drop from.offset (all a) ≡ all_of was.groups ++ (rest ++ front.0) = ap (λ l. drop from.offset l) all_is ∙ front.1 ∙ append_assoc (all_of was.groups) rest front.0 in
+    let whole : all a ≡ take from.offset (all a) ++ (all_of was.groups ++ (rest ++ front.0)) = sym (take-append-drop from.offset (all a)) ∙ ap (λ l. take from.offset (all a) ++ l) behind in
+    let chapters = chapters_of job a from.emitted was.groups sent in
     let more : ℕ → List (List ℕ) = λ b. drop (length was.groups) (stretches (parcels_to job 0 passes b)) in (
       chapters,
       more,
       record {
-        steps = steps_of short_law job all a every 0 0 0 was.groups sent [] (rest ++ front.0) (opening job base 0 a) was.snapshots start.number
-            (zero_at base.offsets.items (recursion_from_All (λ (n : ℕ). n ≡ 0) base.offsets.items start.offsets) a)
-            (zero_at base.emitted.items (recursion_from_All (λ (n : ℕ). n ≡ 0) base.emitted.items start.emitted) (sender_place job 0 a))
-            refl whole (all_first IsShort (all_of was.groups) rest was.short)
-            (λ ended. let last = was.at_end ended in
-            same_tail (all_of was.groups) (rest ++ front.0) (sym (sym last.0 ∙ sym all_is ∙ whole)));
-        snapshots = sent_are job a every 0 0 0 was.groups sent was.snapshots;
+        steps = steps_of short_law job all a every from.number from.offset from.emitted was.groups sent (take from.offset (all a)) (rest ++ front.0) (opening job base 0 a) was.snapshots (sym at.number) offset emitted
+            (sym (length-take-le from.offset (all a) read)) whole (all_first IsShort (all_of was.groups) rest was.short) (λ ended. no_tail (was_ended start a) refl ended behind);
+        snapshots = sent_are job a every from.number from.offset from.emitted was.groups sent was.snapshots;
         puts = λ b channel.
             let parts = and_parts _ _ channel in
             let place = place_of (exchange job 0) a (tasks job 1) b (ltb-true b (tasks job 1) (and_parts _ _ parts.0).1) parts.1 in
             let on = was.put (place_to (exchange job 0) b) place.inside in
-            let cut : stretches (parcels_to job 0 passes b) ≡ brought to 0 was.groups b ++ on.more = on.cut ∙ ap (λ t. brought to 0 was.groups t ++ on.more) place.leads in
-            cut ∙ ap (λ l. l ++ on.more) (sym (puts_are job a every b 0 0 0 was.groups sent was.snapshots))
-            ∙ ap (λ l. map (λ (c : Chapter). c.put b) chapters ++ l) (sym (ap (drop (length was.groups)) cut ∙ drop_front (brought to 0 was.groups b) on.more (length was.groups) (many_brought job a to 0 was.groups b)));
+            let cut : stretches (parcels_to job 0 passes b) ≡ brought to from.emitted was.groups b ++ on.more = on.cut ∙ ap (λ t. brought to from.emitted was.groups t ++ on.more) place.leads in
+            cut ∙ ap (λ l. l ++ on.more) (sym (puts_are job a every b from.number from.offset from.emitted was.groups sent was.snapshots))
+            ∙ ap (λ l. map (λ (c : Chapter). c.put b) chapters ++ l) (sym (ap (drop (length was.groups)) cut ∙ drop_front (brought to from.emitted was.groups b) on.more (length was.groups) (many_brought job a to from.emitted was.groups b)));
       },
     )
   where
-    same_tail : (xs ys : List (List ℕ)) → xs ++ ys ≡ xs → ys ≡ []
-    same_tail [] ys e = e
-    same_tail (x ∷ xs) ys e = same_tail xs ys (cc)
+    tail : List (List ℕ)
+    tail = (was.rest ++ was.begun) ++ was.front.0
+
+    none_behind : was_ended start a ≡ true → drop (from_of job start 0 a).offset (all a) ≡ []
+    none_behind is =
+        let there : slice_get base.ended.items a ≡ Some true = ap (λ l. slice_get l a) (sym is_base.at.ended) ∙ is_there (slice_get start.ended.items a) is in
+        let far : (from_of job start 0 a).offset ≡ length (all a) = ap (λ l. slice_index l a) is_base.at.offsets ∙ unchanged.ended a inside there in
+        drop_all (from_of job start 0 a).offset (all a) (omega (arith, far))
+
+    -- where it is at its end no line is left
+    no_tail : (b : Bool) → was_ended start a ≡ b → has_ended false sent ≡ true → drop (from_of job start 0 a).offset (all a) ≡ all_of was.groups ++ tail → tail ≡ []
+    no_tail true is ended behind = none_last (all_of was.groups) tail (sym behind ∙ none_behind is)
+    no_tail false is ended behind = same_tail (all_of was.groups) tail (sym behind ∙ ap (λ l. drop (from_of job start 0 a).offset l) all_is ∙ was.whole ended is)

@@ -10,12 +10,11 @@ use Rattle.job_plan.specs.Begun.{IsBegun}
 use Rattle.job_plan.specs.Limits.{HasLongLine}
 use Rattle.job_plan.proofs.LinesLemmas.{goes_on, long_later, long_begun, last_line}
 use Rattle.record_writer.specs.Writers.{HasSeenFault}
-use Rattle.snapshot_channel.specs.Passes.{sent_by}
 use Rattle.task_output.specs.Laws.{SentIsBegun}
 use Rattle.source_task.specs.declared.output.LineFault.{LineFault}
 use Rattle.source_task.specs.declared.output.LineFault.TheVariants as faults
 use Rattle.source_task.specs.declared.output.SourceOutput.{SourceOutput}
-use Rattle.source_task.specs.Emitting.{HasEmitted, HasBroken, BrokeAmong, LineEmitted, BreaksFor, has_ended}
+use Rattle.source_task.specs.Emitting.{HasEmitted, HasBroken, BrokeAmong, LineEmitted, BreaksFor, is_at_end}
 use Rattle.source_task.specs.Cutting.{IsSourceUnderWay, OutputGoesOn, BrokeOff, HasEndedLines, IsLineFault}
 use Rattle.source_task.proofs.Taking.{broken_still}
 
@@ -29,7 +28,7 @@ all-append P (x ∷ xs) ys first second = (first.0, all-append P xs ys first.1 s
 
 module _ (job : Job) (size : ℕ) (out : SourceOutput) (ended : List (List ℕ)) (text : List ℕ) where
   -- it broke off behind lines that had ended
-  broke_behind : (more_ended tail : List (List ℕ)) (fault : LineFault) → HasBroken job size out (ended ++ more_ended) [] → AllByRecursion IsShort (ended ++ more_ended) → lines text ≡ more_ended ++ tail → has_ended (sent_by out.acks.pass) ≡ false → IsLineFault out text fault → BrokeOff job size out ended text fault
+  broke_behind : (more_ended tail : List (List ℕ)) (fault : LineFault) → HasBroken job size out (ended ++ more_ended) [] → AllByRecursion IsShort (ended ++ more_ended) → lines text ≡ more_ended ++ tail → is_at_end out ≡ false → IsLineFault out text fault → BrokeOff job size out ended text fault
   broke_behind more_ended tail fault broken short text_is not_ended fault_is = record {
     done = more_ended;
     begun = [];
@@ -65,7 +64,7 @@ module _ (job : Job) (size : ℕ) (out : SourceOutput) (ended : List (List ℕ))
   line_fault more_ended tail line faults.Stopped text_is long stopped = stopped refl
 
 -- what is left begins the next line
-pub fed_rest : SentIsBegun → (job : Job) (size : ℕ) (out : SourceOutput) → has_ended (sent_by out.acks.pass) ≡ false → (ended more_ended : List (List ℕ)) (first bytes line rest new : List ℕ) (result : Result Unit LineFault) → IsSourceUnderWay job size out line (ended ++ more_ended)
+pub fed_rest : SentIsBegun → (job : Job) (size : ℕ) (out : SourceOutput) → is_at_end out ≡ false → (ended more_ended : List (List ℕ)) (first bytes line rest new : List ℕ) (result : Result Unit LineFault) → IsSourceUnderWay job size out line (ended ++ more_ended)
     → ((more : List ℕ) → lines (first ++ (bytes ++ more)) ≡ more_ended ++ lines (line ++ (rest ++ more))) → IsBegun rest → OnOk result (new ≡ line ++ rest)
     → (result ≡ Err faults.TooLong → RECORD_MAX < length (line ++ rest)) → (result ≡ Err faults.Stopped → ⊥)
     → MatchResult result (λ _. OutputGoesOn job size ended first bytes out new) (λ fault. (more : List ℕ) → BrokeOff job size out ended (first ++ (bytes ++ more)) fault)

@@ -1,3 +1,4 @@
+pub mod Behind
 pub mod Emitting
 pub mod Snapshots
 pub mod Taking

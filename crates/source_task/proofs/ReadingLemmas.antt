@@ -1,5 +1,5 @@
 -- The account of a source.
-use Rattle.std.proofs.Common.{◌≡◌, ◌≢◌, ℕ, suc, ◌+◌, ◌<◌, ◌≤◌, true, false, List, [], ◌∷◌, ◌++◌, length, take, drop, Option, Some, None, IfSome, refl, sym, ap, subst, ◌∙◌, inl, inr, append_assoc, append-nil, arith}
+use Rattle.std.proofs.Common.{◌≡◌, ◌≢◌, ℕ, suc, ◌+◌, ◌<◌, ◌≤◌, true, false, true≢false, List, [], ◌++◌, length, take, drop, Option, Some, None, IfSome, refl, sym, ap, subst, ◌∙◌, inl, inr, append_assoc, append-nil, arith}
 use Rattle.std.specs.Prelude.{⊤}
 use Rattle.std.specs.List.{AllByRecursion}
 use Rattle.std.proofs.lemmas.List.{take-append-drop, length-drop}
@@ -10,6 +10,7 @@ use Rattle.flow_defs.specs.declared.cause.Cause.TheVariants as causes
 use Rattle.flow_defs.specs.declared.job.Job.{Job}
 use Rattle.flow_defs.specs.Lines.{lines}
 use Rattle.flow_defs.specs.Records.{IsShort}
+use Rattle.job_start.specs.Starts.{was_ended}
 use Rattle.outside.specs.Faults.{HasRisen}
 use Rattle.outside.specs.Told.{Reads}
 use Rattle.job_plan.specs.Limits.{HasLongLine}
@@ -17,6 +18,8 @@ use Rattle.job_plan.specs.declared.limits.TheConstants.{SOURCE_MAX}
 use Rattle.job_plan.proofs.LinesLemmas.{long_later, none_begun}
 use Rattle.record_writer.specs.Writers.{HasSeenFault}
 use Rattle.snapshot_channel.specs.Passes.{sent_by}
+use Rattle.snapshot_channel.specs.Snapshots.{has_ended}
+use Rattle.task_output.specs.Acking.{base_of}
 use Rattle.task_output.specs.Outputs.{all_of}
 use Rattle.task_output.specs.Laws.{SentIsBegun, FinishedIsBegun}
 use Rattle.task_output.specs.Waiting.{HasWaited, MayEnd}
@@ -24,9 +27,12 @@ use Rattle.task_output.proofs.Begun.{begun_where}
 use Rattle.source_task.specs.declared.output.LineFault.{LineFault}
 use Rattle.source_task.specs.declared.output.LineFault.TheVariants as faults
 use Rattle.source_task.specs.declared.output.SourceOutput.{SourceOutput}
-use Rattle.source_task.specs.Emitting.{HasEmitted, HasBroken, has_ended}
+use Rattle.source_task.specs.Emitting.{HasEmitted, HasBroken, HasEnded, start_of, from_in, is_at_end}
 use Rattle.source_task.specs.Cutting.{IsSourceUnderWay, OutputGoesOn, BrokeOff, IsLineFault, cause_of_line}
-use Rattle.source_task.specs.Sources.{SourceAccount, SourceEnd, IsSourceCause, EndedAs}
+use Rattle.source_task.specs.Sources.{SourceAccount, SourceEnd, IsSourceCause, EndedAs, EndedBehind}
+use Rattle.source_task.proofs.Behind.{drop_none, starts_behind, all_behind, none_first}
+use Rattle.source_task.proofs.Emitting.{was_not}
+use Rattle.source_task.proofs.Snapshots.{or_second}
 use Rattle.source_task.proofs.Taking.{broken_still}
 
 -- no line follows
@@ -38,7 +44,7 @@ abbrev pub IsOnWay : Job → ℕ → Option (List ℕ) → Option (List ℕ) →
 IsOnWay job size start left taken out line = (ended : List (List ℕ)) × IsSourceUnderWay job size out line ended
     × IfSome start (λ all. (rest : List ℕ) × (left ≡ Some rest) × (taken + length rest ≡ length all) × (lines all ≡ ended ++ lines (line ++ rest)))
 
--- at the start nothing was read
+-- at the beginning nothing was read
 pub at_start : (job : Job) (size : ℕ) (start : Option (List ℕ)) (out : SourceOutput) (line : List ℕ) → HasEmitted job size out [] → line ≡ [] → IsOnWay job size start start 0 out line
 at_start job size start out line emitted none = ([], record { begun = rw none none_begun; short = tt; emitted = emitted }, told start)
   where
@@ -73,52 +79,117 @@ module _ (law : SentIsBegun) (over : FinishedIsBegun) (job : Job) (size : ℕ) (
   line_cause a faults.Memory out start ended text fault_is told = tt
   line_cause a faults.Stopped out start ended text fault_is told = tt
 
+  -- what is told of the input, where these lines were read, those behind the start are the emitted ones, and there are no more of them
+  module _ (out : SourceOutput) (read emitted : List (List ℕ)) (same : emitted ≡ drop (from_in job out).offset read) where
+    front_of : (s : Option (List ℕ)) → IfSome s (λ all. StartsWith (lines all) read) → IfSome s (λ all. StartsWith (drop (from_in job out).offset (lines all)) emitted)
+    front_of None on = tt
+    front_of (Some all) on = subst (λ l. StartsWith (drop (from_in job out).offset (lines all)) l) (sym same) (starts_behind (from_in job out).offset (lines all) read on)
+
+    whole_of : {xs : List (List ℕ)} (s : Option (List ℕ)) → IfSome s (λ all. lines all ≡ read) → xs ≡ emitted → IfSome s (λ all. drop (from_in job out).offset (lines all) ≡ xs)
+    whole_of None on is = tt
+    whole_of (Some all) on is = ap (λ l. drop (from_in job out).offset l) on ∙ sym same ∙ sym is
+
+    short_of : AllByRecursion IsShort read → AllByRecursion IsShort emitted
+    short_of short = subst (AllByRecursion IsShort) (sym same) (all_behind IsShort (from_in job out).offset read short)
+
+    none_of : read ≡ [] → emitted ≡ []
+    none_of none = same ∙ ap (λ l. drop (from_in job out).offset l) none ∙ drop_none (from_in job out).offset
+
   -- it broke off behind these lines, with those begun
-  broke : (out : SourceOutput) (start : Option (List ℕ)) (lines_out begun : List (List ℕ)) (cause : Cause) → HasBroken job size out lines_out begun → AllByRecursion IsShort (lines_out ++ begun) → IfSome start (λ all. StartsWith (lines all) (lines_out ++ begun))
-      → (has_ended (sent_by out.acks.pass) ≡ true → IfSome start (λ all. lines all ≡ lines_out)) → cause ≢ causes.Done → IsSourceCause out.index start fell rose cause → SourceAccount job out.index size out.every out.output.writer.passes (sent_by out.acks.pass) (seen out.acks.last_pass) start fell rose cause
-  broke out start lines_out begun cause broken short front at_end other cause_is =
-      let all = sym (append_assoc (all_of broken.groups) broken.rest begun) ∙ ap (λ l. l ++ begun) broken.all_are in
+  broke : (out : SourceOutput) (left : Option (List ℕ)) (read begun : List (List ℕ)) (cause : Cause) → HasBroken job size out read begun → AllByRecursion IsShort (read ++ begun) → IfSome left (λ all. StartsWith (lines all) (read ++ begun))
+      → (is_at_end out ≡ true → was_ended (start_of out) out.index ≡ false → IfSome left (λ all. lines all ≡ read ++ begun)) → (was_ended (start_of out) out.index ≡ true → read ++ begun ≡ []) → cause ≢ causes.Done → IsSourceCause out.index left fell rose cause
+      → SourceAccount job out.index size (start_of out) out.every out.output.writer.passes (sent_by out.acks.pass) (seen out.acks.last_pass) left fell rose cause
+  broke out left read begun cause broken short front whole still other cause_is =
+      let was = was_ended (start_of out) out.index in
+      let emitted = all_of broken.groups ++ (broken.rest ++ begun) in
       record {
         groups = broken.groups;
         rest = broken.rest;
         begun = begun;
         snapshots = broken.snapshots;
         put = broken.begun_them.each;
-        short = subst (AllByRecursion IsShort) (sym all) short;
-        front = front_of start all front;
-        at_end = λ is. (ended_of start (none_of is) (at_end is), broken.at_end is);
+        short = short_of out (read ++ begun) emitted broken.all_are short;
+        front = front_of out (read ++ begun) emitted broken.all_are left front;
+        at_end = broken.at_end;
+        whole = λ is not.
+            let ended = or_second was (has_ended false (sent_by out.acks.pass)) is in
+            whole_of out (read ++ begun) emitted broken.all_are left (whole ended not) (sym (append-nil (all_of broken.groups)) ∙ ap (λ l. all_of broken.groups ++ l) (sym (broken.at_end ended)));
+        still = λ is. none_first (all_of broken.groups) (broken.rest ++ begun) (none_of out (read ++ begun) emitted broken.all_are (still is));
         done = λ is. absurd (other is);
         within = λ is. absurd (other is);
         never_falls = never_falls;
         cause_is = cause_is;
       }
+
+  -- it ended its channels behind these lines
+  finished : (out : SourceOutput) (left : Option (List ℕ)) (read : List (List ℕ)) → HasEnded job size out read → AllByRecursion IsShort read → IfSome left (λ all. StartsWith (lines all) read)
+      → (was_ended (start_of out) out.index ≡ false → IfSome left (λ all. lines all ≡ read)) → (was_ended (start_of out) out.index ≡ true → read ≡ []) → (was_ended (start_of out) out.index ≡ false → IfSome left (λ all. length all ≤ SOURCE_MAX))
+      → SourceAccount job out.index size (start_of out) out.every out.output.writer.passes (sent_by out.acks.pass) (seen out.acks.last_pass) left fell rose causes.Done
+  finished out left read ended short front whole still within =
+      let base = base_of (start_of out) in
+      let from = (from_in job out).emitted in
+      let emitted = all_of ended.groups ++ no_lines in
+      let same : emitted ≡ drop (from_in job out).offset read = append-nil (all_of ended.groups) ∙ ended.all_are in
+      record {
+        groups = ended.groups;
+        rest = [];
+        begun = [];
+        snapshots = ended.snapshots;
+        put = (begun_where ⊥ (HasWaited base (suc (length ended.groups)) (seen out.acks.last_pass)) ⊤ (MayEnd base out.every (seen out.acks.last_pass) ended.groups no_lines) (λ no. absurd no) (λ _. (ended.last, refl))
+            from job 0 out.index size out.output ended.groups [] [] (over from job 0 out.index size out.output ended.groups [] ended.finished)).each;
+        short = short_of out read emitted same short;
+        front = front_of out read emitted same left front;
+        at_end = λ is. refl;
+        whole = λ is not. whole_of out read emitted same left (whole not) (sym (append-nil (all_of ended.groups)));
+        still = λ is. none_first (all_of ended.groups) no_lines (none_of out read emitted same (still is));
+        done = λ is. (ended.ended, ended.last, ended.finished.each);
+        within = λ is. within;
+        never_falls = never_falls;
+        cause_is = tt;
+      }
+
+  -- it was to read no more
+  ended_behind : (out : SourceOutput) (left : Option (List ℕ)) (read : List (List ℕ)) (cause : Cause) → EndedBehind job size out read cause → AllByRecursion IsShort read → IfSome left (λ all. StartsWith (lines all) read)
+      → (was_ended (start_of out) out.index ≡ false → IfSome left (λ all. lines all ≡ read)) → (was_ended (start_of out) out.index ≡ true → read ≡ []) → (was_ended (start_of out) out.index ≡ false → IfSome left (λ all. length all ≤ SOURCE_MAX))
+      → SourceEnd job size out left fell rose cause
+  ended_behind out left read cause behind short front whole still within = elim behind [
+    | inl done ↦ subst (SourceEnd job size out left fell rose) (sym done.0) (record { account = finished out left read done.1 short front whole still within; stopped = λ is. absurd (done_not_stopped is) })
+    | inr broken ↦ record {
+      account = broke out left read [] cause broken.3 (subst (AllByRecursion IsShort) none short) (subst (λ l. IfSome left (λ all. StartsWith (lines all) l)) none front)
+          (λ ended not. subst (λ l. IfSome left (λ all. lines all ≡ l)) none (whole not)) (λ is. sym none ∙ still is) broken.0
+          (elim broken.2 [ inl memory ↦ subst (IsSourceCause out.index left fell rose) (sym memory) tt | inr stopped ↦ subst (IsSourceCause out.index left fell rose) (sym stopped) tt ]);
+      stopped = broken.1;
+    }
+  ]
     where
-      front_of : (s : Option (List ℕ)) → all_of broken.groups ++ (broken.rest ++ begun) ≡ lines_out ++ begun → IfSome s (λ all. StartsWith (lines all) (lines_out ++ begun)) → IfSome s (λ all. StartsWith (lines all) (all_of broken.groups ++ (broken.rest ++ begun)))
-      front_of None same on = tt
-      front_of (Some all) same on = subst (StartsWith (lines all)) (sym same) on
+      done_not_stopped : causes.Done ≢ causes.Stopped
+      done_not_stopped = λ is. cc
 
-      none_of : has_ended (sent_by out.acks.pass) ≡ true → broken.rest ≡ []
-      none_of is = first broken.rest begun (broken.at_end is)
-        where
-          first : (xs ys : List (List ℕ)) → xs ++ ys ≡ [] → xs ≡ []
-          first [] ys e = refl
-          first (x ∷ xs) ys e = absurd (cc)
+      none : read ≡ read ++ []
+      none = sym (append-nil read)
 
-      ended_of : (s : Option (List ℕ)) → broken.rest ≡ [] → IfSome s (λ all. lines all ≡ lines_out) → IfSome s (λ all. lines all ≡ all_of broken.groups)
-      ended_of None none on = tt
-      ended_of (Some all) none on = on ∙ sym broken.all_are ∙ ap (λ l. all_of broken.groups ++ l) none ∙ append-nil (all_of broken.groups)
+  -- it was at its end at the start, and read nothing
+  pub ended_before : (out : SourceOutput) (left : Option (List ℕ)) (cause : Cause) → was_ended (start_of out) out.index ≡ true → EndedBehind job size out [] cause → SourceEnd job size out left fell rose cause
+  ended_before out left cause was behind = ended_behind out left [] cause behind tt (any left) (λ not. absurd (true≢false (sym was ∙ not))) (λ is. refl) (λ not. absurd (true≢false (sym was ∙ not)))
+    where
+      any : (s : Option (List ℕ)) → IfSome s (λ all. StartsWith (lines all) [])
+      any None = tt
+      any (Some all) = (lines all, refl)
 
   -- it broke off among the lines of this text
   broke_text : (out : SourceOutput) (a : ℕ) (start : Option (List ℕ)) (ended : List (List ℕ)) (text : List ℕ) (fault : LineFault) → out.index ≡ a → IfSome start (λ all. lines all ≡ ended ++ lines text) → BrokeOff job size out ended text fault → SourceEnd job size out start fell rose (cause_of_line a fault)
   broke_text out a start ended text fault index told off = record {
-    account = broke out start (ended ++ off.done) off.begun (cause_of_line a fault) off.broken off.short (front_of start told) (λ is. absurd (cc)) (not_done a fault)
+    account = broke out start (ended ++ off.done) off.begun (cause_of_line a fault) off.broken off.short (begins start told) (λ is. absurd (true≢false (sym is ∙ off.not_ended))) (λ is. absurd (not_before is)) (not_done a fault)
         (subst (λ n. IsSourceCause n start fell rose (cause_of_line a fault)) (sym index) (line_cause a fault out start ended text off.fault_is told));
     stopped = stopped_other a fault out text off.fault_is;
   }
     where
-      front_of : (s : Option (List ℕ)) → IfSome s (λ all. lines all ≡ ended ++ lines text) → IfSome s (λ all. StartsWith (lines all) ((ended ++ off.done) ++ off.begun))
-      front_of None on = tt
-      front_of (Some all) on = (
+      not_before : was_ended (start_of out) out.index ≡ true → ⊥
+      not_before is = true≢false (sym is ∙ was_not (was_ended (start_of out) out.index) (sent_by out.acks.pass) off.not_ended)
+
+      begins : (s : Option (List ℕ)) → IfSome s (λ all. lines all ≡ ended ++ lines text) → IfSome s (λ all. StartsWith (lines all) ((ended ++ off.done) ++ off.begun))
+      begins None on = tt
+      begins (Some all) on = (
         off.front.0,
         on ∙ ap (λ l. ended ++ l) (off.front.1 ∙ append_assoc off.done off.begun off.front.0) ∙ sym (append_assoc ended off.done (off.begun ++ off.front.0)) ∙ sym (append_assoc (ended ++ off.done) off.begun off.front.0),
       )
@@ -158,40 +229,15 @@ module _ (law : SentIsBegun) (over : FinishedIsBegun) (job : Job) (size : ℕ) (
             (off (drop count rest))
 
   -- nothing was left
-  pub read_ended : (start before after : Option (List ℕ)) (taken : ℕ) (room : List ℕ) (old out : SourceOutput) (a : ℕ) (line : List ℕ) (cause : Cause) → out.index ≡ a → IfSome before (λ bytes. Reads bytes 0 room after) → taken ≤ SOURCE_MAX → (way : IsOnWay job size start before taken old line)
-      → EndedAs job size out way.0 line a cause → SourceEnd job size out start fell rose cause
-  read_ended start before after taken room old out a line cause index told few way ended = elim ended [
-    | inl behind ↦ elim behind.1 [
-      | inl finished ↦ record {
-        account = record {
-          groups = finished.1.groups;
-          rest = [];
-          begun = [];
-          snapshots = finished.1.snapshots;
-          put = (begun_where ⊥ (HasWaited (suc (length finished.1.groups)) (seen out.acks.last_pass)) ⊤ (MayEnd out.every (seen out.acks.last_pass) finished.1.groups no_lines) (λ no. absurd no) (λ _. (finished.1.last, refl))
-              0 job 0 out.index size out.output finished.1.groups [] [] (over 0 job 0 out.index size out.output finished.1.groups [] finished.1.finished)).each;
-          short = subst (AllByRecursion IsShort) (sym (append-nil (all_of finished.1.groups) ∙ finished.1.all_are)) behind.0;
-          front = whole_front start (all_of_it start way.2) (append-nil (all_of finished.1.groups) ∙ finished.1.all_are);
-          at_end = λ is. (whole start (all_of_it start way.2) finished.1.all_are, refl);
-          done = λ is. (finished.1.ended, finished.1.last, finished.1.finished.each);
-          within = λ is. within_of start way.2;
-          never_falls = never_falls;
-          cause_is = subst (IsSourceCause out.index start fell rose) (sym finished.0) tt;
-        };
-        stopped = λ is. absurd (stopped_not_done (sym is ∙ finished.0));
-      }
-      | inr broken ↦ record {
-        account = broke out start (way.0 ++ lines (line ++ [])) [] cause broken.3 (subst (AllByRecursion IsShort) (sym (append-nil (way.0 ++ lines (line ++ [])))) behind.0)
-            (whole_front start (all_of_it start way.2) (append-nil (way.0 ++ lines (line ++ [])))) (λ is. whole start (all_of_it start way.2) refl) broken.0
-            (elim broken.2 [ inl memory ↦ subst (IsSourceCause out.index start fell rose) (sym memory) tt | inr stopped ↦ subst (IsSourceCause out.index start fell rose) (sym stopped) tt ]);
-        stopped = broken.1;
-      }
-    ]
+  pub read_ended : (start before after : Option (List ℕ)) (taken : ℕ) (room : List ℕ) (old out : SourceOutput) (a : ℕ) (line : List ℕ) (cause : Cause) → out.index ≡ a → was_ended (start_of out) out.index ≡ false → IfSome before (λ bytes. Reads bytes 0 room after) → taken ≤ SOURCE_MAX
+      → (way : IsOnWay job size start before taken old line) → EndedAs job size out way.0 line a cause → SourceEnd job size out start fell rose cause
+  read_ended start before after taken room old out a line cause index not told few way ended = elim ended [
+    | inl behind ↦ ended_behind out start (way.0 ++ lines (line ++ [])) cause behind.1 behind.0 (begins start (all_of_it start way.2)) (λ _. all_of_it start way.2) (λ is. absurd (not_before is)) (λ _. within_of start way.2)
     | inr off ↦ subst (SourceEnd job size out start fell rose) (sym off.1) (broke_text out a start way.0 (line ++ []) off.0 index (all_of_it start way.2) off.2)
   ]
     where
-      stopped_not_done : causes.Stopped ≢ causes.Done
-      stopped_not_done = λ is. cc
+      not_before : was_ended (start_of out) out.index ≡ true → ⊥
+      not_before is = true≢false (sym is ∙ not)
 
       nothing : (rest : List ℕ) → before ≡ Some rest → rest ≡ []
       nothing rest is = let reads = rw is at told in reads.ended refl
@@ -200,33 +246,32 @@ module _ (law : SentIsBegun) (over : FinishedIsBegun) (job : Job) (size : ℕ) (
       all_of_it None on = tt
       all_of_it (Some all) on = on.3 ∙ ap (λ (l : List ℕ). way.0 ++ lines (line ++ l)) (nothing on.0 on.1)
 
-      whole : {xs : List (List ℕ)} (s : Option (List ℕ)) → IfSome s (λ all. lines all ≡ way.0 ++ lines (line ++ [])) → xs ≡ way.0 ++ lines (line ++ []) → IfSome s (λ all. lines all ≡ xs)
-      whole None on same = tt
-      whole (Some all) on same = on ∙ sym same
-
-      whole_front : {xs : List (List ℕ)} (s : Option (List ℕ)) → IfSome s (λ all. lines all ≡ way.0 ++ lines (line ++ [])) → xs ≡ way.0 ++ lines (line ++ []) → IfSome s (λ all. StartsWith (lines all) xs)
-      whole_front None on same = tt
-      whole_front {xs} (Some all) on same = ([], on ∙ sym same ∙ sym (append-nil xs))
+      begins : (s : Option (List ℕ)) → IfSome s (λ all. lines all ≡ way.0 ++ lines (line ++ [])) → IfSome s (λ all. StartsWith (lines all) (way.0 ++ lines (line ++ [])))
+      begins None on = tt
+      begins (Some all) on = ([], on ∙ sym (append-nil (way.0 ++ lines (line ++ []))))
 
       within_of : (s : Option (List ℕ)) → IfSome s (λ all. (rest : List ℕ) × (before ≡ Some rest) × (taken + length rest ≡ length all) × (lines all ≡ way.0 ++ lines (line ++ rest))) → IfSome s (λ all. length all ≤ SOURCE_MAX)
       within_of None on = tt
       within_of (Some all) on = let len : length on.0 ≡ 0 = ap length (nothing on.0 on.1) in omega (arith, on.2, len, few)
 
   -- it goes no further, with a cause that is its own
-  goes_no_further : (start left : Option (List ℕ)) (taken : ℕ) (out : SourceOutput) (line : List ℕ) (cause : Cause) → has_ended (sent_by out.acks.pass) ≡ false → IsOnWay job size start left taken out line → cause ≢ causes.Done → cause ≢ causes.Stopped → IsSourceCause out.index start fell rose cause → SourceEnd job size out start fell rose cause
+  goes_no_further : (start left : Option (List ℕ)) (taken : ℕ) (out : SourceOutput) (line : List ℕ) (cause : Cause) → is_at_end out ≡ false → IsOnWay job size start left taken out line → cause ≢ causes.Done → cause ≢ causes.Stopped → IsSourceCause out.index start fell rose cause → SourceEnd job size out start fell rose cause
   goes_no_further start left taken out line cause not_ended way other calm cause_is = record {
-    account = broke out start way.0 [] cause (broken_still law job size out way.0 way.1.emitted) (subst (AllByRecursion IsShort) (sym (append-nil way.0)) way.1.short) (front_of start way.2) (λ is. absurd (cc)) other cause_is;
+    account = broke out start way.0 [] cause (broken_still law job size out way.0 way.1.emitted) (subst (AllByRecursion IsShort) (sym (append-nil way.0)) way.1.short) (begins start way.2) (λ is. absurd (true≢false (sym is ∙ not_ended))) (λ is. absurd (not_before is)) other cause_is;
     stopped = λ is. absurd (calm is);
   }
     where
-      front_of : (s : Option (List ℕ)) → IfSome s (λ all. (rest : List ℕ) × (left ≡ Some rest) × (taken + length rest ≡ length all) × (lines all ≡ way.0 ++ lines (line ++ rest))) → IfSome s (λ all. StartsWith (lines all) (way.0 ++ []))
-      front_of None on = tt
-      front_of (Some all) on = (lines (line ++ on.0), on.3 ∙ ap (λ l. l ++ lines (line ++ on.0)) (sym (append-nil way.0)))
+      not_before : was_ended (start_of out) out.index ≡ true → ⊥
+      not_before is = true≢false (sym is ∙ was_not (was_ended (start_of out) out.index) (sent_by out.acks.pass) not_ended)
 
-  pub read_failed : (start left : Option (List ℕ)) (taken : ℕ) (out : SourceOutput) (a : ℕ) (line : List ℕ) → out.index ≡ a → has_ended (sent_by out.acks.pass) ≡ false → IsOnWay job size start left taken out line → HasRisen fell rose → SourceEnd job size out start fell rose (causes.Input a)
+      begins : (s : Option (List ℕ)) → IfSome s (λ all. (rest : List ℕ) × (left ≡ Some rest) × (taken + length rest ≡ length all) × (lines all ≡ way.0 ++ lines (line ++ rest))) → IfSome s (λ all. StartsWith (lines all) (way.0 ++ []))
+      begins None on = tt
+      begins (Some all) on = (lines (line ++ on.0), on.3 ∙ ap (λ l. l ++ lines (line ++ on.0)) (sym (append-nil way.0)))
+
+  pub read_failed : (start left : Option (List ℕ)) (taken : ℕ) (out : SourceOutput) (a : ℕ) (line : List ℕ) → out.index ≡ a → is_at_end out ≡ false → IsOnWay job size start left taken out line → HasRisen fell rose → SourceEnd job size out start fell rose (causes.Input a)
   read_failed start left taken out a line index not_ended way risen = goes_no_further start left taken out line (causes.Input a) not_ended way (λ is. cc) (λ is. cc) (sym index, risen)
 
-  pub read_much : (start left : Option (List ℕ)) (taken : ℕ) (out : SourceOutput) (a : ℕ) (line : List ℕ) → out.index ≡ a → has_ended (sent_by out.acks.pass) ≡ false → IsOnWay job size start left taken out line → SOURCE_MAX < taken → SourceEnd job size out start fell rose (causes.BigSource a)
+  pub read_much : (start left : Option (List ℕ)) (taken : ℕ) (out : SourceOutput) (a : ℕ) (line : List ℕ) → out.index ≡ a → is_at_end out ≡ false → IsOnWay job size start left taken out line → SOURCE_MAX < taken → SourceEnd job size out start fell rose (causes.BigSource a)
   read_much start left taken out a line index not_ended way much = goes_no_further start left taken out line (causes.BigSource a) not_ended way (λ is. cc) (λ is. cc) (sym index, big start way.2)
     where
       big : (s : Option (List ℕ)) → IfSome s (λ all. (rest : List ℕ) × (left ≡ Some rest) × (taken + length rest ≡ length all) × (lines all ≡ way.0 ++ lines (line ++ rest))) → IfSome s (λ all. SOURCE_MAX < length all)

@@ -7,7 +7,8 @@ use Rattle.flow_defs.specs.declared.image.Snapshot.{Snapshot}
 use Rattle.plain_machine.specs.Emitting.{count_after}
 use Rattle.plain_machine.specs.Theorems.{CountedInParts}
 use Rattle.task_output.specs.Outputs.{all_of}
-use Rattle.source_task.specs.Emitting.{IsSnapshotAt, IsInterval, AreSnapshots, has_ended}
+use Rattle.snapshot_channel.specs.Snapshots.{has_ended}
+use Rattle.source_task.specs.Emitting.{IsSnapshotAt, IsInterval, AreSnapshots}
 
 pub all_more : (groups : List (List (List ℕ))) (group : List (List ℕ)) → all_of (groups ++ group ∷ []) ≡ all_of groups ++ group
 all_more groups group = flat_map-append (λ (g : List (List ℕ)). g) groups (group ∷ []) ∙ ap (λ l. all_of groups ++ l) (append-nil group)
@@ -41,7 +42,7 @@ or_first false c is = absurd (cc)
 
 module _ (count : CountedInParts) (a : ℕ) (every : Option ℕ) (group : List (List ℕ)) (x : Snapshot) (interval : IsInterval every (length group) x.ended) where
   pub snapshots_more : (k offset emitted : ℕ) (groups : List (List (List ℕ))) (xs : List Snapshot) → AreSnapshots a every k offset emitted groups xs
-      → IsSnapshotAt a (suc (k + length groups)) (offset + length (all_of groups ++ group)) (count_after emitted (all_of groups ++ group)) x → (has_ended xs ≡ true → group ≡ [])
+      → IsSnapshotAt a (suc (k + length groups)) (offset + length (all_of groups ++ group)) (count_after emitted (all_of groups ++ group)) x → (has_ended false xs ≡ true → group ≡ [])
       → AreSnapshots a every k offset emitted (groups ++ group ∷ []) (xs ++ x ∷ [])
   snapshots_more k offset emitted [] [] are at none = (at_same a (suc (k + 0)) (suc k) (offset + length group) (offset + length group) (count_after emitted group) (count_after emitted group) x (omega arith) refl refl at, interval, λ _. refl, tt)
   snapshots_more k offset emitted [] (y ∷ ys) are at none = absurd are
@@ -49,20 +50,22 @@ module _ (count : CountedInParts) (a : ℕ) (every : Option ℕ) (group : List (
   snapshots_more k offset emitted (g ∷ groups) (y ∷ ys) are at none = (
     are.0,
     are.1,
-    λ is. all_more groups group ∙ ap (λ l. l ++ group) (are.2 is) ∙ none (or_first y.ended (has_ended ys) is),
+    λ is. all_more groups group ∙ ap (λ l. l ++ group) (are.2 is) ∙ none (or_first y.ended (has_ended false ys) is),
     snapshots_more (suc k) (offset + length g) (count_after emitted g) groups ys are.3
         (at_same a (suc (k + suc (length groups))) (suc (suc k + length groups)) (offset + length ((g ++ all_of groups) ++ group)) (offset + length g + length (all_of groups ++ group)) (count_after emitted ((g ++ all_of groups) ++ group)) (count_after (count_after emitted g) (all_of groups ++ group)) x
         (omega arith)
         (ap (λ l. offset + length l) (append_assoc g (all_of groups) group) ∙ omega (arith, length-append g (all_of groups ++ group)))
         (ap (count_after emitted) (append_assoc g (all_of groups) group) ∙ count emitted g (all_of groups ++ group))
         at)
-        (λ is. none (or_second y.ended (has_ended ys) is)),
+        (λ is. none (or_second y.ended (has_ended false ys) is)),
   )
 
-pub ended_more : (xs : List Snapshot) (x : Snapshot) → x.ended ≡ true → has_ended (xs ++ x ∷ []) ≡ true
-ended_more [] x is = or_first x.ended false is
-ended_more (y ∷ ys) x is = or_second y.ended (has_ended (ys ++ x ∷ [])) (ended_more ys x is)
+pub ended_more : (was : Bool) (xs : List Snapshot) (x : Snapshot) → x.ended ≡ true → has_ended was (xs ++ x ∷ []) ≡ true
+ended_more true xs x is = refl
+ended_more false [] x is = or_first x.ended false is
+ended_more false (y ∷ ys) x is = or_second y.ended (has_ended false (ys ++ x ∷ [])) (ended_more false ys x is)
 
-pub ended_same : (xs : List Snapshot) (x : Snapshot) → x.ended ≡ false → has_ended (xs ++ x ∷ []) ≡ has_ended xs
-ended_same [] x is = ap (λ b. b || false) is
-ended_same (y ∷ ys) x is = ap (λ b. y.ended || b) (ended_same ys x is)
+pub ended_same : (was : Bool) (xs : List Snapshot) (x : Snapshot) → x.ended ≡ false → has_ended was (xs ++ x ∷ []) ≡ has_ended was xs
+ended_same true xs x is = refl
+ended_same false [] x is = ap (λ b. b || false) is
+ended_same false (y ∷ ys) x is = ap (λ b. y.ended || b) (ended_same false ys x is)

@@ -13,10 +13,9 @@ use Rattle.record_writer.specs.Writers.{HasSeenFault}
 use Rattle.source_task.specs.declared.output.LineFault.{LineFault}
 use Rattle.source_task.specs.declared.output.LineFault.TheVariants as faults
 use Rattle.source_task.specs.declared.output.SourceOutput.{SourceOutput}
-use Rattle.snapshot_channel.specs.Passes.{sent_by}
-use Rattle.source_task.specs.Emitting.{HasEmitted, HasBroken, has_ended}
+use Rattle.source_task.specs.Emitting.{HasEmitted, HasBroken, is_at_end}
 
--- The source has emitted the lines that have ended, and another line has begun.
+-- The source has read the lines that have ended, and another line has begun.
 pub record IsSourceUnderWay (job : Job) (size : ℕ) (out : SourceOutput) (line : List ℕ) (ended : List (List ℕ)) : Type 0 where
   pub begun : IsBegun line
   pub short : AllByRecursion IsShort ended
@@ -34,17 +33,17 @@ IsLineFault out text faults.TooLong = HasLongLine (lines text)
 IsLineFault out text faults.Memory = ⊤
 IsLineFault out text faults.Stopped = HasSeenFault out.output.writer
 
--- A source that had emitted the lines that had ended broke off among the lines of this text, which follow them.
+-- A source that had read the lines that had ended broke off among the lines of this text, which follow them.
 pub record BrokeOff (job : Job) (size : ℕ) (out : SourceOutput) (ended : List (List ℕ)) (text : List ℕ) (fault : LineFault) : Type 0 where
   pub done : List (List ℕ)
   pub begun : List (List ℕ)
   pub broken : HasBroken job size out (ended ++ done) begun
   pub short : AllByRecursion IsShort ((ended ++ done) ++ begun)
   pub front : StartsWith (lines text) (done ++ begun)
-  pub not_ended : has_ended (sent_by out.acks.pass) ≡ false
+  pub not_ended : is_at_end out ≡ false
   pub fault_is : IsLineFault out text fault
 
--- The last line was emitted too.
+-- The last line was read too.
 pub record HasEndedLines (job : Job) (size : ℕ) (out : SourceOutput) (ended : List (List ℕ)) (line : List ℕ) : Type 0 where
   pub emitted : HasEmitted job size out (ended ++ lines (line ++ []))
   pub short : AllByRecursion IsShort (ended ++ lines (line ++ []))

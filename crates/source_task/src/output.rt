@@ -4,10 +4,10 @@ ghost use Rattle.std.specs.Prelude.{◌≡◌, ◌++◌, [], ◌∷◌, ◌<◌,
 ghost use Rattle.flow_defs.specs.declared.job.Job.{Job};
 ghost use Rattle.flow_defs.specs.Records.{IsShort};
 ghost use Rattle.record_writer.specs.Writers.{HasSeenFault};
-ghost use Rattle.snapshot_channel.specs.Passes.{sent_by};
+ghost use Rattle.task_output.specs.Acking.{base_of};
 ghost use Rattle.task_output.specs.Waiting.{LastIs};
 ghost use Rattle.turn_cell.specs.Passes.{seen};
-ghost use Rattle.source_task.specs.Emitting.{IsInterval, IsSnapshotAt, IsSource, IsReading, HasOwnPasses, IsSameSource, HasEmitted, HasBroken, HasEnded, LineEmitted, CheckpointTaken, BreaksFor, has_ended};
+ghost use Rattle.source_task.specs.Emitting.{IsInterval, IsSnapshotAt, IsSource, IsReading, HasOwnPasses, IsSameSource, HasEmitted, HasBroken, HasEnded, LineEmitted, CheckpointTaken, BreaksFor, is_at_end, start_of};
 
 use flow_defs::{ListOf, Snapshot, Table, TaskId};
 use plain_machine::laws::emits_in_parts;
@@ -35,14 +35,16 @@ pub struct SourceOutput<'a, 'p> {
     pub index: u32,
     /// How many lines it reads between two barriers, from 1. None: it reads to its end.
     pub every: Option<u64>,
-    /// How many lines it has emitted.
+    /// How many of the lines that it reads next were read before its start.
+    pub skip: u64,
+    /// How many lines it has emitted, with those before its start.
     pub offset: u64,
     /// How many of them behind its last barrier.
     pub since: u64,
 }
 
 impl<'a, 'p> SourceOutput<'a, 'p> {
-    /// Emits a line, and then takes a checkpoint if one is due.
+    /// Emits a line, unless it was read before the start, and then takes a checkpoint if one is due.
     pub fn emit_line<R: Wait>(
         &mut self,
         rt: &R,
@@ -59,6 +61,10 @@ impl<'a, 'p> SourceOutput<'a, 'p> {
             LineEmitted job size self.new lines line.now result }
     {
         what_was_sent_was_begun();
+        if self.skip > 0 {
+            self.skip -= 1;
+            return Ok(());
+        }
         let (Some(offset), Some(since)) = (self.offset.checked_add(1), self.since.checked_add(1))
         else {
             return Err(LineFault::Memory);
@@ -82,8 +88,9 @@ impl<'a, 'p> SourceOutput<'a, 'p> {
     }
 
     /// Takes a checkpoint behind the lines that were emitted: waits until the image of the checkpoint before is
-    /// stored, puts a barrier, and sends a snapshot. Whether this checkpoint is the last of the job is the
-    /// answer: without an interval it is, and with one it is where all sources are ended in that image.
+    /// stored, puts a barrier, and sends a snapshot. The first checkpoint waits for none. Whether this checkpoint
+    /// is the last of the job is the answer: without an interval it is, and with one it is where all sources are
+    /// ended in that image.
     pub fn take_checkpoint<R: Wait>(
         &mut self,
         rt: &R,
@@ -92,14 +99,14 @@ impl<'a, 'p> SourceOutput<'a, 'p> {
     ) -> Result<bool, LineFault>
         requires source { IsSource self.old }
         requires interval { IsInterval self.old.every self.old.since ended }
-        requires at_end { has_ended (sent_by self.old.acks.pass) ≡ true → ended ≡ true }
+        requires at_end { is_at_end self.old ≡ true → ended ≡ true }
         ensures same { IsSameSource self.old self.new }
         ensures own { HasOwnPasses self.new }
         ensures source { OnOk result (IsSource self.new) }
         ensures since { OnOk result (self.new.since ≡ 0) }
-        ensures kept { OnErr result (sent_by self.new.acks.pass ≡ sent_by self.old.acks.pass) }
-        ensures ended { OnOk result ((ended ≡ true → has_ended (sent_by self.new.acks.pass) ≡ true) × (ended ≡ false → has_ended (sent_by self.new.acks.pass) ≡ has_ended (sent_by self.old.acks.pass))) }
-        ensures last { IfOk result (λ last. LastIs self.new.every (seen self.new.acks.last_pass) self.new.acks.number last) }
+        ensures kept { OnErr result (is_at_end self.new ≡ is_at_end self.old) }
+        ensures ended { OnOk result ((ended ≡ true → is_at_end self.new ≡ true) × (ended ≡ false → is_at_end self.new ≡ is_at_end self.old)) }
+        ensures last { IfOk result (λ last. LastIs (base_of (start_of self.new)) self.new.every (seen self.new.acks.last_pass) self.new.acks.sent last) }
         ensures fault { IfErr result (λ fault. BreaksFor fault self.new) }
         ensures taken { (job : Job) (size : ℕ) (lines : List (List ℕ)) → HasEmitted job size self.old lines →
             CheckpointTaken job size self.new lines result }
@@ -107,14 +114,14 @@ impl<'a, 'p> SourceOutput<'a, 'p> {
         what_was_sent_was_begun();
         what_was_seen_stays();
         emits_in_parts();
-        let Some(k) = self.acks.number.checked_add(1) else {
+        let Some(k) = self.acks.next_number() else {
             return Err(LineFault::Memory);
         };
         let last = match self.acks.learn_last(rt, &mut self.output, self.every, k) {
             Ok(last) => last,
             Err(_) => return Err(LineFault::Stopped),
         };
-        match self.output.mark(rt, k) {
+        match self.output.mark(rt, self.acks.sent + 1) {
             Ok(()) => {}
             Err(_) => return Err(LineFault::Stopped),
         }
@@ -129,7 +136,8 @@ impl<'a, 'p> SourceOutput<'a, 'p> {
 
     /// Takes checkpoints behind the last line until the last of the job, and then ends the channels.
     pub fn end<R: Wait>(&mut self, rt: &R, alloc: Global) -> Result<(), LineFault>
-        requires { IsReading self.old }
+        requires source { IsSource self.old }
+        requires interval { IsInterval self.old.every self.old.since true }
         ensures same { IsSameSource self.old self.new }
         ensures own { HasOwnPasses self.new }
         ensures fault { IfErr result (λ fault. BreaksFor fault self.new) }
@@ -152,8 +160,8 @@ impl<'a, 'p> SourceOutput<'a, 'p> {
     // Ends the channels of a source at its end, behind its last barrier.
     fn finish<R: Wait>(&mut self, rt: &R) -> Result<(), LineFault>
         requires source { IsSource self.old }
-        requires at_end { has_ended (sent_by self.old.acks.pass) ≡ true }
-        requires last { LastIs self.old.every (seen self.old.acks.last_pass) self.old.acks.number true }
+        requires at_end { is_at_end self.old ≡ true }
+        requires last { LastIs (base_of (start_of self.old)) self.old.every (seen self.old.acks.last_pass) self.old.acks.sent true }
         ensures same { IsSameSource self.old self.new }
         ensures own { HasOwnPasses self.new }
         ensures fault { IfErr result (λ fault. BreaksFor fault self.new) }

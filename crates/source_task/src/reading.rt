@@ -1,9 +1,11 @@
 // Reads the input of a source.
-ghost use Rattle.std.specs.Prelude.{◌≡◌, [], ℕ, List};
+ghost use Rattle.std.specs.Prelude.{◌≡◌, [], ℕ, List, true};
 ghost use Rattle.flow_defs.specs.declared.job.Job.{Job};
-ghost use Rattle.source_task.specs.Emitting.{IsReading, HasOwnPasses, IsSameSource, HasEmitted};
+ghost use Rattle.job_start.specs.Starts.{was_ended};
+ghost use Rattle.snapshot_channel.specs.Passes.{sent_by};
+ghost use Rattle.source_task.specs.Emitting.{IsInterval, IsSource, IsReading, HasOwnPasses, IsSameSource, HasEmitted, start_of};
 ghost use Rattle.source_task.specs.Cutting.{IsSourceUnderWay, cause_of_line};
-ghost use Rattle.source_task.specs.Sources.{EndedAs, SourceEnd};
+ghost use Rattle.source_task.specs.Sources.{EndedAs, EndedBehind, SourceEnd};
 
 use crate::lines::Lines;
 use crate::{LineFault, SourceOutput};
@@ -30,8 +32,33 @@ impl LineFault {
     }
 }
 
-/// Emits the lines that are left of the input, with its checkpoints, and answers why it went no further.
-pub fn emit_lines<S: Source, R: Wait>(
+/// Emits the lines that are left of the input behind the start, with its checkpoints, and answers why it went no
+/// further. A source that was at its end there reads nothing, and takes its checkpoints.
+pub fn emit_input<S: Source, R: Wait>(
+    rt: &R,
+    alloc: Global,
+    input: &mut S,
+    output: &mut SourceOutput<'_, '_>,
+    was_at_end: bool,
+) -> Cause
+    requires source { IsSource output.old }
+    requires interval { IsInterval output.old.every output.old.since true }
+    requires fresh { sent_by output.old.acks.pass ≡ [] }
+    requires at_end { was_at_end ≡ was_ended (start_of output.old) output.old.index }
+    ensures same { IsSameSource output.old output.new }
+    ensures own { HasOwnPasses output.new }
+    ensures ended { (job : Job) (size : ℕ) → HasEmitted job size output.old [] →
+        SourceEnd job size output.new (S.left input.old) (S.faults input.old) (S.faults input.new) result }
+{
+    what_was_sent_was_begun();
+    if was_at_end {
+        return end_source(rt, alloc, output);
+    }
+    emit_lines(rt, alloc, input, output)
+}
+
+// Emits the lines that are left of the input, and goes on to the end.
+fn emit_lines<S: Source, R: Wait>(
     rt: &R,
     alloc: Global,
     input: &mut S,
@@ -82,6 +109,19 @@ fn end_lines<R: Wait>(
         Ok(()) => {}
         Err(fault) => return fault.cause(index),
     }
+    end_source(rt, alloc, output)
+}
+
+// Takes the checkpoints behind the last line, and ends the channels.
+fn end_source<R: Wait>(rt: &R, alloc: Global, output: &mut SourceOutput<'_, '_>) -> Cause
+    requires source { IsSource output.old }
+    requires interval { IsInterval output.old.every output.old.since true }
+    ensures same { IsSameSource output.old output.new }
+    ensures own { HasOwnPasses output.new }
+    ensures ended { (job : Job) (size : ℕ) (lines : List (List ℕ)) → HasEmitted job size output.old lines →
+        EndedBehind job size output.new lines result }
+{
+    let index = output.index;
     match output.end(rt, alloc) {
         Ok(()) => Cause::Done,
         Err(fault) => fault.cause(index),

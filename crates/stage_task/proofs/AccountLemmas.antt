@@ -4,7 +4,6 @@ use Rattle.std.specs.Prelude.{flat_map, slice_get, slice_index}
 use Rattle.std.specs.Option.{option_map_or}
 use Rattle.std.specs.List.{AllByRecursion}
 use Rattle.std.proofs.lemmas.Bool.{and_parts, ltb-true, eqb-true}
-use Rattle.std.proofs.lemmas.List.Elements.{recursion_from_All}
 use Rattle.flow_defs.specs.declared.image.Snapshot.{Snapshot}
 use Rattle.flow_defs.specs.declared.job.Exchange.{Exchange}
 use Rattle.flow_defs.specs.declared.job.Exchange.TheVariants.{Hash, Rebalance, Forward}
@@ -17,6 +16,7 @@ use Rattle.plain_machine.specs.Emitting.{receiver_on, emit, count_after, apply_b
 use Rattle.plain_machine.specs.Histories.{records}
 use Rattle.plain_machine.specs.Places.{sender_place}
 use Rattle.plain_machine.specs.Theorems.{EmittedAreShort, NoStageLengthens}
+use Rattle.job_start.specs.Starts.{from_of}
 use Rattle.checkpoint_laws.specs.Puts.{stretches}
 use Rattle.checkpoint_laws.specs.Chapters.{Linked, Chapter, opening, Step, applied}
 use Rattle.record_writer.specs.Writers.{ways, receiver_at}
@@ -31,12 +31,6 @@ drop_front : {A : Type 0} (xs ys : List A) (n : ℕ) → n ≡ length xs → dro
 drop_front [] ys n is = ap (λ m. drop m ys) is
 drop_front (x ∷ xs) ys zero is = absurd (omega (arith, is))
 drop_front (x ∷ xs) ys (suc n) is = drop_front xs ys n (omega (arith, is))
-
-zero_at : (xs : List ℕ) → AllByRecursion (λ (n : ℕ). n ≡ 0) xs → (i : ℕ) → slice_index xs i ≡ 0
-zero_at [] all zero = refl
-zero_at [] all (suc i) = refl
-zero_at (x ∷ xs) all zero = all.0
-zero_at (x ∷ xs) all (suc i) = zero_at xs all.1 i
 
 all_both : (P : List ℕ → Type 0) (xs ys : List (List ℕ)) → AllByRecursion P xs → AllByRecursion P ys → AllByRecursion P (xs ++ ys)
 all_both P [] ys one two = two
@@ -130,24 +124,25 @@ place_of Rebalance a n b within joined = record { inside = within; leads = refl 
 place_of Forward a n b within joined = record { inside = omega arith; leads = eqb-true a b joined }
 
 pub stage_has_account : EmittedAreShort → NoStageLengthens → StageHasAccount
-stage_has_account short_law lengthens job all base e b size every gate passes sent history takes cause start below inside was =
+stage_has_account short_law lengthens job all base e b size start every gate passes sent history takes cause is_base below inside was =
     let to = receiver_on job (suc e) b in
+    let from = from_of job start (suc e) b in
     let made = all_applied job e was.groups in
-    let chapters = chapters_of job e b 0 was.groups sent in
+    let chapters = chapters_of job e b from.emitted was.groups sent in
     let more : ℕ → List (List ℕ) = λ c. drop (length made) (stretches (parcels_to job (suc e) passes c)) in (
       chapters,
       more,
-      took_are job e b 0 0 was.groups sent was.snapshots,
+      took_are job e b from.number from.emitted was.groups sent was.snapshots,
       record {
-        steps = steps_of job e b short_law lengthens all every below 0 0 was.groups sent (opening job base (suc e) b) was.snapshots start.number
-            (zero_at base.emitted.items (recursion_from_All (λ (n : ℕ). n ≡ 0) base.emitted.items start.emitted) (sender_place job (suc e) b));
-        snapshots = sent_are job e b 0 0 was.groups sent was.snapshots;
+        steps = steps_of job e b short_law lengthens all every below from.number from.emitted was.groups sent (opening job base (suc e) b) was.snapshots (sym is_base.at.number)
+            (ap (λ (l : List ℕ). slice_index l (sender_place job (suc e) b)) (sym is_base.at.emitted));
+        snapshots = sent_are job e b from.number from.emitted was.groups sent was.snapshots;
         puts = λ c channel.
             let parts = and_parts _ _ channel in
             let place = place_of (exchange job (suc e)) b (tasks job (suc (suc e))) c (ltb-true c (tasks job (suc (suc e))) (and_parts _ _ parts.0).1) parts.1 in
             let on = was.put (place_to (exchange job (suc e)) c) place.inside in
-            let cut : stretches (parcels_to job (suc e) passes c) ≡ brought to 0 made c ++ on.more = on.cut ∙ ap (λ t. brought to 0 made t ++ on.more) place.leads in
-            cut ∙ ap (λ l. l ++ on.more) (sym (puts_are job e b c 0 0 was.groups sent was.snapshots))
-            ∙ ap (λ l. map (λ (d : Chapter). d.put c) chapters ++ l) (sym (ap (drop (length made)) cut ∙ drop_front (brought to 0 made c) on.more (length made) (many_brought job e b 0 made c)));
+            let cut : stretches (parcels_to job (suc e) passes c) ≡ brought to from.emitted made c ++ on.more = on.cut ∙ ap (λ t. brought to from.emitted made t ++ on.more) place.leads in
+            cut ∙ ap (λ l. l ++ on.more) (sym (puts_are job e b c from.number from.emitted was.groups sent was.snapshots))
+            ∙ ap (λ l. map (λ (d : Chapter). d.put c) chapters ++ l) (sym (ap (drop (length made)) cut ∙ drop_front (brought to from.emitted made c) on.more (length made) (many_brought job e b from.emitted made c)));
       },
     )

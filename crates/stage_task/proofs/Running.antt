@@ -1,5 +1,6 @@
 -- How the task of a stage begins and ends.
 use Rattle.std.proofs.Common.{◌≡◌, ◌≢◌, Bor, ℕ, zero, suc, ◌+◌, ◌⊎◌, false, List, [], ◌∷◌, ◌++◌, length, Option, refl, sym, ap, subst, ◌∙◌, inl, inr, arith}
+use Rattle.std.specs.Prelude.{slice_index}
 use Rattle.turn_cell.specs.History.{StartsWith}
 use Rattle.turn_cell.specs.Passes.{IsPassOf, IsSamePass, seen}
 use Rattle.flow_defs.specs.declared.cause.Cause.{Cause}
@@ -8,7 +9,10 @@ use Rattle.flow_defs.specs.declared.image.Snapshot.{Snapshot}
 use Rattle.flow_defs.specs.declared.image.TakeRun.{TakeRun}
 use Rattle.flow_defs.specs.declared.job.Job.{Job}
 use Rattle.plain_machine.specs.Emitting.{receiver_on}
+use Rattle.plain_machine.specs.Places.{sender_place}
 use Rattle.checkpoint_laws.specs.Chapters.{RunsTake}
+use Rattle.job_start.specs.declared.start.Start.{Start}
+use Rattle.job_start.specs.Starts.{from_of}
 use Rattle.outside.specs.declared.last_image.Stored.{Stored}
 use Rattle.outside.specs.Stops.{told_of}
 use Rattle.conn_parts.specs.Shares.{mine_at, AreNew}
@@ -20,38 +24,44 @@ use Rattle.record_writer.specs.declared.partition.PartitionPasses.{PartitionPass
 use Rattle.input_gate.specs.Gates as gates
 use Rattle.input_gate.specs.Gates.{Account}
 use Rattle.snapshot_channel.specs.declared.opened.TaskPass.{TaskPass}
-use Rattle.snapshot_channel.specs.Passes.{opening_of, sent_by}
+use Rattle.snapshot_channel.specs.Passes.{sent_by}
 use Rattle.task_taking.specs.Endings.{EachTold, IsTakerEnd}
 use Rattle.task_taking.specs.Takings.{Taking, HasTaken, untaken}
 use Rattle.task_output.specs.declared.acks.Acks.{Acks}
-use Rattle.task_output.specs.Acking.{HasPasses}
+use Rattle.task_output.specs.Acking.{HasPasses, base_of}
 use Rattle.task_output.specs.Ending.{ArePassesBy, EndsAs, ToldAtEnd}
-use Rattle.task_output.specs.Waiting.{MayEnd}
+use Rattle.task_output.specs.Waiting.{MayEnd, HasWaited}
 use Rattle.task_output.specs.Outputs.{WritesFor, HasSent, BegunOn, end_of}
 use Rattle.stage_task.specs.declared.checkpoints.StageOutput.{StageOutput}
 use Rattle.stage_task.specs.declared.checkpoints.TakerEnd.{TakerEnd}
 use Rattle.stage_task.specs.Snapshots.{AreSnapshots}
 use Rattle.stage_task.specs.Stages.{StageAccount}
 use Rattle.task_taking.specs.Endings.{ToldStop}
-use Rattle.stage_task.specs.Applying.{IsSameStage, IsStageUnderWay, IsEndOf}
+use Rattle.stage_task.specs.Applying.{start_at, base_at, from_at, IsSameStage, IsStageUnderWay, IsEndOf}
 use Rattle.stage_task.proofs.Ends.{memory_not_done, stopped_not_done}
 
 -- ---- where it begins
 
+-- the task has emitted before what the start tells
+pub counted_from : (job : Job) (start start' : Start) (e b n : ℕ) → n ≡ slice_index start.emitted.items (sender_place job (e + 1) b) → start' ≡ start → n ≡ (from_of job start' (suc e) b).emitted
+counted_from job start start' e b n is same =
+    is ∙ ap (λ i. slice_index start.emitted.items (sender_place job i b)) (let z : e + 1 ≡ suc e = omega arith in z)
+    ∙ ap (λ (s : Start). slice_index s.emitted.items (sender_place job (suc e) b)) (sym same)
+
 pub under_way : (gate : Account) (taking : Taking) (partition : Partition) (w : Writer) (out : StageOutput) → gates.IsNew gate → gate.channels ≡ ways_into out.job.now out.edge
     → ((gate : Account) → gates.IsNew gate → gate.channels ≡ ways_into out.job.now out.edge → HasTaken out.job.now out.edge out.index gate taking [] [])
-    → IsWriterOf out.job.now (out.edge + 1) out.index partition w → IsNew w × IsOpen w × (w.emitted ≡ 0)
+    → IsWriterOf out.job.now (out.edge + 1) out.index partition w → IsNew w × IsOpen w → w.emitted ≡ (from_at out).emitted
     → ((job : Job) (e a size : ℕ) → WritesFor job e a size w → IsNew w → IsOpen w → HasSent w.emitted job e a size out.output [] []) → sent_by out.acks.pass ≡ [] → IsStageUnderWay gate taking out
-under_way gate taking partition w out new channels none writes fresh none_sent unsent =
-    let sent = subst (λ n. HasSent n out.job.now (suc out.edge) out.index w.size out.output [] []) fresh.2
+under_way gate taking partition w out new channels none writes fresh counted none_sent unsent =
+    let sent = subst (λ n. HasSent n out.job.now (suc out.edge) out.index w.size out.output [] []) counted
     (none_sent out.job.now (suc out.edge) out.index w.size (record { job_is = writes.job_is; edge = writes.edge ∙ (let z : out.edge + 1 ≡ suc out.edge = omega arith in z); index = writes.index; size_is = refl }) fresh.0 fresh.1) in
     record {
       groups = [];
       took = [];
       applied_them = record {
         taken = none gate new channels;
-        sent = subst (λ n. HasSent 0 out.job.now (suc out.edge) out.index n out.output [] []) (sym sent.writes_for.size_is) sent;
-        snapshots = subst (AreSnapshots out.job.now out.edge out.index 0 0 []) (sym unsent) tt;
+        sent = subst (λ n. HasSent (from_at out).emitted out.job.now (suc out.edge) out.index n out.output [] []) (sym sent.writes_for.size_is) sent;
+        snapshots = subst (AreSnapshots out.job.now out.edge out.index (from_at out).number (from_at out).emitted []) (sym unsent) tt;
       };
       not_last = refl;
     }
@@ -72,17 +82,17 @@ abbrev none_took : List (ℕ × List ℕ)
 none_took = []
 
 -- it found no memory for what it takes and emits by
-pub unbegun : (job : Job) (e b size : ℕ) (every : Option ℕ) (gate : Account) (passes : List SendPass) (sent : List Snapshot) (history : List (ℕ × Stored)) (takes : List TakeRun) → gates.IsNew gate → AreNew passes → sent ≡ [] → takes ≡ []
-    → StageAccount job e b size every gate passes sent history takes causes.Memory
-unbegun job e b size every gate passes sent history takes new none_put none_sent none_taken = record {
+pub unbegun : (job : Job) (e b size : ℕ) (start : Start) (every : Option ℕ) (gate : Account) (passes : List SendPass) (sent : List Snapshot) (history : List (ℕ × Stored)) (takes : List TakeRun) → gates.IsNew gate → AreNew passes → sent ≡ [] → takes ≡ []
+    → StageAccount job e b size start every gate passes sent history takes causes.Memory
+unbegun job e b size start every gate passes sent history takes new none_put none_sent none_taken = record {
   groups = [];
   rest = [];
   more = [];
   given = λ c inside. (false, new.told c);
-  snapshots = subst (AreSnapshots job e b 0 0 []) (sym none_sent) tt;
+  snapshots = subst (AreSnapshots job e b (from_of job start (suc e) b).number (from_of job start (suc e) b).emitted []) (sym none_sent) tt;
   takes_are = subst (λ (l : List TakeRun). RunsTake job e b l []) (sym none_taken) (record { senders_are = refl; are_runs = tt; short = tt });
   front = ([], refl);
-  put = λ c inside. subst (BegunOn (receiver_on job (suc e) b) 0 [] (end_of job (suc e) b c) size [] (EachTold gate (suc (length no_groups))) (MayEnd every history no_groups none_took)) (sym (none_at passes c none_put)) (record {
+  put = λ c inside. subst (BegunOn (receiver_on job (suc e) b) (from_of job start (suc e) b).emitted [] (end_of job (suc e) b c) size [] (EachTold gate (suc (length no_groups))) (MayEnd (base_of start) every history no_groups none_took)) (sym (none_at passes c none_put)) (record {
     more = [] ∷ [];
     cut = refl;
     few = inl (omega arith);
@@ -96,9 +106,9 @@ unbegun job e b size every gate passes sent history takes new none_put none_sent
 -- ---- where it ends
 
 -- it was stopped where it was done
-pub account_ended : (job : Job) (e b size : ℕ) (every : Option ℕ) (gate : Account) (passes : List SendPass) (sent : List Snapshot) (history : List (ℕ × Stored)) (takes : List TakeRun) (cause cause' : Cause) → EndsAs cause cause'
-    → StageAccount job e b size every gate passes sent history takes cause → StageAccount job e b size every gate passes sent history takes cause'
-account_ended job e b size every gate passes sent history takes cause cause' ends was = record {
+pub account_ended : (job : Job) (e b size : ℕ) (start : Start) (every : Option ℕ) (gate : Account) (passes : List SendPass) (sent : List Snapshot) (history : List (ℕ × Stored)) (takes : List TakeRun) (cause cause' : Cause) → EndsAs cause cause'
+    → StageAccount job e b size start every gate passes sent history takes cause → StageAccount job e b size start every gate passes sent history takes cause'
+account_ended job e b size start every gate passes sent history takes cause cause' ends was = record {
   groups = was.groups;
   rest = was.rest;
   more = was.more;
@@ -108,30 +118,36 @@ account_ended job e b size every gate passes sent history takes cause cause' end
   front = was.front;
   put = was.put;
   done = λ is. elim ends [ inl same ↦ was.done (sym same ∙ is) | inr stopped ↦ absurd (stopped_not_done (sym stopped.1 ∙ is)) ];
-  cause_is = elim ends [ inl same ↦ subst (IsTakerEnd every history gate was.groups was.rest) (sym same) was.cause_is | inr stopped ↦ subst (IsTakerEnd every history gate was.groups was.rest) (sym stopped.1) tt ];
+  cause_is = elim ends [ inl same ↦ subst (IsTakerEnd (base_of start) every history gate was.groups was.rest) (sym same) was.cause_is | inr stopped ↦ subst (IsTakerEnd (base_of start) every history gate was.groups was.rest) (sym stopped.1) tt ];
 }
 
 -- the account of what is the same is the same
-pub account_of_same : (out out' : StageOutput) (size : ℕ) (gate gate' : Account) (passes : List SendPass) (sent : List Snapshot) (history : List (ℕ × Stored)) (takes : List TakeRun) (end : TakerEnd) → IsSameStage out out' → out'.output.writer.size ≡ size → gate' ≡ gate
-    → passes ≡ out'.output.writer.passes → sent ≡ sent_by out'.acks.pass → history ≡ seen out'.acks.last_pass → takes ≡ end.takes.items → IsEndOf gate out' end → StageAccount out.job.now out.edge out.index size out.every gate' passes sent history takes end.cause
-account_of_same out out' size gate gate' passes sent history takes end same size_is gate_is passes_are sent_is history_is takes_are was =
-    subst (λ (j : Bor Job). StageAccount j.now out.edge out.index size out.every gate' passes sent history takes end.cause) same.job
-    (subst (λ n. StageAccount out'.job.now n out.index size out.every gate' passes sent history takes end.cause) same.edge
-    (subst (λ n. StageAccount out'.job.now out'.edge n size out.every gate' passes sent history takes end.cause) same.index
-    (subst (λ n. StageAccount out'.job.now out'.edge out'.index n out.every gate' passes sent history takes end.cause) size_is
-    (subst (λ (x : Option ℕ). StageAccount out'.job.now out'.edge out'.index out'.output.writer.size x gate' passes sent history takes end.cause) same.every_is
-    (subst (λ (x : Account). StageAccount out'.job.now out'.edge out'.index out'.output.writer.size out'.every x passes sent history takes end.cause) (sym gate_is)
-    (subst (λ (l : List SendPass). StageAccount out'.job.now out'.edge out'.index out'.output.writer.size out'.every gate l sent history takes end.cause) (sym passes_are)
-    (subst (λ (l : List Snapshot). StageAccount out'.job.now out'.edge out'.index out'.output.writer.size out'.every gate out'.output.writer.passes l history takes end.cause) (sym sent_is)
-    (subst (λ (l : List (ℕ × Stored)). StageAccount out'.job.now out'.edge out'.index out'.output.writer.size out'.every gate out'.output.writer.passes (sent_by out'.acks.pass) l takes end.cause) (sym history_is)
-    (subst (λ (l : List TakeRun). StageAccount out'.job.now out'.edge out'.index out'.output.writer.size out'.every gate out'.output.writer.passes (sent_by out'.acks.pass) (seen out'.acks.last_pass) l end.cause) (sym takes_are) was)))))))))
+pub account_of_same : (out out' : StageOutput) (size : ℕ) (start : Start) (gate gate' : Account) (passes : List SendPass) (sent : List Snapshot) (history : List (ℕ × Stored)) (takes : List TakeRun) (end : TakerEnd) → IsSameStage out out' → out'.output.writer.size ≡ size → start_at out' ≡ start → gate' ≡ gate
+    → passes ≡ out'.output.writer.passes → sent ≡ sent_by out'.acks.pass → history ≡ seen out'.acks.last_pass → takes ≡ end.takes.items → IsEndOf gate out' end → StageAccount out.job.now out.edge out.index size start out.every gate' passes sent history takes end.cause
+account_of_same out out' size start gate gate' passes sent history takes end same size_is start_is gate_is passes_are sent_is history_is takes_are was =
+    subst (λ (j : Bor Job). StageAccount j.now out.edge out.index size start out.every gate' passes sent history takes end.cause) same.job
+    (subst (λ n. StageAccount out'.job.now n out.index size start out.every gate' passes sent history takes end.cause) same.edge
+    (subst (λ n. StageAccount out'.job.now out'.edge n size start out.every gate' passes sent history takes end.cause) same.index
+    (subst (λ n. StageAccount out'.job.now out'.edge out'.index n start out.every gate' passes sent history takes end.cause) size_is
+    (subst (λ (s : Start). StageAccount out'.job.now out'.edge out'.index out'.output.writer.size s out.every gate' passes sent history takes end.cause) start_is
+    (subst (λ (x : Option ℕ). StageAccount out'.job.now out'.edge out'.index out'.output.writer.size (start_at out') x gate' passes sent history takes end.cause) same.every_is
+    (subst (λ (x : Account). StageAccount out'.job.now out'.edge out'.index out'.output.writer.size (start_at out') out'.every x passes sent history takes end.cause) (sym gate_is)
+    (subst (λ (l : List SendPass). StageAccount out'.job.now out'.edge out'.index out'.output.writer.size (start_at out') out'.every gate l sent history takes end.cause) (sym passes_are)
+    (subst (λ (l : List Snapshot). StageAccount out'.job.now out'.edge out'.index out'.output.writer.size (start_at out') out'.every gate out'.output.writer.passes l history takes end.cause) (sym sent_is)
+    (subst (λ (l : List (ℕ × Stored)). StageAccount out'.job.now out'.edge out'.index out'.output.writer.size (start_at out') out'.every gate out'.output.writer.passes (sent_by out'.acks.pass) l takes end.cause) (sym history_is)
+    (subst (λ (l : List TakeRun). StageAccount out'.job.now out'.edge out'.index out'.output.writer.size (start_at out') out'.every gate out'.output.writer.passes (sent_by out'.acks.pass) (seen out'.acks.last_pass) l end.cause) (sym takes_are) was))))))))))
+
+-- it has waited by the names of what it hands back
+pub waited_as : (out : StageOutput) (start : Start) (sent : List Snapshot) (history : List (ℕ × Stored)) → start_at out ≡ start → sent ≡ sent_by out.acks.pass → history ≡ seen out.acks.last_pass
+    → HasWaited (base_at out) (length (sent_by out.acks.pass)) (seen out.acks.last_pass) → HasWaited (base_of start) (length sent) history
+waited_as out start sent history start_is sent_is history_is waited =
+    subst (λ (s : Start). HasWaited (base_of s) (length sent) history) start_is
+    (subst (λ (l : List Snapshot). HasWaited (base_at out) (length l) history) (sym sent_is)
+    (subst (λ (h : List (ℕ × Stored)). HasWaited (base_at out) (length (sent_by out.acks.pass)) h) (sym history_is) waited))
 
 -- it tells how many snapshots it sent
-pub acks_are : (acks : Acks) (pass : TaskPass) (n : ℕ) → HasPasses acks → (opening_of acks.snapshots.now).base ≡ 0 → n ≡ acks.number → pass ≡ acks.pass → n ≡ length (sent_by pass)
-acks_are acks pass n has base is same =
-    let number = has.number_is in
-    let count : n ≡ length (sent_by acks.pass) = omega (arith, is, number, base) in
-    count ∙ ap (λ (p : TaskPass). length (sent_by p)) (sym same)
+pub acks_are : (acks : Acks) (pass : TaskPass) (n : ℕ) → HasPasses acks → n ≡ acks.sent → pass ≡ acks.pass → n ≡ length (sent_by pass)
+acks_are acks pass n has is same = is ∙ has.sent_is ∙ ap (λ (p : TaskPass). length (sent_by p)) (sym same)
 
 -- what a writer gives back are passes of its partition
 pub written_back : (job : Job) (e a : ℕ) (partition : Partition) (w v : Writer) (passes : PartitionPasses) → IsWriterOf job e a partition w → IsSame w v → ArePassesBy v passes → ArePassesOf job e partition passes

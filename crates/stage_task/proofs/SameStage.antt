@@ -1,6 +1,8 @@
 -- The same task.
-use Rattle.std.proofs.Common.{refl, ◌∙◌}
+use Rattle.std.proofs.Common.{◌≡◌, Bor, refl, ap, ◌∙◌}
 use Rattle.record_writer.specs.Writers.{IsSame}
+use Rattle.snapshot_channel.specs.declared.opened.SnapshotChannel.{SnapshotChannel}
+use Rattle.snapshot_channel.specs.Passes.{opening_of}
 use Rattle.task_output.specs.declared.acks.Acks.{Acks}
 use Rattle.task_output.specs.Acking.{IsSameTask}
 use Rattle.task_output.specs.Outputs.{Output}
@@ -8,6 +10,10 @@ use Rattle.task_output.proofs.Acking.{task_itself, task_twice}
 use Rattle.task_output.proofs.Sending as writers
 use Rattle.stage_task.specs.declared.checkpoints.StageOutput.{StageOutput}
 use Rattle.stage_task.specs.Applying.{IsSameStage, HasOwnPasses}
+
+-- the same task goes on from the same start
+pub same_start : (acks acks' : Acks) → IsSameTask acks acks' → (opening_of acks'.snapshots.now).start ≡ (opening_of acks.snapshots.now).start
+same_start acks acks' same = ap (λ (s : Bor SnapshotChannel). (opening_of s.now).start) same.snapshots
 
 pub same_twice : (out mid end : StageOutput) → IsSameStage out mid → IsSameStage mid end → IsSameStage out end
 same_twice out mid end first second = record {
@@ -37,4 +43,4 @@ pub same_output : (out mid : StageOutput) (o : Output) → IsSame mid.output.wri
 same_output out mid o same was = same_after out mid o mid.acks same (task_itself mid.acks) was
 
 pub own_output : (out : StageOutput) (o : Output) → HasOwnPasses out → HasOwnPasses (record out { output = o })
-own_output out o own = record { edge = own.edge; passes = own.passes; task = own.task; job_is = own.job_is; base = own.base; waited = own.waited }
+own_output out o own = record { edge = own.edge; passes = own.passes; task = own.task; job_is = own.job_is; waited = own.waited }

@@ -4,14 +4,18 @@ use Rattle.std.specs.Prelude.{◌≡◌, ℕ, suc, ◌<◌, ◌⊎◌, Bool, tru
 use Rattle.turn_cell.specs.Passes.{seen}
 use Rattle.flow_defs.specs.declared.cause.Cause.{Cause}
 use Rattle.flow_defs.specs.declared.cause.Cause.TheVariants as causes
+use Rattle.flow_defs.specs.declared.image.Snapshot.{Snapshot}
 use Rattle.flow_defs.specs.declared.job.Job.{Job}
 use Rattle.flow_defs.specs.Jobs.{last_edge}
 use Rattle.checkpoint_laws.specs.Chapters.{applied, task_at}
+use Rattle.job_start.specs.declared.start.Start.{Start}
+use Rattle.job_start.specs.Starts.{from_of}
+use Rattle.outside.specs.declared.last_image.Stored.{Stored}
 use Rattle.record_writer.specs.Writers.{IsSame, HasSeenFault}
 use Rattle.input_gate.specs.Gates.{Account}
 use Rattle.snapshot_channel.specs.Passes.{opening_of, sent_by, task_of}
 use Rattle.task_taking.specs.Takings.{Taking, HasTaken, IsAtBarrier}
-use Rattle.task_output.specs.Acking.{HasPasses, IsSameTask}
+use Rattle.task_output.specs.Acking.{HasPasses, IsSameTask, base_of}
 use Rattle.task_output.specs.Outputs.{Output, HasSent, HasBegun}
 use Rattle.task_output.specs.Waiting.{LastIs, HasWaited}
 use Rattle.stage_task.specs.declared.checkpoints.StageOutput.{StageOutput}
@@ -21,15 +25,24 @@ use Rattle.stage_task.specs.Stages.{StageAccount}
 
 -- ---- what it has at hand
 
--- It acknowledges as its task, on a channel of snapshots that is opened from the start on for its job. It has sent a snapshot only where it
--- had seen the image of the checkpoint before. Its edge is one before the last.
+-- The start for which its channel of snapshots is opened, the image of that start as others are told of it, and from what the task goes on.
+abbrev pub start_at : StageOutput → Start
+start_at out = (opening_of out.acks.snapshots.now).start
+
+abbrev pub base_at : StageOutput → Stored
+base_at out = base_of (start_at out)
+
+abbrev pub from_at : StageOutput → Snapshot
+from_at out = from_of out.job.now (start_at out) (suc out.edge) out.index
+
+-- It acknowledges as its task, on a channel of snapshots that is opened for its job. It has sent a snapshot only where it had seen the image
+-- of the checkpoint before. Its edge is one before the last.
 pub record HasOwnPasses (out : StageOutput) : Type 0 where
   pub edge : out.edge < last_edge out.job.now
   pub passes : HasPasses out.acks
   pub task : task_of out.acks.pass ≡ task_at (suc out.edge) out.index
   pub job_is : (opening_of out.acks.snapshots.now).job ≡ out.job.now
-  pub base : (opening_of out.acks.snapshots.now).base ≡ 0
-  pub waited : HasWaited (length (sent_by out.acks.pass)) (seen out.acks.last_pass)
+  pub waited : HasWaited (base_at out) (length (sent_by out.acks.pass)) (seen out.acks.last_pass)
 
 -- It is the same task, and writes by the same writer.
 pub record IsSameStage (out out' : StageOutput) : Type 0 where
@@ -46,31 +59,30 @@ pub record IsSameStage (out out' : StageOutput) : Type 0 where
 -- group.
 pub record HasApplied (gate : Account) (taking : Taking) (out : StageOutput) (groups : List (List (ℕ × List ℕ))) (took : List (ℕ × List ℕ)) : Type 0 where
   pub taken : HasTaken out.job.now out.edge out.index gate taking groups took
-  pub sent : HasSent 0 out.job.now (suc out.edge) out.index out.output.writer.size out.output (all_applied out.job.now out.edge groups) (applied out.job.now out.edge took)
-  pub snapshots : AreSnapshots out.job.now out.edge out.index 0 0 groups (sent_by out.acks.pass)
+  pub sent : HasSent (from_at out).emitted out.job.now (suc out.edge) out.index out.output.writer.size out.output (all_applied out.job.now out.edge groups) (applied out.job.now out.edge took)
+  pub snapshots : AreSnapshots out.job.now out.edge out.index (from_at out).number (from_at out).emitted groups (sent_by out.acks.pass)
 
 -- It takes on: the last checkpoint is still to come.
 pub record IsStageUnderWay (gate : Account) (taking : Taking) (out : StageOutput) : Type 0 where
   pub groups : List (List (ℕ × List ℕ))
   pub took : List (ℕ × List ℕ)
   pub applied_them : HasApplied gate taking out groups took
-  pub not_last : LastIs out.every (seen out.acks.last_pass) (length groups) false
+  pub not_last : LastIs (base_at out) out.every (seen out.acks.last_pass) (length groups) false
 
 -- It has acknowledged the last checkpoint, and has taken nothing behind it.
 pub record IsBehindLast (gate : Account) (taking : Taking) (out : StageOutput) : Type 0 where
   pub groups : List (List (ℕ × List ℕ))
   pub applied_them : HasApplied gate taking out groups []
-  pub last : LastIs out.every (seen out.acks.last_pass) (length groups) true
+  pub last : LastIs (base_at out) out.every (seen out.acks.last_pass) (length groups) true
 
--- The barriers of checkpoint k have come, and were put behind all that it emitted. The snapshot is still to be sent.
-pub record IsMarked (gate : Account) (taking : Taking) (out : StageOutput) (k : ℕ) : Type 0 where
+-- The barriers of a checkpoint have come, and were put behind all that it emitted. The snapshot is still to be sent.
+pub record IsMarked (gate : Account) (taking : Taking) (out : StageOutput) : Type 0 where
   pub groups : List (List (ℕ × List ℕ))
   pub took : List (ℕ × List ℕ)
   pub at : IsAtBarrier out.job.now out.edge out.index gate taking groups took
-  pub sent : HasSent 0 out.job.now (suc out.edge) out.index out.output.writer.size out.output (all_applied out.job.now out.edge groups ++ applied out.job.now out.edge took ∷ []) []
-  pub snapshots : AreSnapshots out.job.now out.edge out.index 0 0 groups (sent_by out.acks.pass)
-  pub not_last : LastIs out.every (seen out.acks.last_pass) (length groups) false
-  pub number : k ≡ suc (length groups)
+  pub sent : HasSent (from_at out).emitted out.job.now (suc out.edge) out.index out.output.writer.size out.output (all_applied out.job.now out.edge groups ++ applied out.job.now out.edge took ∷ []) []
+  pub snapshots : AreSnapshots out.job.now out.edge out.index (from_at out).number (from_at out).emitted groups (sent_by out.acks.pass)
+  pub not_last : LastIs (base_at out) out.every (seen out.acks.last_pass) (length groups) false
 
 -- It has acknowledged a checkpoint, the last one or another.
 abbrev pub HasAcknowledged : Account → Taking → StageOutput → Bool → Type 0
@@ -99,4 +111,4 @@ EmittedAll from job e a size out groups records given (Err cause) = EndedAmong f
 -- It has its account where it takes no more.
 abbrev pub IsEndOf : Account → StageOutput → TakerEnd → Type 0
 IsEndOf gate out end =
-    StageAccount out.job.now out.edge out.index out.output.writer.size out.every gate out.output.writer.passes (sent_by out.acks.pass) (seen out.acks.last_pass) end.takes.items end.cause
+    StageAccount out.job.now out.edge out.index out.output.writer.size (start_at out) out.every gate out.output.writer.passes (sent_by out.acks.pass) (seen out.acks.last_pass) end.takes.items end.cause

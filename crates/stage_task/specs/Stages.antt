@@ -10,33 +10,37 @@ use Rattle.flow_defs.specs.declared.job.Job.{Job}
 use Rattle.flow_defs.specs.Jobs.{IsJob, last_edge, tasks}
 use Rattle.plain_machine.specs.Emitting.{receiver_on}
 use Rattle.checkpoint_laws.specs.Chapters.{RunsTake, applied}
+use Rattle.job_start.specs.declared.start.Start.{Start}
+use Rattle.job_start.specs.Starts.{from_of}
 use Rattle.outside.specs.declared.last_image.Stored.{Stored}
 use Rattle.conn_parts.specs.Shares.{mine_at}
 use Rattle.record_writer.specs.Writers.{SendPass, ways_on, ways_into}
 use Rattle.input_gate.specs.Gates.{Account, IsNew}
 use Rattle.task_taking.specs.Endings.{Gave, EachTold, IsTakerEnd}
+use Rattle.task_output.specs.Acking.{base_of}
 use Rattle.task_output.specs.Outputs.{BegunOn, FinishedOn, end_of}
 use Rattle.task_output.specs.Waiting.{MayEnd}
 use Rattle.stage_task.specs.Snapshots.{AreSnapshots, all_applied}
 
 -- ---- what it did
 
--- What task b behind edge e did by its gate and its passes: it took these groups of records and sent a snapshot for each, and then took
--- the rest, of which the runs tell. It put what its stage gives for each group before a barrier, and behind the last one what it gives for
--- the rest, from the first record on. It was done only where it had acknowledged the last checkpoint, and then ended its channels. Whatever
--- its cause, it put at most one barrier more than it sent snapshots, and that one only where each channel of its gate had told it; and an end
--- only behind the barrier of the last checkpoint.
-pub record StageAccount (job : Job) (e b size : ℕ) (every : Option ℕ) (gate : Account) (passes : List SendPass) (sent : List Snapshot) (history : List (ℕ × Stored)) (takes : List TakeRun) (cause : Cause) : Type 0 where
+-- What task b behind edge e did from this start on by its gate and its passes: it took these groups of records and sent a snapshot for each,
+-- and then took the rest, of which the runs tell. It put what its stage gives for each group before a barrier, and behind the last one what
+-- it gives for the rest, from the first record on. The numbers of its snapshots, and how many records it has emitted, go on from those of the
+-- start. It was done only where it had acknowledged the last checkpoint, and then ended its channels. Whatever its cause, it put at most one
+-- barrier more than it sent snapshots, and that one only where each channel of its gate had told it; and an end only behind the barrier of
+-- the last checkpoint.
+pub record StageAccount (job : Job) (e b size : ℕ) (start : Start) (every : Option ℕ) (gate : Account) (passes : List SendPass) (sent : List Snapshot) (history : List (ℕ × Stored)) (takes : List TakeRun) (cause : Cause) : Type 0 where
   pub groups : List (List (ℕ × List ℕ))
   pub rest : List (ℕ × List ℕ)
   pub more : List (List ℕ)
   pub given : Gave job e b gate groups rest
-  pub snapshots : AreSnapshots job e b 0 0 groups sent
+  pub snapshots : AreSnapshots job e b (from_of job start (suc e) b).number (from_of job start (suc e) b).emitted groups sent
   pub takes_are : RunsTake job e b takes rest
   pub front : StartsWith (applied job e rest) more
-  pub put : (c : ℕ) → c < ways_on job (suc e) → BegunOn (receiver_on job (suc e) b) 0 (all_applied job e groups) (end_of job (suc e) b c) size more (EachTold gate (suc (length groups))) (MayEnd every history groups rest) (mine_at c passes)
-  pub done : cause ≡ causes.Done → (rest ≡ []) × ((c : ℕ) → c < ways_on job (suc e) → FinishedOn (receiver_on job (suc e) b) 0 (all_applied job e groups) (end_of job (suc e) b c) size [] (mine_at c passes))
-  pub cause_is : IsTakerEnd every history gate groups rest cause
+  pub put : (c : ℕ) → c < ways_on job (suc e) → BegunOn (receiver_on job (suc e) b) (from_of job start (suc e) b).emitted (all_applied job e groups) (end_of job (suc e) b c) size more (EachTold gate (suc (length groups))) (MayEnd (base_of start) every history groups rest) (mine_at c passes)
+  pub done : cause ≡ causes.Done → (rest ≡ []) × ((c : ℕ) → c < ways_on job (suc e) → FinishedOn (receiver_on job (suc e) b) (from_of job start (suc e) b).emitted (all_applied job e groups) (end_of job (suc e) b c) size [] (mine_at c passes))
+  pub cause_is : IsTakerEnd (base_of start) every history gate groups rest cause
 
 -- ---- what it is
 

@@ -76,7 +76,7 @@ pub fn apply_all<G: Gate, R: Wait>(
                     Ok(()) => {}
                     Err(_) => return end_of(taking, Cause::Stopped),
                 }
-                match acknowledge(rt, alloc, gate, &mut taking, out, k) {
+                match acknowledge(rt, alloc, gate, &mut taking, out) {
                     Ok(false) => {}
                     Ok(true) => return end_behind_last(rt, gate, taking, out),
                     Err(end) => return end,

@@ -1,5 +1,5 @@
 // How a stage takes checkpoints.
-ghost use Rattle.std.specs.Prelude.{◌≡◌, ◌^◌, ◌<◌, suc, IfOk, IfErr, OnOk, OnErr};
+ghost use Rattle.std.specs.Prelude.{◌≡◌, ◌^◌, ◌<◌, suc, IfOk, IfErr, OnOk};
 ghost use Rattle.record_writer.specs.Writers.{HasSeenFault};
 ghost use Rattle.input_gate.specs.Gates.{Account};
 ghost use Rattle.task_taking.specs.Takings.{AllBlocked, IsInStep};
@@ -40,16 +40,18 @@ pub struct TakerEnd {
 /// Acknowledges a checkpoint whose barriers have been put: resumes the channels of the gate, and sends the
 /// snapshot. It waits until the image of the checkpoint before is stored. Whether this checkpoint is the last
 /// is the answer.
+///
+/// A barrier counts from the beginning of the run, and a snapshot from the image on from which the run goes on.
+/// Where no number of 64 bits is left, the task ends as it does for want of memory.
 pub fn acknowledge<G: Gate, R: Wait>(
     rt: &R,
     alloc: Global,
     gate: &mut G,
     taking: &mut TaskTaking,
     out: &mut StageOutput<'_, '_>,
-    k: u64,
 ) -> Result<bool, TakerEnd>
     requires blocked { AllBlocked (G.account gate.old) taking.old }
-    requires marked { IsMarked (G.account gate.old) taking.old out.old k }
+    requires marked { IsMarked (G.account gate.old) taking.old out.old }
     requires own { HasOwnPasses out.old }
     ensures gate { (G.ends gate.new ≡ G.ends gate.old) × ((G.account gate.new).channels ≡ (G.account gate.old).channels) }
     ensures same { IsSameStage out.old out.new }
@@ -57,14 +59,20 @@ pub fn acknowledge<G: Gate, R: Wait>(
     ensures in_step { OnOk result (IsInStep (G.account gate.new) taking.new) }
     ensures acknowledged { IfOk result (λ last. HasAcknowledged (G.account gate.new) taking.new out.new last) }
     ensures ended { IfErr result (λ end. IsEndOf (G.account gate.new) out.new end) }
-    ensures stopped { OnErr result (HasSeenFault out.new.output.writer) }
+    ensures stopped { IfErr result (λ end. end.cause ≡ Cause.Stopped → HasSeenFault out.new.output.writer) }
 {
     what_was_sent_was_begun();
     what_was_seen_stays();
     what_was_taken_was_given();
     emits_in_parts();
     let takes = taking.resume_all(rt, gate);
-    let last = match out.acks.learn_last(rt, &mut out.output, out.every, k) {
+    let Some(number) = out.acks.next_number() else {
+        return Err(TakerEnd {
+            takes,
+            cause: Cause::Memory,
+        });
+    };
+    let last = match out.acks.learn_last(rt, &mut out.output, out.every, number) {
         Ok(last) => last,
         Err(_) => {
             return Err(TakerEnd {
@@ -73,7 +81,7 @@ pub fn acknowledge<G: Gate, R: Wait>(
             });
         }
     };
-    let snapshot = out.snapshot(alloc, k, takes);
+    let snapshot = out.snapshot(alloc, number, takes);
     match out.acks.send(rt, &mut out.output, snapshot) {
         Ok(()) => Ok(last),
         Err(back) => {
@@ -87,10 +95,11 @@ pub fn acknowledge<G: Gate, R: Wait>(
 }
 
 impl<'a, 'p> StageOutput<'a, 'p> {
-    // The snapshot for checkpoint k, with the runs of what was taken since the one before. It takes no memory.
-    fn snapshot(&self, alloc: Global, k: u64, takes: ListOf<TakeRun>) -> Snapshot
+    // The snapshot for the checkpoint of this number, with the runs of what was taken since the one before. It
+    // takes no memory.
+    fn snapshot(&self, alloc: Global, number: u64, takes: ListOf<TakeRun>) -> Snapshot
         requires { suc self.now.edge < 2 ^ 32 }
-        ensures of { IsSnapshotOf self.now.edge self.now.index k self.now.output.emitted result }
+        ensures of { IsSnapshotOf self.now.edge self.now.index number self.now.output.emitted result }
         ensures takes { result.takes ≡ takes }
     {
         Snapshot {
@@ -98,7 +107,7 @@ impl<'a, 'p> StageOutput<'a, 'p> {
                 stage: self.edge + 1,
                 index: self.index,
             },
-            number: k,
+            number,
             offset: 0,
             ended: false,
             emitted: self.output.emitted(),

@@ -4,7 +4,7 @@ ghost use Rattle.turn_cell.specs.Passes.{IsPassOf, seen};
 ghost use Rattle.stage_fns.specs.Kinds.{kinds};
 ghost use Rattle.job_plan.specs.Plans.{CanRun};
 ghost use Rattle.record_writer.specs.Partitions.{ArePassesOf, IsPartitionOf};
-ghost use Rattle.task_output.specs.Acking.{IsLent};
+ghost use Rattle.task_output.specs.Acking.{IsLent, base_of};
 ghost use Rattle.task_output.specs.Waiting.{HasWaited};
 ghost use Rattle.input_gate.specs.Gates.{Account};
 ghost use Rattle.snapshot_channel.specs.Passes as channels;
@@ -14,6 +14,7 @@ ghost use Rattle.task_taking.specs.Endings.{ToldStop};
 use crate::{StageOutput, TakerEnd, apply_all};
 use flow_defs::{Cause, Job, ListOf};
 use input_gate::Gate;
+use job_start::Start;
 use record_writer::{Partition, PartitionPasses, RecordWriter};
 use stage_fns::FnTable;
 use std::alloc::Global;
@@ -26,8 +27,10 @@ use task_taking::TaskTaking;
 /// own on each channel that it sends on, lets the gate's channels go on, and sends a snapshot. It ends its
 /// channels once those of the gate have ended behind the last checkpoint.
 ///
-/// With None the first checkpoint is the last. With an interval it is the one behind an image in which all
-/// sources are ended; so before a snapshot the task waits until the image of the checkpoint before is stored.
+/// It goes on from the start: the numbers of its snapshots, and how many records it has emitted, count on from
+/// there. With None the first checkpoint is the last. With an interval it is the one behind an image in which all
+/// sources are ended, be it that of the start; so before a snapshot the task waits until the image of the
+/// checkpoint before is stored.
 pub fn run_stage<'a, 'p, G: Gate, R: Wait>(
     rt: &R,
     alloc: Global,
@@ -36,20 +39,21 @@ pub fn run_stage<'a, 'p, G: Gate, R: Wait>(
     gate: G,
     edge: u32,
     index: u32,
+    start: &Start,
     every: Option<u64>,
     world: World<'a, Partition<'a, 'p>>,
 ) -> TaskEnd<G, PartitionPasses<'p>>
     requires task { IsStageTask job.now edge index (G.account gate) }
     requires functions { CanRun (kinds functions.now) job.now }
     requires partition { IsPartitionOf job.now (suc edge) index world.partition }
-    requires lent { IsLent job.now (suc edge) index every world }
+    requires lent { IsLent job.now (suc edge) index start.now every world }
     ensures gate { (G.ends result.gate ≡ G.ends gate) × ((G.account result.gate).channels ≡ (G.account gate).channels) }
     ensures partition { ArePassesOf job.now (suc edge) world.entry.partition result.passes.partition }
     ensures snapshots { channels.IsPassOf world.entry.acks.snapshots.now result.passes.snapshots × (channels.task_of result.passes.snapshots ≡ channels.task_of world.entry.acks.pass) }
     ensures last_image { IsPassOf world.entry.acks.last_image.now result.passes.last_image }
-    ensures waited { HasWaited (length (channels.sent_by result.passes.snapshots)) (seen result.passes.last_image) }
+    ensures waited { HasWaited (base_of start.now) (length (channels.sent_by result.passes.snapshots)) (seen result.passes.last_image) }
     ensures acks { result.acks ≡ length (channels.sent_by result.passes.snapshots) }
-    ensures account { StageAccount job.now edge index world.entry.partition.size every (G.account result.gate) result.passes.partition.subpartitions.items (channels.sent_by result.passes.snapshots) (seen result.passes.last_image) result.takes.items result.cause }
+    ensures account { StageAccount job.now edge index world.entry.partition.size start.now every (G.account result.gate) result.passes.partition.subpartitions.items (channels.sent_by result.passes.snapshots) (seen result.passes.last_image) result.takes.items result.cause }
     ensures stop { ToldStop world.entry.stop.now (G.saw_stop result.gate) result.cause world.entry.stop_pass result.passes.stop }
 {
     let World {
@@ -72,7 +76,17 @@ pub fn run_stage<'a, 'p, G: Gate, R: Wait>(
             Cause::Memory,
         );
     };
-    match RecordWriter::new(alloc, job, edge + 1, index, 0, partition, stop, stop_pass) {
+    let emitted = start.emitted(job, edge + 1, index);
+    match RecordWriter::new(
+        alloc,
+        job,
+        edge + 1,
+        index,
+        emitted,
+        partition,
+        stop,
+        stop_pass,
+    ) {
         Ok(writer) => {
             let mut out = StageOutput {
                 output: TaskOutput::new(writer),

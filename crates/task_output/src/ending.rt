@@ -26,7 +26,7 @@ pub fn end_sender<'p, G, R: Wait>(
     ensures gate { result.gate ≡ gate }
     ensures partition { ArePassesBy output.entry.writer result.passes.partition }
     ensures passes { (result.passes.snapshots ≡ acks.entry.pass) × (result.passes.last_image ≡ acks.entry.last_pass) }
-    ensures acks { result.acks ≡ acks.entry.number }
+    ensures acks { result.acks ≡ acks.entry.sent }
     ensures takes { result.takes ≡ takes }
     ensures cause { EndsAs cause result.cause }
     ensures told { ToldAtEnd stop.now cause result.cause output.entry.writer.stop_pass result.passes.stop }
@@ -51,7 +51,7 @@ pub fn end_task<G, P, R: Wait>(
     ensures gate { result.gate ≡ gate }
     ensures partition { result.passes.partition ≡ partition }
     ensures passes { (result.passes.snapshots ≡ acks.entry.pass) × (result.passes.last_image ≡ acks.entry.last_pass) }
-    ensures acks { result.acks ≡ acks.entry.number }
+    ensures acks { result.acks ≡ acks.entry.sent }
     ensures takes { result.takes ≡ takes }
     ensures cause { EndsAs cause result.cause }
     ensures told { ToldAtEnd stop.now cause result.cause stop_pass result.passes.stop }
@@ -61,7 +61,8 @@ pub fn end_task<G, P, R: Wait>(
         pass,
         last_image: _,
         last_pass,
-        number,
+        base: _,
+        sent,
     } = acks;
     let mut stop_pass = stop_pass;
     let cause = tell_end(rt, stop, &mut stop_pass, cause);
@@ -75,7 +76,7 @@ pub fn end_task<G, P, R: Wait>(
         gate,
         passes,
         takes,
-        acks: number,
+        acks: sent,
         cause,
     }
 }

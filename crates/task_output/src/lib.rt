@@ -13,7 +13,7 @@ mod looking;
 mod output;
 mod world;
 
-pub use acks::Acks;
+pub use acks::{Acks, base_of};
 pub use ending::{end_sender, end_task};
 pub use looking::{LooksForStop, StopLook, TaskStopped};
 pub use output::TaskOutput;

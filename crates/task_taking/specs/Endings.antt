@@ -46,19 +46,19 @@ EachTold gate n = (c : ℕ) → c < gate.channels → stops_in (gate.told c) ≡
 -- ---- why it ends
 
 -- All channels ended before it had acknowledged the last checkpoint, or a line or a barrier came after it had.
-abbrev pub BreaksOrder : Option ℕ → List (ℕ × Stored) → Account → List (List (ℕ × List ℕ)) → List (ℕ × List ℕ) → Type 0
-BreaksOrder every history gate groups rest =
-    (LastIs every history (length groups) false × AllOver gate)
-    ⊎ (LastIs every history (length groups) true × ((rest ≢ []) ⊎ EachTold gate (suc (length groups))))
+abbrev pub BreaksOrder : Stored → Option ℕ → List (ℕ × Stored) → Account → List (List (ℕ × List ℕ)) → List (ℕ × List ℕ) → Type 0
+BreaksOrder base every history gate groups rest =
+    (LastIs base every history (length groups) false × AllOver gate)
+    ⊎ (LastIs base every history (length groups) true × ((rest ≢ []) ⊎ EachTold gate (suc (length groups))))
 
--- Where it acknowledged a checkpoint behind each of these groups and took the rest, it ends so only for these reasons.
-abbrev pub IsTakerEnd : Option ℕ → List (ℕ × Stored) → Account → List (List (ℕ × List ℕ)) → List (ℕ × List ℕ) → Cause → Type 0
-IsTakerEnd every history gate groups rest causes.Done = AllOver gate × (rest ≡ []) × LastIs every history (length groups) true
-IsTakerEnd every history gate groups rest causes.Stopped = ⊤
-IsTakerEnd every history gate groups rest (causes.Peer peers.Left) = IsCutShort gate
-IsTakerEnd every history gate groups rest (causes.Peer peers.Barrier) = GaveFront gate ⊎ BreaksOrder every history gate groups rest
-IsTakerEnd every history gate groups rest causes.Memory = ⊤
-IsTakerEnd every history gate groups rest other = ⊥
+-- Where it acknowledged a checkpoint behind each of these groups from the base on and took the rest, it ends so only for these reasons.
+abbrev pub IsTakerEnd : Stored → Option ℕ → List (ℕ × Stored) → Account → List (List (ℕ × List ℕ)) → List (ℕ × List ℕ) → Cause → Type 0
+IsTakerEnd base every history gate groups rest causes.Done = AllOver gate × (rest ≡ []) × LastIs base every history (length groups) true
+IsTakerEnd base every history gate groups rest causes.Stopped = ⊤
+IsTakerEnd base every history gate groups rest (causes.Peer peers.Left) = IsCutShort gate
+IsTakerEnd base every history gate groups rest (causes.Peer peers.Barrier) = GaveFront gate ⊎ BreaksOrder base every history gate groups rest
+IsTakerEnd base every history gate groups rest causes.Memory = ⊤
+IsTakerEnd base every history gate groups rest other = ⊥
 
 -- ---- what it tells of its end
 

@@ -3,3 +3,4 @@ mod Samples
 mod CountingJob
 mod OneChannel
 mod RaisingJob
+mod OneRow

@@ -17,13 +17,14 @@ ghost use Rattle.task_output.specs.Acking.{HasPasses, IsLent};
 ghost use Rattle.task_taking.specs.Samples.{account_of};
 ghost use Rattle.stage_task.specs.Stages.{IsStageTask};
 
-use crate::lent::shared_last;
+use crate::lent::{Point, shared_last, start_at};
 use crate::list_gate::{ListGate, Piece, gate_of};
 use fixtures::{list_of_one, open_local, open_pool, open_stop, open_subpartition, take_in_turn};
 use flow_defs::{
     AggKind, BarrierKind, Bytes, Cause, Exchange, Job, ListOf, PeerFault, Stage, StageKind,
     TakeRun, TaskId,
 };
+use job_start::Start;
 use local_pool::HeldPool;
 use outside::{Stored, tell_stop};
 use record_writer::{Partition, PartitionPasses};
@@ -35,7 +36,7 @@ use std::process::Abort;
 use std::sync::Wait;
 use std::test::Fail;
 use subpartition::{Item, Subpartition};
-use task_output::{Acks, TaskEnd, World};
+use task_output::{Acks, TaskEnd, World, base_of};
 use turn_cell::{Pass, TurnCell};
 
 // A job of two sources, a stage of one task that raises letters, and one task of the aggregate.
@@ -72,10 +73,10 @@ struct Ends {
     of_stage: TaskPass,
 }
 
-fn open_ends(alloc: Global, job: &Job, every: Option<u64>) -> Result<Ends, Fail>
+fn open_ends(alloc: Global, job: &Job, start: &Start, every: Option<u64>) -> Result<Ends, Fail>
     requires is_job { IsJob job.now × (last_edge job.now ≡ 1) }
     requires tasks { (tasks job.now 0 ≡ 2) × (tasks job.now 1 ≡ 1) × (tasks job.now 2 ≡ 1) }
-    ensures opening { IfOk result (λ ends. opening_of ends.channel ≡ opening job.now 0 every) }
+    ensures opening { IfOk result (λ ends. opening_of ends.channel ≡ opening job.now start.now every) }
     ensures collecting { IfOk result (λ ends. IsCollecting ends.channel ends.collecting) }
     ensures stage { IfOk result (λ ends. IsFresh ends.channel ends.of_stage × (task_of ends.of_stage ≡ task_at 1 0)) }
 {
@@ -83,7 +84,7 @@ fn open_ends(alloc: Global, job: &Job, every: Option<u64>) -> Result<Ends, Fail>
         channel,
         collecting,
         mut passes,
-    } = SnapshotChannel::open(alloc, job, 0, every)?;
+    } = SnapshotChannel::open(alloc, job, start, every)?;
     let Some(_of_count) = passes.pop() else {
         return Err("there is no pass".into());
     };
@@ -97,21 +98,24 @@ fn open_ends(alloc: Global, job: &Job, every: Option<u64>) -> Result<Ends, Fail>
     })
 }
 
-// What a stage takes, and what it is to send: a buffer of these bytes, if there are some, so many barriers, and
-// the end or not.
+// What a stage takes, from where it goes on, and what it is to send: a buffer of these bytes, if there are some, a
+// barrier and a snapshot for each of these numbers, and the end or not. It has emitted so many records in each
+// snapshot.
 #[derive(Clone, Copy)]
 struct Case<'a> {
     pieces: &'a [(u32, Piece)],
+    from: Option<Point>,
     every: Option<u64>,
     stored: Option<Stored>,
     stopped: bool,
     buffer: &'a [u8],
-    barriers: u64,
+    numbers: &'a [u64],
+    emitted: u64,
     ended: bool,
 }
 
-// What stands in a subpartition is a buffer of these bytes, if there are some, the barriers up to this number,
-// and the end or not.
+// What stands in a subpartition is what the case names: its buffer, if it has bytes, as many barriers as there are
+// numbers, counted from 1, and the end or not.
 fn has_sent<R: Wait + Abort>(
     rt: &R,
     cell: &TurnCell<Subpartition>,
@@ -127,7 +131,7 @@ fn has_sent<R: Wait + Abort>(
             _ => panic!(rt; "no buffer"),
         }
     }
-    'barriers: for number in 1..=case.barriers {
+    'barriers: for number in 1..=case.numbers.len() as u64 {
         match take_in_turn(rt, cell, &mut sender) {
             Some(Item::Barrier { k, kind }) => {
                 assert_eq!(rt; (k, kind), (number, BarrierKind::Inline));
@@ -141,29 +145,32 @@ fn has_sent<R: Wait + Abort>(
     assert!(rt; take_in_turn(rt, cell, &mut sender).is_none());
 }
 
-// The snapshots on the channel are those up to this number, of a stage that took two records before the first
+// One record of each source.
+static ONE_OF_EACH: [TakeRun; 2] = [TakeRun { from: 0, count: 1 }, TakeRun { from: 1, count: 1 }];
+
+// The snapshots on the channel are those of the case's numbers, of a stage that took two records before the first
 // barrier and none behind it.
 fn has_told<R: Wait + Abort>(
     rt: &R,
     channel: &SnapshotChannel,
     collecting: CollectingPass,
-    barriers: u64,
+    case: Case<'_>,
 )
     requires { IsCollecting channel.now collecting }
 {
     let mut collecting = collecting;
-    'snapshots: for number in 1..=barriers {
+    let mut takes: &[TakeRun] = &ONE_OF_EACH;
+    'snapshots: for number in case.numbers {
         let Some(got) = channel.receive(rt, &mut collecting) else {
             panic!(rt; "no snapshot")
         };
-        let takes = [TakeRun { from: 0, count: 1 }, TakeRun { from: 1, count: 1 }];
         assert_eq!(rt; got.task, TaskId { stage: 1, index: 0 });
-        assert_eq!(rt; (got.number, got.emitted, got.ended), (number, 2, false));
-        if number == 1 {
-            assert_eq!(rt; got.takes.as_slice(), takes.as_slice());
-        } else {
-            assert!(rt; got.takes.as_slice().is_empty());
-        }
+        assert_eq!(rt;
+            (got.number, got.emitted, got.ended),
+            (*number, case.emitted, false)
+        );
+        assert_eq!(rt; got.takes.as_slice(), takes);
+        takes = &[];
     }
     assert!(rt; channel.receive(rt, &mut collecting).is_none());
 }
@@ -175,16 +182,17 @@ fn stage<'a, 'p, R: Wait>(
     job: &'a Job,
     functions: &FnTable,
     gate: ListGate,
+    start: &Start,
     every: Option<u64>,
     world: World<'a, Partition<'a, 'p>>,
 ) -> (Cause, usize)
     requires task { IsStageTask job.now 0 0 (account_of gate.given.items gate.first gate.second gate.over) }
     requires functions { CanRun (kinds functions.now) job.now }
     requires partition { IsPartitionOf job.now 1 0 world.partition }
-    requires lent { IsLent job.now 1 0 every world }
+    requires lent { IsLent job.now 1 0 start.now every world }
 {
     let TaskEnd { takes, cause, .. } = run_stage(
-        rt, alloc, job, functions, gate, 0, 0, every, world,
+        rt, alloc, job, functions, gate, 0, 0, start, every, world,
     );
     (cause, takes.as_slice().len())
 }
@@ -221,21 +229,23 @@ fn stage_by<R: Wait + Abort>(
     requires interval { IfSome case.every (λ n. 1 ≤ n) }
 {
     let job = raising_job(alloc)?;
+    let start = start_at(alloc, &job, case.from)?;
     let Ends {
         channel,
         collecting,
         of_stage,
-    } = open_ends(alloc, &job, case.every)?;
+    } = open_ends(alloc, &job, &start, case.every)?;
     let (last_image, last_pass) = shared_last(rt, alloc, case.stored)?;
     let acks = Acks {
         snapshots: &channel,
         pass: of_stage,
         last_image: &last_image,
         last_pass,
-        number: 0,
+        base: base_of(&start),
+        sent: 0,
     };
-    let end = stage_pooled(rt, alloc, &job, functions, acks, case)?;
-    has_told(rt, &channel, collecting, case.barriers);
+    let end = stage_pooled(rt, alloc, &job, functions, acks, &start, case)?;
+    has_told(rt, &channel, collecting, case);
     Ok(end)
 }
 
@@ -246,6 +256,7 @@ fn stage_pooled<'a, R: Wait + Abort>(
     job: &'a Job,
     functions: &FnTable,
     acks: Acks<'a>,
+    start: &Start,
     case: Case<'_>,
 ) -> Result<(Cause, usize), Fail>
     requires job { IsJob job.now × (last_edge job.now ≡ 1) }
@@ -253,12 +264,14 @@ fn stage_pooled<'a, R: Wait + Abort>(
     requires tasks { (tasks job.now 0 ≡ 2) × (tasks job.now 1 ≡ 1) × (tasks job.now 2 ≡ 1) }
     requires functions { CanRun (kinds functions.now) job.now }
     requires passes { HasPasses acks × (sent_by acks.pass ≡ []) × (task_of acks.pass ≡ task_at 1 0) }
-    requires opening { opening_of acks.snapshots.now ≡ opening job.now 0 case.every }
+    requires opening { opening_of acks.snapshots.now ≡ opening job.now start.now case.every }
     requires interval { IfSome case.every (λ n. 1 ≤ n) }
 {
     let (pool, _passes, place) = open_pool(alloc, 4)?;
     let (pool_cell, lender) = open_local(rt, alloc, &pool, place, 4)?;
-    stage_over(rt, alloc, job, functions, acks, &pool_cell, lender, case)
+    stage_over(
+        rt, alloc, job, functions, acks, &pool_cell, lender, start, case,
+    )
 }
 
 // It sends on a new subpartition, and what stands in it is seen.
@@ -270,6 +283,7 @@ fn stage_over<'a, 'p, R: Wait + Abort>(
     acks: Acks<'a>,
     pool: &'a TurnCell<HeldPool<'p>>,
     lender: Pass<HeldPool<'p>>,
+    start: &Start,
     case: Case<'_>,
 ) -> Result<(Cause, usize), Fail>
     requires job { IsJob job.now × (last_edge job.now ≡ 1) }
@@ -277,7 +291,7 @@ fn stage_over<'a, 'p, R: Wait + Abort>(
     requires tasks { (tasks job.now 0 ≡ 2) × (tasks job.now 1 ≡ 1) × (tasks job.now 2 ≡ 1) }
     requires functions { CanRun (kinds functions.now) job.now }
     requires passes { HasPasses acks × (sent_by acks.pass ≡ []) × (task_of acks.pass ≡ task_at 1 0) }
-    requires opening { opening_of acks.snapshots.now ≡ opening job.now 0 case.every }
+    requires opening { opening_of acks.snapshots.now ≡ opening job.now start.now case.every }
     requires pool { IsPassOf pool.now lender × (size_of (pool_of (opened_with pool.now)) ≡ 64) }
     requires interval { IfSome case.every (λ n. 1 ≤ n) }
 {
@@ -306,7 +320,7 @@ fn stage_over<'a, 'p, R: Wait + Abort>(
         stop: &stop,
         stop_pass,
     };
-    let end = stage(rt, alloc, job, functions, gate, case.every, world);
+    let end = stage(rt, alloc, job, functions, gate, start, case.every, world);
     has_sent(rt, &cells[0], sender, case);
     Ok(end)
 }
@@ -346,11 +360,13 @@ const BUFFER: &[u8] = b"\0\0\0\x04PEAR\0\0\0\x03FIG";
 fn a_stage_without_an_interval_sends_one_snapshot(rt: HostRuntime) -> Result<(), Fail> {
     let case = Case {
         pieces: &RECORDS,
+        from: None,
         every: None,
         stored: None,
         stopped: false,
         buffer: BUFFER,
-        barriers: 1,
+        numbers: &[1],
+        emitted: 2,
         ended: true,
     };
     let end = stage_sends(&rt, rt.alloc(), case)?;
@@ -362,6 +378,7 @@ fn a_stage_without_an_interval_sends_one_snapshot(rt: HostRuntime) -> Result<(),
 fn the_checkpoint_behind_an_image_with_all_ended_is_the_last(rt: HostRuntime) -> Result<(), Fail> {
     let case = Case {
         pieces: &TWO_BARRIERS,
+        from: None,
         every: Some(1),
         stored: Some(Stored {
             number: 1,
@@ -369,7 +386,8 @@ fn the_checkpoint_behind_an_image_with_all_ended_is_the_last(rt: HostRuntime) ->
         }),
         stopped: false,
         buffer: BUFFER,
-        barriers: 2,
+        numbers: &[1, 2],
+        emitted: 2,
         ended: true,
     };
     let end = stage_sends(&rt, rt.alloc(), case)?;
@@ -381,11 +399,13 @@ fn the_checkpoint_behind_an_image_with_all_ended_is_the_last(rt: HostRuntime) ->
 fn ends_before_the_last_checkpoint_are_a_fault(rt: HostRuntime) -> Result<(), Fail> {
     let case = Case {
         pieces: &[],
+        from: None,
         every: None,
         stored: None,
         stopped: false,
         buffer: b"",
-        barriers: 0,
+        numbers: &[],
+        emitted: 0,
         ended: false,
     };
     let end = stage_sends(&rt, rt.alloc(), case)?;
@@ -397,11 +417,13 @@ fn ends_before_the_last_checkpoint_are_a_fault(rt: HostRuntime) -> Result<(), Fa
 fn a_line_behind_the_last_checkpoint_is_a_fault(rt: HostRuntime) -> Result<(), Fail> {
     let case = Case {
         pieces: &LINE_BEHIND,
+        from: None,
         every: None,
         stored: None,
         stopped: false,
         buffer: BUFFER,
-        barriers: 1,
+        numbers: &[1],
+        emitted: 2,
         ended: false,
     };
     let end = stage_sends(&rt, rt.alloc(), case)?;
@@ -413,14 +435,73 @@ fn a_line_behind_the_last_checkpoint_is_a_fault(rt: HostRuntime) -> Result<(), F
 fn a_task_that_was_done_is_stopped_by_a_fault_before(rt: HostRuntime) -> Result<(), Fail> {
     let case = Case {
         pieces: &RECORDS,
+        from: None,
         every: None,
         stored: None,
         stopped: true,
         buffer: BUFFER,
-        barriers: 1,
+        numbers: &[1],
+        emitted: 2,
         ended: true,
     };
     let end = stage_sends(&rt, rt.alloc(), case)?;
     assert_eq!(rt; end, (Cause::Stopped, 0));
+    Ok(())
+}
+
+// Behind checkpoint 6 the stage had emitted five records.
+const BEHIND_FIVE: Point = Point {
+    number: 6,
+    offsets: &[2, 3],
+    ended: &[false, false],
+    emitted: &[2, 3, 5],
+};
+
+#[test]
+fn a_stage_goes_on_with_its_number_and_its_count(rt: HostRuntime) -> Result<(), Fail> {
+    let case = Case {
+        pieces: &TWO_BARRIERS,
+        from: Some(BEHIND_FIVE),
+        every: Some(1),
+        stored: Some(Stored {
+            number: 7,
+            all_ended: true,
+        }),
+        stopped: false,
+        buffer: BUFFER,
+        numbers: &[7, 8],
+        emitted: 7,
+        ended: true,
+    };
+    let end = stage_sends(&rt, rt.alloc(), case)?;
+    assert_eq!(rt; end, (Cause::Done, 0));
+    Ok(())
+}
+
+// Behind checkpoint 6 both sources were at their ends, with two records on the way to the stage.
+const ALL_AT_THEIR_ENDS: Point = Point {
+    number: 6,
+    offsets: &[4, 3],
+    ended: &[true, true],
+    emitted: &[4, 3, 5],
+};
+
+#[test]
+fn where_all_sources_were_at_their_ends_the_first_checkpoint_is_the_last(
+    rt: HostRuntime,
+) -> Result<(), Fail> {
+    let case = Case {
+        pieces: &RECORDS,
+        from: Some(ALL_AT_THEIR_ENDS),
+        every: Some(1),
+        stored: None,
+        stopped: false,
+        buffer: BUFFER,
+        numbers: &[7],
+        emitted: 7,
+        ended: true,
+    };
+    let end = stage_sends(&rt, rt.alloc(), case)?;
+    assert_eq!(rt; end, (Cause::Done, 0));
     Ok(())
 }

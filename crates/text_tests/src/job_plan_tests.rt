@@ -1,7 +1,8 @@
-// The counts of a few records, as a table.
+// The counts of a few records, as a table and on from one.
 use flow_defs::{AggKind, Bytes, RECORD_MAX, Table};
 use job_plan::Counts;
 use stage_fns::{AggFn, FnTable, sum};
+use std::alloc::Global;
 use std::process::Abort;
 use std::test::Fail;
 
@@ -25,6 +26,30 @@ const ROWS: &[(&str, u64)] = &[
     ("b", 5),
 ];
 
+// Behind these rows, these records lead to the same table.
+const FIRST_ROWS: &[(&str, u64)] = &[("b", 1), ("a key that is longer than most", 3), ("", 2)];
+
+const MORE_RECORDS: &[&str] = &["b=4", "ab", "a=5"];
+
+// Adds these records to sums.
+fn add_records<R: Abort>(
+    rt: &R,
+    alloc: Global,
+    counts: &mut Counts,
+    records: &[&str],
+) -> Result<(), Fail> {
+    let mut functions = FnTable::new(alloc);
+    let f: AggFn = Box::new(alloc, |record: &[u8], old: u64| sum(record, old))?;
+    functions.add_agg(AggKind::Sum, f)?;
+    let f = functions.agg(AggKind::Sum).ok_or("no function")?;
+    for record in records {
+        let record = Bytes::of(alloc, record.as_bytes())?;
+        assert!(rt; record.as_slice().len() <= RECORD_MAX);
+        counts.add(AggKind::Sum, f, record)?;
+    }
+    Ok(())
+}
+
 // The table has these rows and no other.
 fn compare_rows<R: Abort>(rt: &R, table: &Table) -> Result<(), Fail> {
     let mut rows = table.rows().iter();
@@ -40,16 +65,19 @@ fn compare_rows<R: Abort>(rt: &R, table: &Table) -> Result<(), Fail> {
 #[test]
 fn counts_become_a_table_in_the_order_of_their_keys(rt: HostRuntime) -> Result<(), Fail> {
     let alloc = rt.alloc();
-    let mut functions = FnTable::new(alloc);
-    let f: AggFn = Box::new(alloc, |record: &[u8], old: u64| sum(record, old))?;
-    functions.add_agg(AggKind::Sum, f)?;
-    let f = functions.agg(AggKind::Sum).ok_or("no function")?;
     let mut counts = Counts::new(alloc);
-    for record in RECORDS {
-        let record = Bytes::of(alloc, record.as_bytes())?;
-        assert!(rt; record.as_slice().len() <= RECORD_MAX);
-        counts.add(AggKind::Sum, f, record)?;
+    add_records(&rt, alloc, &mut counts, RECORDS)?;
+    compare_rows(&rt, &counts.to_table()?)
+}
+
+#[test]
+fn counts_go_on_from_a_table(rt: HostRuntime) -> Result<(), Fail> {
+    let alloc = rt.alloc();
+    let mut first = Table::new(alloc);
+    for (key, value) in FIRST_ROWS {
+        first.set(key.as_bytes(), *value)?;
     }
-    let table = counts.to_table()?;
-    compare_rows(&rt, &table)
+    let mut counts = Counts::of_table(alloc, &first)?;
+    add_records(&rt, alloc, &mut counts, MORE_RECORDS)?;
+    compare_rows(&rt, &counts.to_table()?)
 }

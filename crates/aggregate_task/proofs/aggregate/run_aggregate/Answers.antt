@@ -4,10 +4,13 @@ use Rattle.flow_defs.specs.Items.{Items}
 use Rattle.flow_defs.specs.declared.cause.Cause.TheVariants as causes
 use Rattle.flow_defs.specs.declared.image.TakeRun.{TakeRun}
 use Rattle.conn_parts.specs.Stopping.{StopCell, StopPass}
+use Rattle.job_start.specs.declared.start.Start.{Start}
+use Rattle.snapshot_channel.specs.declared.views.Opening.{Opening}
 use Rattle.snapshot_channel.specs.Passes.{sent_by}
 use Rattle.task_output.specs.Ending.{ToldAtEnd}
 use Rattle.aggregate_task.specs.declared.checkpoint.AggregateOutput.{AggregateOutput}
-use Rattle.aggregate_task.proofs.Endings.{account_ended, account_of_same, counts_sent, told_stop}
+use Rattle.aggregate_task.specs.Aggregates.{AggregateAccount}
+use Rattle.aggregate_task.proofs.Endings.{account_ended, account_of_same, told_stop}
 use Rattle.aggregate_task.proofs.aggregate.run_aggregate.Goals as goal
 
 pub end_task-requires : goal.end_task-requires
@@ -15,7 +18,7 @@ end_task-requires g c =
     subst (λ (cell : StopCell). IsPassOf cell c.into_pass-stop_pass.result) (c.take_all-cause.ensures.own.1.stop.cell_is ∙ c.new-look.ensures.0) c.into_pass-stop_pass.ensures.1
 
 pub returns-clause-acks : goal.returns-clause-acks
-returns-clause-acks g c = c.end_task.ensures.acks ∙ counts_sent c.take_all-cause.new.out c.take_all-cause.ensures.own.0 ∙ ap (λ p. length (sent_by p)) (sym c.end_task.ensures.passes.0)
+returns-clause-acks g c = c.end_task.ensures.acks ∙ c.take_all-cause.ensures.own.0.passes.sent_is ∙ ap (λ p. length (sent_by p)) (sym c.end_task.ensures.passes.0)
 
 pub returns-clause-account : goal.returns-clause-account
 returns-clause-account g c =
@@ -23,9 +26,10 @@ returns-clause-account g c =
     let out' = c.take_all-cause.new.out in
     let end = c.end_task.result in
     let gate = g.G.Gate.account end.gate in
-    account_ended c.args.job.now c.args.index c.args.every gate (sent_by end.passes.snapshots) (seen end.passes.last_image) end.takes.items c.take_all-cause.result.cause end.cause c.end_task.ensures.cause
+    account_ended c.args.job.now c.args.index c.args.start.now c.args.every gate (sent_by end.passes.snapshots) (seen end.passes.last_image) end.takes.items c.take_all-cause.result.cause end.cause c.end_task.ensures.cause
+    (subst (λ (start : Start). AggregateAccount c.args.job.now c.args.index start c.args.every gate (sent_by end.passes.snapshots) (seen end.passes.last_image) end.takes.items c.take_all-cause.result.cause) (ap (λ (o : Opening). o.start) c.requires.lent.opening)
     (account_of_same out out' (g.G.Gate.account c.take_all-cause.new.gate) gate (sent_by end.passes.snapshots) (seen end.passes.last_image) end.takes.items c.take_all-cause.result c.take_all-cause.ensures.own.1
-    (ap g.G.Gate.account c.end_task.ensures.gate) (ap sent_by c.end_task.ensures.passes.0) (ap seen c.end_task.ensures.passes.1) (ap (λ (l : Items TakeRun). l.items) c.end_task.ensures.takes) c.take_all-cause.ensures.account)
+    (ap g.G.Gate.account c.end_task.ensures.gate) (ap sent_by c.end_task.ensures.passes.0) (ap seen c.end_task.ensures.passes.1) (ap (λ (l : Items TakeRun). l.items) c.end_task.ensures.takes) c.take_all-cause.ensures.account))
 
 pub returns-clause-stop : goal.returns-clause-stop
 returns-clause-stop g c =

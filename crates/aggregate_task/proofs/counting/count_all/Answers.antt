@@ -14,7 +14,7 @@ loop-item-init g c = record {
   gate = (refl, refl);
   own = c.requires.own.0;
   same = same_itself c.args.out.now;
-  way = begins (g.G.Gate.account c.args.gate.now) c.args.taking c.args.out.now c.new-counts.result c.new-counts.ensures c.requires.own.1 c.requires.new.0 c.requires.new.1;
+  way = begins (g.G.Gate.account c.args.gate.now) c.args.taking c.args.out.now c.args.counts c.requires.own.0 c.requires.counts c.requires.own.1 c.requires.new.0 c.requires.new.1;
 }
 
 -- what the gate answered was taken behind what was counted

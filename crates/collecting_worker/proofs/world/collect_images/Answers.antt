@@ -8,7 +8,7 @@ use Rattle.collecting_worker.proofs.world.collect_images.Goals as goal
 pub returns-in_default-clause-account : goal.returns-in_default-clause-account
 returns-in_default-clause-account g c =
     let world = c.args.world in
-    account_unbegun world.job.now c.args.every (received_by world.collecting) (g.K.ImageStore.images c.args.keeper.now) (mine world.last_pass) (g.K.ImageStore.faults c.args.keeper.now) (seen c.tell_stop.new.pass) c.requires.lent.none_told
+    account_unbegun world.job.now c.args.start.now c.args.every (received_by world.collecting) (g.K.ImageStore.images c.args.keeper.now) (mine world.last_pass) (g.K.ImageStore.faults c.args.keeper.now) (seen c.tell_stop.new.pass) c.requires.lent.none_told
 
 pub returns-clause-stop : goal.returns-clause-stop
 returns-clause-stop g c =

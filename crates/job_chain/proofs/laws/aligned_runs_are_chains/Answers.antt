@@ -1,5 +1,5 @@
 use Rattle.checkpoint_laws.proofs.Told.{Laws}
-use Rattle.job_chain.proofs.Running.{aligned_is_told, aligned_is_chain, aligned_ends_in_tally}
+use Rattle.job_chain.proofs.Running.{start_is_still, aligned_is_told, aligned_is_chain, aligned_ends_in_worth, aligned_ends_in_tally}
 use Rattle.job_chain.proofs.laws.aligned_runs_are_chains.Goals as goal
 
 pub returns : goal.returns
@@ -15,4 +15,10 @@ returns c =
     let cuts = c.barriers_cut_channels.ensures in
     let spanned = c.accounts_tell.ensures.records in
     let ends = c.accounts_tell.ensures.snapshots in
-    record { told = aligned_is_told cuts spanned ends; chain = aligned_is_chain cuts spanned ends laws; tally = aligned_ends_in_tally cuts spanned ends laws }
+    record {
+      start = start_is_still laws;
+      told = aligned_is_told cuts spanned ends;
+      chain = aligned_is_chain cuts spanned ends laws;
+      worth = aligned_ends_in_worth cuts spanned ends laws;
+      tally = aligned_ends_in_tally cuts spanned ends laws;
+    }

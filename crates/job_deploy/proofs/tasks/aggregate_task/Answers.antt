@@ -4,7 +4,7 @@ use Rattle.job_workers.specs.Tasks.{IsGateBehind}
 use Rattle.job_deploy.specs.Deployed.{IsLentOf}
 use Rattle.job_deploy.specs.Placing.{HasFirst}
 use Rattle.job_deploy.proofs.Rows.{aggregate_at, gate_at, takers_here, takers_there}
-use Rattle.job_deploy.proofs.Taking.{as_before, fewer_more, first_left, may_checkpoint, some_left, tasks_kept}
+use Rattle.job_deploy.proofs.Taking.{as_before, fewer_more, first_left, may_checkpoint, may_start, some_left, tasks_kept}
 use Rattle.job_deploy.proofs.tasks.aggregate_task.Goals as goal
 
 pub next-requires-clause-edge : goal.next-requires-clause-edge
@@ -52,6 +52,8 @@ returns-clause-task c =
     (gate_at job edges (last_edge job) (length c.as_slice-last.result.now) c.item_at-edge.result.now last c.item_at-edge.ensures size every snapshots b _ c.in_ok-gate.ensures.cells)
     (subst (λ e. IsGateBehind job e c.in_ok-gate.gate) last c.in_ok-gate.ensures.gate)
     (as_before (λ every snapshots. IsLentOf job size every snapshots edges told world) first between taken.stops.stayed (record { every_is = c.lend-world.ensures.stops.stayed.every_is; channel = c.lend-world.ensures.taken.channel }))
+    (may_start job (suc (last_edge job)) b between c.lend-world.new.self world c.lend-world.ensures.stops.stayed c.lend-world.ensures.taken
+    (subst (λ n. HasFirst job (suc (last_edge job)) n between) taken.fewer has))
     (may_checkpoint job (suc (last_edge job)) b between c.lend-world.new.self world c.lend-world.ensures.stops.stayed c.lend-world.ensures.taken
     (subst (λ n. HasFirst job (suc (last_edge job)) n between) taken.fewer has))
 

@@ -30,7 +30,7 @@ sources-preserved g c =
     let before = c.sources.invariant in
     let rest = c.pop.new.self.items in let input = c.in-Some.input in let lent = c.take_last-every.result in let left = c.take_last-every.new.self.items in
     let inputs = c.args.inputs.now.items in let lents = c.args.lents.items in
-    let task : SourceTask g.row.S.Denot = record { alloc = c.args.alloc; input = input; index = length c.as_slice.result.now; every = lent.every; world = lent.world } in
+    let task : SourceTask g.row.S.Denot = record { alloc = c.args.alloc; input = input; index = length c.as_slice.result.now; start = lent.start; every = lent.every; world = lent.world } in
     let shorter = ap length c.in-Some.ensures.items ∙ length_push rest input in
     let fewer = ap length c.take_last-every.ensures.items ∙ length_push left lent in
     let many = before.lents_many in

@@ -1,7 +1,10 @@
 use Rattle.std.proofs.Common.{arith, subst, sym, ◌∙◌, IfSome}
+use Rattle.job_start.specs.Starts.{was_ended}
+use Rattle.snapshot_channel.specs.Passes.{sent_by}
 use Rattle.outside.specs.Told.{Reads}
+use Rattle.source_task.specs.Emitting.{start_of}
 use Rattle.source_task.specs.Sources.{SourceEnd}
-use Rattle.source_task.proofs.Emitting.{same_twice}
+use Rattle.source_task.proofs.Emitting.{same_twice, was_same, was_not}
 use Rattle.source_task.proofs.ReadingLemmas.{risen_since, risen_most, read_on, read_broke, read_ended, read_failed, read_much}
 use Rattle.source_task.proofs.reading.emit_lines.Goals as goal
 
@@ -23,8 +26,10 @@ returns-then-count-eq0-clause-ended g c = λ job size emitted.
     let rose = g.S.Source.faults c.read.new.self in
     let middle = g.S.Source.faults c.reads.input in
     let way = v.way job size emitted in
+    let now = c.end_lines.ensures.same in
+    let out = c.reads.output in
     read_ended law.sent law.finished job size fell rose (risen_most fell middle rose v.faults c.read.ensures.never_falls) (g.S.Source.left c.args.input.now) (g.S.Source.left c.reads.input) (g.S.Source.left c.read.new.self) c.reads.taken c.read.new.room
-    c.reads.output c.end_lines.new.output c.reads.output.index c.reads.lines.line.items c.end_lines.result c.end_lines.ensures.same.index
+    c.reads.output c.end_lines.new.output c.reads.output.index c.reads.lines.line.items c.end_lines.result now.index (was_same out c.end_lines.new.output now.snapshots now.index ∙ was_not (was_ended (start_of out) out.index) (sent_by out.acks.pass) v.reading.not_ended)
     (subst (λ n. IfSome (g.S.Source.left c.reads.input) (λ bytes. Reads bytes n c.read.new.room (g.S.Source.left c.read.new.self))) c.if-count-eq0.true c.in-Ok.ensures.told) c.reads-test.true way
     (c.end_lines.ensures.ended job size way.0 way.1)
 

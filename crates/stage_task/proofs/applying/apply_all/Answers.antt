@@ -7,7 +7,7 @@ use Rattle.checkpoint_laws.specs.Chapters.{applied}
 use Rattle.task_taking.specs.Steps.{TookNext, TakingGoesOn}
 use Rattle.task_taking.specs.Takings.{IsInStep}
 use Rattle.task_taking.specs.declared.taking.Taken.{Taken}
-use Rattle.stage_task.specs.Applying.{IsSameStage, HasOwnPasses, IsStageUnderWay}
+use Rattle.stage_task.specs.Applying.{from_at, IsSameStage, HasOwnPasses, IsStageUnderWay}
 use Rattle.stage_task.specs.Snapshots.{all_applied}
 use Rattle.stage_task.proofs.Records.{applied_behind, gives_there}
 use Rattle.stage_task.proofs.SameStage.{same_itself, same_output, own_output}
@@ -67,14 +67,14 @@ returns-in-Err-apply_one-clause-ended g c =
     ends_so gate (record out { output = o }) c.end_of.result c.end_of.ensures
     (line_ended out _ gate _ _ u.groups u.took u.applied_them line.1.0 c.in-Ok-Line.line.items _ line.1.1 (gives_line g at.After-apply_one)
     c.what_was_taken_was_given.ensures.taken o c.in-Err-apply_one.cause c.apply_one.ensures.same.size
-    (c.in-Err-apply_one.ensures.emitted 0 out.job.now (suc out.edge) out.index out.output.writer.size (all_applied out.job.now out.edge u.groups) (applied out.job.now out.edge u.took) u.applied_them.sent))
+    (c.in-Err-apply_one.ensures.emitted (from_at out).emitted out.job.now (suc out.edge) out.index out.output.writer.size (all_applied out.job.now out.edge u.groups) (applied out.job.now out.edge u.took) u.applied_them.sent))
 
 pub returns-in-Err-apply_one-clause-stopped : goal.returns-in-Err-apply_one-clause-stopped
 returns-in-Err-apply_one-clause-stopped g c =
     let out = c.loop-item.out in
     let u = c.loop-item.invariant.under_way in
-    let among = c.in-Err-apply_one.ensures.emitted 0 out.job.now (suc out.edge) out.index out.output.writer.size (all_applied out.job.now out.edge u.groups) (applied out.job.now out.edge u.took) u.applied_them.sent in
-    among_stopped (g.G.Gate.saw_stop c.next-in-loop-item.new.gate) _ _ _ _ _ _ _ _ c.in-Err-apply_one.cause c.end_of.result.cause among c.end_of.ensures.1
+    let among = c.in-Err-apply_one.ensures.emitted (from_at out).emitted out.job.now (suc out.edge) out.index out.output.writer.size (all_applied out.job.now out.edge u.groups) (applied out.job.now out.edge u.took) u.applied_them.sent in
+    among_stopped (g.G.Gate.saw_stop c.next-in-loop-item.new.gate) _ _ _ _ _ _ _ _ _ c.in-Err-apply_one.cause c.end_of.result.cause among c.end_of.ensures.1
 
 -- it emitted all of it, and takes on
 line_goes_on : (g : Over) (c : In-Ok g) → let now = g.G.Gate.account c.next-in-loop-item.new.gate in let out = record c.loop-item.out { output = c.apply_one.new.output } in record {
@@ -97,7 +97,7 @@ line_goes_on g c =
       same = same_output c.args.out.now out o c.apply_one.ensures.same v.same;
       in_step = (subst (TakingGoesOn (g.G.Gate.account c.next-in-loop-item.new.gate) c.loop-item.taking c.next-in-loop-item.new.self) is c.next-in-loop-item.ensures.goes_on).0;
       under_way = line_applied out _ _ _ _ u.groups u.took u.applied_them line.1.0 c.in-Ok-Line.line.items _ line.1.1 (gives_line g at.After-apply_one) o u.not_last
-          (c.in-Ok.ensures.emitted 0 out.job.now (suc out.edge) out.index out.output.writer.size (all_applied out.job.now out.edge u.groups) (applied out.job.now out.edge u.took) u.applied_them.sent);
+          (c.in-Ok.ensures.emitted (from_at out).emitted out.job.now (suc out.edge) out.index out.output.writer.size (all_applied out.job.now out.edge u.groups) (applied out.job.now out.edge u.took) u.applied_them.sent);
       own = own_output out o v.own;
     }
 
@@ -126,24 +126,27 @@ returns-in-Err-mark-clause-ended g c =
     let gate = g.G.Gate.account c.next-in-loop-item.new.gate in
     ends_so gate (record out { output = c.mark.new.self }) c.end_of-in-Err-mark.result c.end_of-in-Err-mark.ensures
     (mark_ended out _ gate _ _ u.groups u.took u.applied_them barriers.0 c.what_was_taken_was_given.ensures.at_barrier c.mark.new.self c.mark.ensures.same.size
-    (c.in-Err-mark.ensures.marked 0 out.job.now (suc out.edge) out.index out.output.writer.size (all_applied out.job.now out.edge u.groups) (applied out.job.now out.edge u.took) u.applied_them.sent))
+    (c.in-Err-mark.ensures.marked (from_at out).emitted out.job.now (suc out.edge) out.index out.output.writer.size (all_applied out.job.now out.edge u.groups) (applied out.job.now out.edge u.took) u.applied_them.sent))
 
 pub returns-in-Err-mark-clause-stopped : goal.returns-in-Err-mark-clause-stopped
 returns-in-Err-mark-clause-stopped g c = λ is.
     let out = c.loop-item.out in
     let u = c.loop-item.invariant.under_way in
-    inr (c.in-Err-mark.ensures.marked 0 out.job.now (suc out.edge) out.index out.output.writer.size (all_applied out.job.now out.edge u.groups) (applied out.job.now out.edge u.took) u.applied_them.sent).fault
+    inr (c.in-Err-mark.ensures.marked (from_at out).emitted out.job.now (suc out.edge) out.index out.output.writer.size (all_applied out.job.now out.edge u.groups) (applied out.job.now out.edge u.took) u.applied_them.sent).fault
 
 pub acknowledge-requires-clause-marked : goal.acknowledge-requires-clause-marked
 acknowledge-requires-clause-marked g c =
     let barriers = took g (goal.at.acknowledge-requires-clause-marked g c).After-next-in-loop-item _ (c.in-Ok-Checkpoint.is ∙ ap Ok c.in-Ok-Checkpoint.field-0-is) in
     let out = c.loop-item.out in
     let u = c.loop-item.invariant.under_way in
-    marked out _ _ _ _ u.groups u.took u.applied_them barriers.0 c.mark.new.self c.in-Ok-Checkpoint.k barriers.1 u.not_last
-    (c.in-Ok-mark.ensures.marked 0 out.job.now (suc out.edge) out.index out.output.writer.size (all_applied out.job.now out.edge u.groups) (applied out.job.now out.edge u.took) u.applied_them.sent)
+    marked out _ _ _ _ u.groups u.took u.applied_them barriers.0 c.mark.new.self u.not_last
+    (c.in-Ok-mark.ensures.marked (from_at out).emitted out.job.now (suc out.edge) out.index out.output.writer.size (all_applied out.job.now out.edge u.groups) (applied out.job.now out.edge u.took) u.applied_them.sent)
 
 pub acknowledge-requires-clause-own : goal.acknowledge-requires-clause-own
 acknowledge-requires-clause-own g c = own_output c.loop-item.out c.mark.new.self c.loop-item.invariant.own
+
+pub returns-in-Err-acknowledge-clause-stopped : goal.returns-in-Err-acknowledge-clause-stopped
+returns-in-Err-acknowledge-clause-stopped g c = λ is. inr (c.in-Err-acknowledge.ensures.stopped is)
 
 -- ---- it took nothing more
 

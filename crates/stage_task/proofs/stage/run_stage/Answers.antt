@@ -1,7 +1,8 @@
-use Rattle.std.proofs.Common.{◌≡◌, ◌≢◌, ◌+◌, ◌⊎◌, [], suc, ap, sym, subst, ◌∙◌, arith}
+use Rattle.std.proofs.Common.{◌≡◌, ◌≢◌, ◌+◌, ◌<◌, ◌⊎◌, [], suc, ap, sym, subst, ◌∙◌, arith}
 use Rattle.turn_cell.specs.Passes.{seen, IsSamePass}
 use Rattle.flow_defs.specs.declared.cause.Cause.TheVariants as causes
 use Rattle.flow_defs.specs.Items.{Items}
+use Rattle.flow_defs.specs.Jobs.{tasks}
 use Rattle.flow_defs.specs.declared.image.TakeRun.{TakeRun}
 use Rattle.conn_parts.specs.Shares.{AreNew}
 use Rattle.record_writer.specs.declared.partition.PartitionPasses.{PartitionPasses}
@@ -11,15 +12,17 @@ use Rattle.input_gate.specs.Gates.{IsNew}
 use Rattle.snapshot_channel.specs.declared.views.Opening.{Opening}
 use Rattle.snapshot_channel.specs.Passes.{sent_by}
 use Rattle.stage_task.specs.declared.checkpoints.StageOutput.{StageOutput}
-use Rattle.stage_task.proofs.Running.{under_way, unbegun, none_noted, acks_are, account_ended, account_of_same, written_back, told_by_stage}
+use Rattle.stage_task.specs.Applying.{start_at}
+use Rattle.stage_task.proofs.SameStage.{same_start}
+use Rattle.stage_task.proofs.Running.{counted_from, under_way, unbegun, none_noted, waited_as, acks_are, account_ended, account_of_same, written_back, told_by_stage}
 use Rattle.stage_task.proofs.stage.run_stage.Goals as goal
 
 pub returns-in_default-clause-account : goal.returns-in_default-clause-account
 returns-in_default-clause-account g c =
     let world = c.args.world in
     let end = c.end_task.result in
-    account_ended c.args.job.now c.args.edge c.args.index world.partition.size c.args.every (g.G.Gate.account end.gate) end.passes.partition.subpartitions.items (sent_by end.passes.snapshots) (seen end.passes.last_image) end.takes.items causes.Memory end.cause c.end_task.ensures.cause
-    (unbegun c.args.job.now c.args.edge c.args.index world.partition.size c.args.every (g.G.Gate.account end.gate) end.passes.partition.subpartitions.items (sent_by end.passes.snapshots) (seen end.passes.last_image) end.takes.items
+    account_ended c.args.job.now c.args.edge c.args.index world.partition.size c.args.start.now c.args.every (g.G.Gate.account end.gate) end.passes.partition.subpartitions.items (sent_by end.passes.snapshots) (seen end.passes.last_image) end.takes.items causes.Memory end.cause c.end_task.ensures.cause
+    (unbegun c.args.job.now c.args.edge c.args.index world.partition.size c.args.start.now c.args.every (g.G.Gate.account end.gate) end.passes.partition.subpartitions.items (sent_by end.passes.snapshots) (seen end.passes.last_image) end.takes.items
     (subst (λ x. IsNew (g.G.Gate.account x)) (sym c.end_task.ensures.gate) c.requires.task.gate_new)
     (subst (λ (p : PartitionPasses). AreNew p.subpartitions.items) (sym c.end_task.ensures.partition) c.requires.partition.new)
     (ap sent_by c.end_task.ensures.passes.0 ∙ c.requires.lent.fresh)
@@ -28,7 +31,13 @@ returns-in_default-clause-account g c =
 pub returns-in_default-clause-acks : goal.returns-in_default-clause-acks
 returns-in_default-clause-acks g c =
     let end = c.end_task.result in
-    acks_are c.args.world.acks end.passes.snapshots end.acks c.requires.lent.passes (ap (λ (o : Opening). o.base) c.requires.lent.opening) c.end_task.ensures.acks c.end_task.ensures.passes.0
+    acks_are c.args.world.acks end.passes.snapshots end.acks c.requires.lent.passes c.end_task.ensures.acks c.end_task.ensures.passes.0
+
+pub emitted-emitted-requires-clause-task : goal.emitted-emitted-requires-clause-task
+emitted-emitted-requires-clause-task g c =
+    let edge = c.requires.task.edge in
+    let next : suc c.args.edge ≡ c.args.edge + 1 = omega arith in
+    (omega (arith, edge), subst (λ e. c.args.index < tasks c.args.job.now e) next c.requires.task.index)
 
 pub new-requires-2-clause-partition : goal.new-requires-2-clause-partition
 new-requires-2-clause-partition g c = subst (λ e. IsPartitionOf c.args.job.now e c.args.index c.args.world.partition) (let z : suc c.args.edge ≡ c.args.edge + 1 = omega arith in z) c.requires.partition
@@ -37,7 +46,8 @@ pub apply_all-end-requires-clause-under_way : goal.apply_all-end-requires-clause
 apply_all-end-requires-clause-under_way g c =
     let world = c.args.world in
     let out : StageOutput = record { output = c.new-in-Ok-new.result; acks = world.acks; job = c.args.job; edge = c.args.edge; index = c.args.index; every = c.args.every } in
-    under_way (g.G.Gate.account c.args.gate) c.in-Ok.taking world.partition c.in-Ok-new.writer out c.requires.task.gate_new c.requires.task.channels_are (λ gate new channels. (c.in-Ok.ensures.none gate new channels).0) c.in-Ok-new.ensures.is_of.0 c.in-Ok-new.ensures.new c.new-in-Ok-new.ensures.none c.requires.lent.fresh
+    under_way (g.G.Gate.account c.args.gate) c.in-Ok.taking world.partition c.in-Ok-new.writer out c.requires.task.gate_new c.requires.task.channels_are (λ gate new channels. (c.in-Ok.ensures.none gate new channels).0) c.in-Ok-new.ensures.is_of.0 (c.in-Ok-new.ensures.new.0, c.in-Ok-new.ensures.new.1)
+    (counted_from c.args.job.now c.args.start.now (start_at out) c.args.edge c.args.index c.in-Ok-new.writer.emitted (c.in-Ok-new.ensures.new.2 ∙ c.emitted-emitted.ensures) (ap (λ (o : Opening). o.start) c.requires.lent.opening)) c.new-in-Ok-new.ensures.none c.requires.lent.fresh
 
 pub returns-in-Ok-new-clause-partition : goal.returns-in-Ok-new-clause-partition
 returns-in-Ok-new-clause-partition g c =
@@ -52,7 +62,15 @@ pub returns-in-Ok-new-clause-acks : goal.returns-in-Ok-new-clause-acks
 returns-in-Ok-new-clause-acks g c =
     let own = c.apply_all-end.ensures.own in
     let end = c.end_sender.result in
-    acks_are c.apply_all-end.new.out.acks end.passes.snapshots end.acks own.passes own.base c.end_sender.ensures.acks c.end_sender.ensures.passes.0
+    acks_are c.apply_all-end.new.out.acks end.passes.snapshots end.acks own.passes c.end_sender.ensures.acks c.end_sender.ensures.passes.0
+
+pub returns-in-Ok-new-clause-waited : goal.returns-in-Ok-new-clause-waited
+returns-in-Ok-new-clause-waited g c =
+    let after = c.apply_all-end.new.out in
+    let end = c.end_sender.result in
+    waited_as after c.args.start.now (sent_by end.passes.snapshots) (seen end.passes.last_image)
+    (same_start c.args.world.acks after.acks c.apply_all-end.ensures.same.acks ∙ ap (λ (o : Opening). o.start) c.requires.lent.opening)
+    (ap sent_by c.end_sender.ensures.passes.0) (ap seen c.end_sender.ensures.passes.1) c.apply_all-end.ensures.own.waited
 
 pub returns-in-Ok-new-clause-account : goal.returns-in-Ok-new-clause-account
 returns-in-Ok-new-clause-account g c =
@@ -61,9 +79,10 @@ returns-in-Ok-new-clause-account g c =
     let after = c.apply_all-end.new.out in
     let end = c.end_sender.result in
     let gate = g.G.Gate.account end.gate in
-    account_ended c.args.job.now c.args.edge c.args.index world.partition.size c.args.every gate end.passes.partition.subpartitions.items (sent_by end.passes.snapshots) (seen end.passes.last_image) end.takes.items c.apply_all-end.result.cause end.cause c.end_sender.ensures.cause
-    (account_of_same out after world.partition.size (g.G.Gate.account c.apply_all-end.new.gate) gate end.passes.partition.subpartitions.items (sent_by end.passes.snapshots) (seen end.passes.last_image) end.takes.items c.apply_all-end.result c.apply_all-end.ensures.same
+    account_ended c.args.job.now c.args.edge c.args.index world.partition.size c.args.start.now c.args.every gate end.passes.partition.subpartitions.items (sent_by end.passes.snapshots) (seen end.passes.last_image) end.takes.items c.apply_all-end.result.cause end.cause c.end_sender.ensures.cause
+    (account_of_same out after world.partition.size c.args.start.now (g.G.Gate.account c.apply_all-end.new.gate) gate end.passes.partition.subpartitions.items (sent_by end.passes.snapshots) (seen end.passes.last_image) end.takes.items c.apply_all-end.result c.apply_all-end.ensures.same
     (c.apply_all-end.ensures.same.writer.size ∙ ap (λ (w : Writer). w.size) c.new-in-Ok-new.ensures.writer.0 ∙ c.in-Ok-new.ensures.is_of.0.size)
+    (same_start world.acks after.acks c.apply_all-end.ensures.same.acks ∙ ap (λ (o : Opening). o.start) c.requires.lent.opening)
     (ap g.G.Gate.account c.end_sender.ensures.gate) c.end_sender.ensures.partition.same (ap sent_by c.end_sender.ensures.passes.0) (ap seen c.end_sender.ensures.passes.1) (ap (λ (l : Items TakeRun). l.items) c.end_sender.ensures.takes) c.apply_all-end.ensures.ended)
 
 pub returns-in-Ok-new-clause-stop : goal.returns-in-Ok-new-clause-stop
@@ -79,8 +98,8 @@ pub returns-in-Err-clause-account : goal.returns-in-Err-clause-account
 returns-in-Err-clause-account g c =
     let world = c.args.world in
     let end = c.end_task-in-Err.result in
-    account_ended c.args.job.now c.args.edge c.args.index world.partition.size c.args.every (g.G.Gate.account end.gate) end.passes.partition.subpartitions.items (sent_by end.passes.snapshots) (seen end.passes.last_image) end.takes.items causes.Memory end.cause c.end_task-in-Err.ensures.cause
-    (unbegun c.args.job.now c.args.edge c.args.index world.partition.size c.args.every (g.G.Gate.account end.gate) end.passes.partition.subpartitions.items (sent_by end.passes.snapshots) (seen end.passes.last_image) end.takes.items
+    account_ended c.args.job.now c.args.edge c.args.index world.partition.size c.args.start.now c.args.every (g.G.Gate.account end.gate) end.passes.partition.subpartitions.items (sent_by end.passes.snapshots) (seen end.passes.last_image) end.takes.items causes.Memory end.cause c.end_task-in-Err.ensures.cause
+    (unbegun c.args.job.now c.args.edge c.args.index world.partition.size c.args.start.now c.args.every (g.G.Gate.account end.gate) end.passes.partition.subpartitions.items (sent_by end.passes.snapshots) (seen end.passes.last_image) end.takes.items
     (subst (λ x. IsNew (g.G.Gate.account x)) (sym c.end_task-in-Err.ensures.gate) c.requires.task.gate_new)
     (subst (λ (p : PartitionPasses). AreNew p.subpartitions.items) (sym (c.end_task-in-Err.ensures.partition ∙ c.in-Err.ensures.refused.0)) c.requires.partition.new)
     (ap sent_by c.end_task-in-Err.ensures.passes.0 ∙ c.requires.lent.fresh)
@@ -89,4 +108,4 @@ returns-in-Err-clause-account g c =
 pub returns-in-Err-clause-acks : goal.returns-in-Err-clause-acks
 returns-in-Err-clause-acks g c =
     let end = c.end_task-in-Err.result in
-    acks_are c.args.world.acks end.passes.snapshots end.acks c.requires.lent.passes (ap (λ (o : Opening). o.base) c.requires.lent.opening) c.end_task-in-Err.ensures.acks c.end_task-in-Err.ensures.passes.0
+    acks_are c.args.world.acks end.passes.snapshots end.acks c.requires.lent.passes c.end_task-in-Err.ensures.acks c.end_task-in-Err.ensures.passes.0

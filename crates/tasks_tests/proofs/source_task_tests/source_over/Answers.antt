@@ -1,4 +1,6 @@
-use Rattle.std.proofs.Common.{[], ◌∷◌, sym, subst, arith}
+use Rattle.std.proofs.Common.{◌≡◌, [], ◌∷◌, refl, sym, subst, arith}
+use Rattle.flow_defs.specs.declared.job.Exchange.TheVariants.{Hash}
+use Rattle.flow_defs.specs.Jobs.{exchange}
 use Rattle.conn_parts.specs.Shares.{AreNew}
 use Rattle.record_writer.specs.Writers.{AreOwnAt, HaveSizeAt}
 use Rattle.tasks_tests.proofs.OneChannel.{one_own, one_new, one_size, one_way}
@@ -9,7 +11,8 @@ source-cause-requires-clause-partition g c =
     let job = c.args.job.now in let made = c.requires in
     let one = c.in_ok-cell in let is = sym c.in_ok-subpartitions.ensures in
     let cells = one.cell ∷ [] in
-    let way = sym (one_way job 0 made.job.1 made.job.3) in record {
+    let hash : exchange job 0 ≡ Hash = rw made.job.1 refl in
+    let way = sym (one_way job 0 hash made.job.3) in record {
       is_job = made.job.0;
       edge = omega arith;
       index = omega (arith, made.job.2);

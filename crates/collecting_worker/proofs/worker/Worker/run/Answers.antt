@@ -1,5 +1,4 @@
-use Rattle.std.proofs.Common.{◌≡◌, ◌+◌, ℕ, Option, Some, None, Bool, true, false, refl, ap, ◌∙◌, arith}
-use Rattle.std.specs.Prelude.{is_some, not}
+use Rattle.std.proofs.Common.{◌+◌, refl, ap, ◌∙◌, arith}
 use Rattle.turn_cell.specs.Passes.{mine, seen}
 use Rattle.snapshot_channel.specs.Passes.{received_by}
 use Rattle.collector.specs.declared.collector.Checkpoint.{Checkpoint}
@@ -8,64 +7,57 @@ use Rattle.collecting_worker.proofs.Going.{begins}
 use Rattle.collecting_worker.proofs.Same.{worker_same, worker_twice}
 use Rattle.collecting_worker.proofs.worker.Worker.run.Goals as goal
 
-none_is : (o : Option ℕ) (b : Bool) → is_some o ≡ not b → (o ≡ None → b ≡ true) × (b ≡ true → o ≡ None)
-none_is None true is = (λ _. refl, λ _. refl)
-none_is None false is = absurd (cc)
-none_is (Some n) true is = absurd (cc)
-none_is (Some n) false is = (λ no. absurd (cc), λ yes. absurd (cc))
-
-pub loop-number-init : goal.loop-number-init
-loop-number-init g c =
+pub loop-before-init : goal.loop-before-init
+loop-before-init g c =
     let w = c.args.self.now in
     let fresh = c.requires.fresh in
-    let at_once = none_is c.args.every c.is_none-final_one.result c.is_none-final_one.ensures in
     record {
       same = worker_same w;
       worker = c.requires.worker;
-      going = begins w.job.now c.args.every (received_by w.gathering.pass) (g.K.ImageStore.images c.args.keeper.now) (mine w.last_pass) w.last c.is_none-final_one.result c.requires.worker.text.is_job fresh.0 fresh.2 at_once.0 at_once.1;
+      going = begins w.job.now c.args.start.now c.args.every (received_by w.gathering.pass) (g.K.ImageStore.images c.args.keeper.now) (mine w.last_pass) w.last (c.args.start.now.number + 1) c.first_is_last-final_one.result c.requires.start.1 fresh.0 fresh.2 refl c.first_is_last-final_one.ensures;
       stop = fresh.1;
       cell = c.requires.cell;
-      above = λ n low. c.requires.above n (omega (arith, low));
+      above = c.requires.above;
       never_falls = omega arith;
     }
 
 pub returns-then-final_one-clause-account : goal.returns-then-final_one-clause-account
 returns-then-final_one-clause-account g c =
-    let was = c.loop-number.invariant in
+    let was = c.loop-before.invariant in
     let images = g.K.ImageStore.images in
     let faults = g.K.ImageStore.faults in
-    let cp : Checkpoint = record { number = c.loop-number.number; final_one = c.loop-number.final_one } in
-    let same = worker_twice c.args.self.now c.loop-number.self c.store_next.new.self was.same c.store_next.ensures.same in
+    let cp : Checkpoint = record { number = c.loop-before.before + 1; final_one = c.loop-before.final_one } in
+    let same = worker_twice c.args.self.now c.loop-before.self c.store_next.new.self was.same c.store_next.ensures.same in
     let stored = c.in-Ok.ensures.stored in
-    done_account c.snapshots_make_fitting.ensures c.args.self.now.job.now c.args.every c.loop-number.self c.store_next.new.self (images c.args.keeper.now) (images c.loop-number.keeper) (images c.store_next.new.keeper) cp
+    done_account c.snapshots_make_fitting.ensures c.args.self.now.job.now c.args.start.now c.args.every c.loop-before.self c.store_next.new.self (images c.args.keeper.now) (images c.loop-before.keeper) (images c.store_next.new.keeper) cp
     c.store_next.ensures.same.gathering.received was.going (ap (λ j. j.now) same.job_is) stored.0 stored.1 c.in-Ok.all_ended stored.2 stored.3
     (faults c.args.keeper.now) (faults c.store_next.new.keeper) (seen c.store_next.new.self.stop_pass) (omega (arith, was.never_falls, c.store_next.ensures.never_falls)) c.if-final_one.true
 
 pub returns-in-Err-clause-account : goal.returns-in-Err-clause-account
 returns-in-Err-clause-account g c =
-    let was = c.loop-number.invariant in
+    let was = c.loop-before.invariant in
     let images = g.K.ImageStore.images in
     let faults = g.K.ImageStore.faults in
-    let cp : Checkpoint = record { number = c.loop-number.number; final_one = c.loop-number.final_one } in
-    let same = worker_twice c.args.self.now c.loop-number.self c.store_next.new.self was.same c.store_next.ensures.same in
-    broken_account c.snapshots_make_fitting.ensures c.args.self.now.job.now c.args.every c.loop-number.self c.store_next.new.self (images c.args.keeper.now) (images c.loop-number.keeper) (images c.store_next.new.keeper) cp
+    let cp : Checkpoint = record { number = c.loop-before.before + 1; final_one = c.loop-before.final_one } in
+    let same = worker_twice c.args.self.now c.loop-before.self c.store_next.new.self was.same c.store_next.ensures.same in
+    broken_account c.snapshots_make_fitting.ensures c.args.self.now.job.now c.args.start.now c.args.every c.loop-before.self c.store_next.new.self (images c.args.keeper.now) (images c.loop-before.keeper) (images c.store_next.new.keeper) cp
     c.store_next.ensures.same.gathering.received was.going (ap (λ j. j.now) same.job_is)
-    (faults c.args.keeper.now) (faults c.loop-number.keeper) (faults c.store_next.new.keeper) (seen c.store_next.new.self.stop_pass) c.in-Err.cause was.never_falls c.store_next.ensures.never_falls c.in-Err.ensures.broken c.in-Err.ensures.fault
+    (faults c.args.keeper.now) (faults c.loop-before.keeper) (faults c.store_next.new.keeper) (seen c.store_next.new.self.stop_pass) c.in-Err.cause was.never_falls c.store_next.ensures.never_falls c.in-Err.ensures.broken c.in-Err.ensures.fault
 
-pub loop-number-preserved : goal.loop-number-preserved
-loop-number-preserved g c =
-    let was = c.loop-number.invariant in
+pub loop-before-preserved : goal.loop-before-preserved
+loop-before-preserved g c =
+    let was = c.loop-before.invariant in
     let images = g.K.ImageStore.images in
-    let cp : Checkpoint = record { number = c.loop-number.number; final_one = c.loop-number.final_one } in
-    let same = worker_twice c.args.self.now c.loop-number.self c.store_next.new.self was.same c.store_next.ensures.same in
+    let cp : Checkpoint = record { number = c.loop-before.before + 1; final_one = c.loop-before.final_one } in
+    let same = worker_twice c.args.self.now c.loop-before.self c.store_next.new.self was.same c.store_next.ensures.same in
     let stored = c.in-Ok.ensures.stored in
     record {
       same = same;
       worker = c.in-Ok.ensures.worker;
-      going = going_on c.snapshots_make_fitting.ensures c.args.self.now.job.now c.args.every c.loop-number.self c.store_next.new.self (images c.args.keeper.now) (images c.loop-number.keeper) (images c.store_next.new.keeper) cp
-          c.store_next.ensures.same.gathering.received was.going (ap (λ j. j.now) same.job_is) stored.0 stored.1 c.in-Ok.all_ended stored.2 stored.3 (c.loop-number.number + 1) (omega arith) c.if-final_one.false;
+      going = going_on c.snapshots_make_fitting.ensures c.args.self.now.job.now c.args.start.now c.args.every c.loop-before.self c.store_next.new.self (images c.args.keeper.now) (images c.loop-before.keeper) (images c.store_next.new.keeper) cp
+          c.store_next.ensures.same.gathering.received was.going (ap (λ j. j.now) same.job_is) stored.0 stored.1 c.in-Ok.all_ended stored.2 stored.3 (c.loop-before.before + 1 + 1) (omega arith) c.if-final_one.false;
       stop = stored.3.stop ∙ was.stop;
       cell = c.store_next.ensures.cell;
-      above = λ n low. c.in-Ok.ensures.above n (omega (arith, low));
+      above = c.in-Ok.ensures.above;
       never_falls = omega (arith, was.never_falls, c.store_next.ensures.never_falls);
     }

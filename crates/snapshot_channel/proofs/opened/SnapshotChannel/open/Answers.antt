@@ -13,4 +13,4 @@ loop-stage-preserved c = record { opening_is = c.loop-stage.invariant.opening_is
 
 pub returns : goal.returns
 returns c =
-    opening_ends c.args.job.now c.args.base c.args.every (record { channel = c.in_ok-channel.channel; collecting = c.loop-stage.collecting; passes = c.loop-stage.passes }) c.loop-stage.stage (omega arith) c.loop-stage.invariant
+    opening_ends c.args.job.now c.args.start.now c.args.every (record { channel = c.in_ok-channel.channel; collecting = c.loop-stage.collecting; passes = c.loop-stage.passes }) c.loop-stage.stage (omega arith) c.loop-stage.invariant

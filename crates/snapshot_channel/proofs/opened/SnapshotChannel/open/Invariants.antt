@@ -3,4 +3,4 @@ use Rattle.snapshot_channel.proofs.Loops.{IsOpening}
 use Rattle.snapshot_channel.proofs.opened.SnapshotChannel.open.Given as goal
 
 abbrev pub invariant-loop-stage : goal.invariant-loop-stage
-invariant-loop-stage l = IsOpening (opening l.job l.base l.fn.every) l.channel l.stage l.collecting l.passes.items
+invariant-loop-stage l = IsOpening (opening l.job l.fn.start l.fn.every) l.channel l.stage l.collecting l.passes.items

@@ -10,7 +10,7 @@ invariant-loop-round g l = record {
   same : IsSameTask l.initial.self l.self;
   last_pass : l.self.last_pass ≡ l.initial.self.last_pass;
   sent : sent_by l.self.pass ≡ sent_by l.initial.self.pass;
-  number : l.self.number ≡ l.initial.self.number;
+  many : l.self.sent ≡ l.initial.self.sent;
   waiting : l.waiting ≡ l.fn.snapshot;
   still : g.L.LooksForStop.still l.initial.stop l.stop;
 }

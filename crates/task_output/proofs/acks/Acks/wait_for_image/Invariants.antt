@@ -8,6 +8,6 @@ invariant-loop-round g l = record {
   own : HasPasses l.self;
   same : IsSameTask l.initial.self l.self;
   pass : l.self.pass ≡ l.initial.self.pass;
-  number : l.self.number ≡ l.initial.self.number;
+  many : l.self.sent ≡ l.initial.self.sent;
   still : g.L.LooksForStop.still l.initial.stop l.stop;
 }

@@ -5,6 +5,7 @@ use Rattle.std.proofs.Common.{length, ◌≡◌, ℕ, zero, suc, ◌<◌, ◌≤
 use Rattle.std.specs.Prelude.{All, Contains, codes}
 use Rattle.std.specs.FinMap.{empty, entries, len-entries, len-empty}
 use Rattle.std.proofs.lemmas.List.Elements.{All-from_recursion, recursion_from_All}
+use Rattle.std.proofs.lemmas.Option.{same_Some}
 use Rattle.flow_defs.specs.Items.{Items}
 use Rattle.flow_defs.specs.declared.parcel.Parcel.{Parcel}
 use Rattle.flow_defs.specs.declared.parcel.Parcel.TheVariants.{Data, Barrier, End}
@@ -328,11 +329,8 @@ begins = record {
 
 -- ---- so its images are a chain
 
-some_same : (x y : ℕ) → Some x ≡ Some y → x ≡ y
-some_same x y e = cc
-
 positive : IsInterval (Some 3)
-positive n e = let same : 3 ≡ n = some_same 3 n e in omega (arith, same)
+positive n e = let same : 3 ≡ n = same_Some 3 n e in omega (arith, same)
 
 pub its_chain : Laws → Chain its_job its_lines (Some 3) base (first ∷ second ∷ [])
 its_chain laws =

@@ -6,6 +6,7 @@ use Rattle.std.specs.FinMap.{empty}
 use Rattle.std.proofs.lemmas.Bool.{and_parts, leb-true, ltb-true, lt-ltb, eqb-true}
 use Rattle.std.proofs.lemmas.List.Concat.{flat_map-append}
 use Rattle.std.proofs.lemmas.List.Elements.{All-get_or, All-from_get_or}
+use Rattle.std.proofs.lemmas.Option.{same_Some}
 use Rattle.flow_defs.specs.declared.parcel.Parcel.{Parcel}
 use Rattle.flow_defs.specs.declared.job.Job.{Job}
 use Rattle.flow_defs.specs.declared.job.AggKind.{AggKind}
@@ -97,9 +98,6 @@ get_at : {X : Type 0} (xs : List X) (i : ℕ) (d : X) → i < length xs → slic
 get_at [] i d low = absurd (omega arith)
 get_at (x ∷ xs) zero d low = refl
 get_at (x ∷ xs) (suc i) d low = get_at xs i d (omega arith)
-
-of_some : {X : Type 0} (x y : X) → Some x ≡ Some y → x ≡ y
-of_some x y e = ap (λ o. unwrap_or o x) e
 
 or_at : {X : Type 0} (xs : List X) (i : ℕ) (d e : X) → i < length xs → get_or xs i d ≡ unwrap_or (slice_get xs i) e
 or_at xs i d e low = sym (ap (λ o. unwrap_or o e) (get_at xs i d low))
@@ -318,7 +316,7 @@ module _ (laws : Laws) (job : Job) (lines : ℕ → List (List ℕ)) (every : Op
     flag a h = (told.workers.made k low).ended a h
 
     flag_at : (a : ℕ) → a < tasks job 0 → get_or (image (suc k)).ended.items a false ≡ (snapshot k 0 a).ended
-    flag_at a h = of_some _ _ (sym (get_at (image (suc k)).ended.items a false (let many = (told.workers.collected k low).ended in omega (arith, many, h))) ∙ flag a h)
+    flag_at a h = same_Some _ _ (sym (get_at (image (suc k)).ended.items a false (let many = (told.workers.collected k low).ended in omega (arith, many, h))) ∙ flag a h)
 
     abbrev EachGoes : Option ℕ → Type 0
     EachGoes x = (a : ℕ) → a < tasks job 0 → OffsetGoesOn x (length (lines a)) (slice_index (image k).offsets.items a) (slice_index (image (suc k)).offsets.items a) (snapshot k 0 a).ended
@@ -353,7 +351,7 @@ module _ (laws : Laws) (job : Job) (lines : ℕ → List (List ℕ)) (every : Op
     unchanged : IsUnchanged job lines (image (suc k))
     unchanged = record {
       read = λ a h. (goes_within every (length (lines a)) _ _ _ (goes k a low h) (same.read a h)).1;
-      ended = λ a h is. ended_at every (length (lines a)) _ _ _ (goes k a low h) (of_some _ _ (sym (flag a h) ∙ is));
+      ended = λ a h is. ended_at every (length (lines a)) _ _ _ (goes k a low h) (same_Some _ _ (sym (flag a h) ∙ is));
     }
 
     follows : IsInterval every → Follows job lines every (image k) (image (suc k))
@@ -407,7 +405,7 @@ unchanged_at_start laws job lines base begins = record {
   read = λ a h. let none = (laws.start job base begins).offsets a h in omega (arith, none);
   ended = λ a h is.
       let low : a < length base.ended.items = omega (arith, begins.fits.ended) in
-      absurd (let z : false ≡ true = of_some _ _ (sym (get_at base.ended.items a false low ∙ ap Some (All-get_or (λ (t : Bool). t ≡ false) base.ended.items a false low begins.ended)) ∙ is) in cc);
+      absurd (let z : false ≡ true = same_Some _ _ (sym (get_at base.ended.items a false low ∙ ap Some (All-get_or (λ (t : Bool). t ≡ false) base.ended.items a false low begins.ended)) ∙ is) in cc);
 }
 
 pub told_ends_in_tally : Laws → ToldEndsInTally

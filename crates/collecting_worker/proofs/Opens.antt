@@ -6,6 +6,7 @@ use Rattle.std.proofs.lemmas.Bool.{and_parts, eqb-true, eq-eqb}
 use Rattle.std.proofs.lemmas.List.{get_or-take, get_or-drop, length-drop, length-take}
 use Rattle.std.proofs.lemmas.List.Elements.{All-append, All-take, All-drop, All-push, All-weaker, All-contains, All-from_get_or, All-get_or, Contains-append_left, Contains-push, Contains-push_cases, recursion_from_All}
 use Rattle.std.proofs.lemmas.List.Quantifiers.{all_pairs_push, all_pairs_remove}
+use Rattle.std.proofs.lemmas.Option.{same_Some}
 use Rattle.flow_defs.specs.declared.job.Job.{Job}
 use Rattle.flow_defs.specs.declared.image.Image.{Image}
 use Rattle.flow_defs.specs.declared.image.Saved.{Saved}
@@ -234,9 +235,6 @@ open_waiting g ahead cp x later more h =
 
 -- ---- it is acknowledged
 
-some_same : {X : Type 0} (x y : X) → Some x ≡ Some y → x ≡ y
-some_same x y e = cc
-
 of_some : (opened : Option Checkpoint) (P : Checkpoint → Type 0) (checkpoint : Checkpoint) → opened ≡ Some checkpoint → P checkpoint → IsSomeAnd opened P
 of_some opened P checkpoint is p = subst (λ o. IsSomeAnd o P) (sym is) p
 
@@ -273,7 +271,7 @@ module _ (g : Gathering) (cp : Checkpoint) (x : Snapshot) (h : IsInHand cp g x) 
   acknowledged_for : (i a : ℕ) (y : Snapshot) → fitting.IsTask (job_of g) i a → and_one (acknowledged g.collector) x i a ≡ Some y → IsSnapshotFor (received_by g.pass) i a cp.number y
   acknowledged_for i a y is =
       elim (eqb x.task.stage i && eqb x.task.index a) as (λ b. (eqb x.task.stage i && eqb x.task.index a) ≡ b → cond b (Some x) (acknowledged g.collector i a) ≡ Some y → IsSnapshotFor (received_by g.pass) i a cp.number y) [
-        | true ↦ λ e some. let parts = and_parts (eqb x.task.stage i) (eqb x.task.index a) e in subst (IsSnapshotFor (received_by g.pass) i a cp.number) (some_same x y some) (for_it i a (eqb-true x.task.stage i parts.0) (eqb-true x.task.index a parts.1))
+        | true ↦ λ e some. let parts = and_parts (eqb x.task.stage i) (eqb x.task.index a) e in subst (IsSnapshotFor (received_by g.pass) i a cp.number) (same_Some x y some) (for_it i a (eqb-true x.task.stage i parts.0) (eqb-true x.task.index a parts.1))
         | false ↦ λ e some. h.is_open.acknowledged_are i a y is some
       ] refl
 

@@ -3,6 +3,7 @@ use Rattle.std.proofs.Common.{◌≡◌, ◌≢◌, ◌⊎◌, ℕ, zero, suc, �
 use Rattle.std.specs.Prelude.{slice_get, unwrap_or, IsSomeAnd}
 use Rattle.std.specs.Option.{option_map_or}
 use Rattle.std.proofs.lemmas.Bool.{cases_eq, and_parts, and_from, eqb-true, eq-eqb}
+use Rattle.std.proofs.lemmas.Option.{same_Some}
 use Rattle.flow_defs.specs.declared.job.Job.{Job}
 use Rattle.flow_defs.specs.declared.image.Image.{Image}
 use Rattle.flow_defs.specs.declared.image.Snapshot.{Snapshot}
@@ -17,9 +18,6 @@ use Rattle.collector.specs.Collecting.{task_count, kept_at, acknowledged, and_on
 use Rattle.collector.specs.Filling.{IsPut, IsBlank, IsFilled, IsAtPlace, AreOfTasks}
 use Rattle.collector.proofs.TaskPlaces.{place_within, same_place, At, at_place}
 use Rattle.collector.proofs.MadeImages.{image_of}
-
-some_same : {X : Type 0} (x y : X) → Some x ≡ Some y → x ≡ y
-some_same x y e = cc
 
 some_none : {X : Type 0} (x : X) → None ≡ Some x → ⊥
 some_none x e = cc
@@ -39,7 +37,7 @@ put_else old new place i slot put ne =
 -- what is known of a snapshot that stands in a collector, or may come to stand there
 of_some : (opened : Option Checkpoint) (P : Checkpoint → Type 0) (checkpoint : Checkpoint) → opened ≡ Some checkpoint → IsSomeAnd opened P → P checkpoint
 of_some None P checkpoint is some = absurd (some_none checkpoint is)
-of_some (Some other) P checkpoint is some = subst P (some_same other checkpoint is) some
+of_some (Some other) P checkpoint is some = subst P (same_Some other checkpoint is) some
 
 its_task : (job : Job) (snapshot : Snapshot) (opened : Option Checkpoint) → IsSomeAnd opened (IsOfCheckpoint job snapshot) → IsTask job snapshot.task.stage snapshot.task.index
 its_task job snapshot None some = absurd some
@@ -96,7 +94,7 @@ module _ (old : Collector) (slots : Items (Option Snapshot)) (snapshot : Snapsho
     many = put.many ∙ is.many;
     each = λ i s here. elim (cases_eq i (sender_place old.job.now snapshot.task.stage snapshot.task.index)) [
       | inl e ↦
-          let same : snapshot ≡ s = some_same snapshot s (sym kept_here ∙ ap (kept_at slots.items) (sym e) ∙ here) in
+          let same : snapshot ≡ s = same_Some snapshot s (sym kept_here ∙ ap (kept_at slots.items) (sym e) ∙ here) in
           subst (λ (t : Snapshot). (i ≡ sender_place old.job.now t.task.stage t.task.index) × IsSomeAnd old.opened (IsOfCheckpoint old.job.now t)) same (e, due.of_open)
       | inr ne ↦ is.each i s (sym (kept_else i ne) ∙ here)
     ];

@@ -4,7 +4,7 @@ use Rattle.std.specs.Prelude.{slice_get}
 use Rattle.std.specs.Option.{option_map_or}
 use Rattle.std.specs.List.{AllByRecursion}
 use Rattle.std.proofs.lemmas.Bool.{cases_eq, and_parts, and_from, eqb-true, eq-eqb}
-use Rattle.std.proofs.lemmas.Option.{slice_get_within}
+use Rattle.std.proofs.lemmas.Option.{slice_get_within, same_Some}
 use Rattle.flow_defs.specs.declared.job.Job.{Job}
 use Rattle.flow_defs.specs.declared.image.Saved.{Saved}
 use Rattle.flow_defs.specs.declared.image.Image.{Image}
@@ -46,15 +46,12 @@ piece_apart P e a b never (saved ∷ pieces) all bytes =
       | false ↦ λ off. piece_apart P e a b never pieces all.1 bytes
     ] refl
 
-some_same : {X : Type 0} (x y : X) → Some x ≡ Some y → x ≡ y
-some_same x y e = cc
-
 some_none : {X : Type 0} (x : X) → None ≡ Some x → ⊥
 some_none x e = cc
 
 same_three : (x y : ℕ × ℕ × ℕ) → Some x ≡ Some y → (x.0 ≡ y.0) × (x.1 ≡ y.1) × (x.2 ≡ y.2)
 same_three x y is =
-    let same : x ≡ y = some_same x y is in
+    let same : x ≡ y = same_Some x y is in
     (ap (λ (p : ℕ × ℕ × ℕ). p.0) same, ap (λ (p : ℕ × ℕ × ℕ). p.1) same, ap (λ (p : ℕ × ℕ × ℕ). p.2) same)
 
 -- one piece more
@@ -96,7 +93,7 @@ shows_none first part slots k list none shows i s low inside is = elim (cases_eq
 pub shows_some : {T : Type 0} (first : ℕ) (part : Snapshot → T) (slots : List (Option Snapshot)) (k : ℕ) (snapshot : Snapshot) (old new : List T) → kept_at slots k ≡ Some snapshot →
     IsPut first k (part snapshot) old new → Shows first part slots (suc k) old → Shows first part slots k new
 shows_some first part slots k snapshot old new here put shows i s low inside is = elim (cases_eq k (first + i)) [
-  | inl e ↦ put.there i e (omega (arith, inside, put.many)) ∙ ap (λ u. Some (part u)) (some_same snapshot s (sym here ∙ ap (kept_at slots) e ∙ is))
+  | inl e ↦ put.there i e (omega (arith, inside, put.many)) ∙ ap (λ u. Some (part u)) (same_Some snapshot s (sym here ∙ ap (kept_at slots) e ∙ is))
   | inr ne ↦ put.others i ne ∙ shows i s (omega (arith, low, ne)) (omega (arith, inside, put.many)) is
 ]
 
@@ -117,7 +114,7 @@ pieces_some job at side slots k snapshot old new here apart put shows = record {
   put = λ e a b s on low is. elim (cases_eq k (at e a b)) [
     | inl e' ↦
         put.each e a b on ∙ ap (λ bytes. piece_or bytes e a b (side snapshot)) (shows.empty e a b on (omega (arith, e')))
-        ∙ ap (λ u. piece e a b (side u)) (some_same snapshot s (sym here ∙ ap (kept_at slots) e' ∙ is))
+        ∙ ap (λ u. piece e a b (side u)) (same_Some snapshot s (sym here ∙ ap (kept_at slots) e' ∙ is))
     | inr ne ↦ put.each e a b on ∙ apart e a b ne _ ∙ shows.put e a b s on (omega (arith, low, ne)) is
   ];
   empty = λ e a b on low. put.each e a b on ∙ apart e a b (λ e'. omega (arith, low, e')) _ ∙ shows.empty e a b on (omega (arith, low));

@@ -2,7 +2,7 @@
 use Rattle.std.proofs.Common.{◌≡◌, ℕ, zero, suc, ◌<◌, ◌≤◌, List, [], ◌∷◌, ◌++◌, length, get_or, Option, Some, None, sym, ap, subst, arith, inl, inr, ◌⊎◌}
 use Rattle.std.specs.Prelude.{IsSome, slice_get}
 use Rattle.std.proofs.lemmas.Bool.{false≢true}
-use Rattle.std.proofs.lemmas.Option.{slice_get_within}
+use Rattle.std.proofs.lemmas.Option.{slice_get_within, same_Some}
 use Rattle.std.specs.Option.{option_map_or}
 use Rattle.flow_defs.specs.Items.{Items}
 use Rattle.flow_defs.specs.declared.job.Job.{Job}
@@ -23,10 +23,7 @@ name_at job i name within is = ap (λ f. option_map_or (λ (file : Items ℕ). f
 -- what holds of the items of a list, each at its place, holds of those of the list with one more
 pub one_more : {S : Type 0} (P : ℕ → S → Type 0) (xs : List S) (x : S) → ((a : ℕ) (y : S) → slice_get xs a ≡ Some y → P a y) → P (length xs) x
     → (a : ℕ) (y : S) → slice_get (xs ++ x ∷ []) a ≡ Some y → P a y
-one_more P [] x all here zero y is = subst (P 0) (same_some x y is) here
-  where
-    same_some : {S : Type 0} (x y : S) → Some x ≡ Some y → x ≡ y
-    same_some x y is = cc
+one_more P [] x all here zero y is = subst (P 0) (same_Some x y is) here
 one_more P [] x all here (suc a) y is = absurd (cc)
 one_more P (z ∷ xs) x all here zero y is = all zero y is
 one_more P (z ∷ xs) x all here (suc a) y is = one_more (λ n. P (suc n)) xs x (λ n. all (suc n)) here a y is

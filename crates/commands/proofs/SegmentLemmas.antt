@@ -1,12 +1,13 @@
 -- All jobs of a text need the same segments: its lines say how many tasks each stage has, and how records come into it.
-use Rattle.std.proofs.Common.{◌≡◌, ℕ, zero, suc, ◌+◌, ◌*◌, ◌<◌, ◌≤◌, true, List, [], ◌∷◌, ◌++◌, length, map, get_or, Some, refl, sym, ap, ◌∙◌, subst, arith, append_assoc, lit<}
-use Rattle.std.specs.Prelude.{codes, decimal, slice_get, All, unwrap_or}
+use Rattle.std.proofs.Common.{◌≡◌, ℕ, zero, suc, ◌+◌, ◌*◌, ◌<◌, ◌≤◌, true, List, [], ◌∷◌, ◌++◌, length, map, get_or, refl, sym, ap, ◌∙◌, subst, arith, append_assoc, lit<}
+use Rattle.std.specs.Prelude.{codes, decimal, slice_get, All}
 use Rattle.std.specs.Option.{option_map_or}
 use Rattle.std.specs.List.{AllByRecursion}
 use Rattle.std.specs.Str.{all_ascii_digits}
 use Rattle.std.proofs.lemmas.Bool.{and_from, and_parts, not_from_false, ne_eqb, leb-true}
 use Rattle.std.proofs.lemmas.List.{append_cancel_left}
 use Rattle.std.proofs.lemmas.List.Elements.{All-head, All-tail}
+use Rattle.std.proofs.lemmas.Option.{same_Some}
 use Rattle.flow_defs.specs.Items.{Items}
 use Rattle.flow_defs.specs.declared.job.Job.{Job}
 use Rattle.flow_defs.specs.declared.job.Stage.{Stage}
@@ -80,15 +81,12 @@ aggregate_words : (kind : AggKind) (n : ℕ) → HasTasks n → pieces 32 (aggre
 aggregate_words kind n many =
     words_of_line (codes "aggregate") (agg_word kind ∷ decimal n ∷ []) refl (agg_no_space kind, (decimal_no_space n many.0 (let high = many.1 in omega (arith, high)), tt))
 
-same_some : {A : Type 0} (a b : A) → Some a ≡ Some b → a ≡ b
-same_some a b same = ap (λ o. unwrap_or o a) same
-
 same_number : (m n : ℕ) → HasTasks m → HasTasks n → decimal m ≡ decimal n → m ≡ n
 same_number m n first second same =
-    same_some m n (sym (decimal_number TASKS_MAX m (lit< tt) first.0 first.1) ∙ ap (number_of TASKS_MAX) same ∙ decimal_number TASKS_MAX n (lit< tt) second.0 second.1)
+    same_Some m n (sym (decimal_number TASKS_MAX m (lit< tt) first.0 first.1) ∙ ap (number_of TASKS_MAX) same ∙ decimal_number TASKS_MAX n (lit< tt) second.0 second.1)
 
 same_exchange : (a b : Exchange) → exchange_word a ≡ exchange_word b → a ≡ b
-same_exchange a b same = same_some a b (sym (exchange_spelled a) ∙ ap exchange_of same ∙ exchange_spelled b)
+same_exchange a b same = same_Some a b (sym (exchange_spelled a) ∙ ap exchange_of same ∙ exchange_spelled b)
 
 same_stage_tasks : (s t : Stage) → IsArgument s.kind s.arg.items → HasTasks s.tasks → IsArgument t.kind t.arg.items → HasTasks t.tasks → stage_line s ≡ stage_line t → s.tasks ≡ t.tasks
 same_stage_tasks s t s_arg s_many t_arg t_many same =

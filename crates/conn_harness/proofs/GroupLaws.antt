@@ -3,6 +3,7 @@ use Rattle.std.proofs.Common.{◌≡◌, ℕ, zero, suc, ◌+◌, List, [], ◌�
 use Rattle.std.specs.Prelude.{slice_get}
 use Rattle.std.proofs.lemmas.List.{nil_from_length, length_push}
 use Rattle.std.proofs.lemmas.List.Elements.{All-push, All-same}
+use Rattle.std.proofs.lemmas.Option.{same_Some}
 use lib.ListN.{get_elem?}
 use Rattle.turn_cell.specs.declared.cell.TurnCell.{TurnCell}
 use Rattle.turn_cell.specs.declared.pass.Pass.{Pass}
@@ -11,9 +12,6 @@ use Rattle.turn_cell.specs.Closing.{IsFresh, AreFresh}
 use Rattle.conn_parts.specs.Shares.{AreOf, AreOwn}
 use Rattle.conn_harness.specs.declared.group.Group.{Group}
 use Rattle.conn_harness.specs.Groups.{AreDealt, HasMore, AreMade}
-
-some_is : {A : Type 0} (x y : A) → Some x ≡ Some y → x ≡ y
-some_is x y e = cc
 
 module _ {S E F : Type 0} where
   -- A pass that was made with this cell, and its number.
@@ -37,7 +35,7 @@ module _ {S E F : Type 0} where
       ((k : ℕ) (c : TurnCell S E F) (p : Pass S E F) → slice_get cells k ≡ Some c → slice_get passes k ≡ Some p → IsPassOf c p) → IsPassOf cell pass →
       (k : ℕ) (c : TurnCell S E F) (p : Pass S E F) → slice_get (cells ++ cell ∷ []) k ≡ Some c → slice_get (passes ++ pass ∷ []) k ≡ Some p → IsPassOf c p
   each_more [] [] cell pass l each is zero c p ec ep =
-      subst (λ (x : TurnCell S E F). IsPassOf x p) (some_is cell c ec) (subst (λ (x : Pass S E F). IsPassOf cell x) (some_is pass p ep) is)
+      subst (λ (x : TurnCell S E F). IsPassOf x p) (same_Some cell c ec) (subst (λ (x : Pass S E F). IsPassOf cell x) (same_Some pass p ep) is)
   each_more [] [] cell pass l each is (suc k) c p ec ep = absurd (cc)
   each_more [] (q ∷ qs) cell pass l each is k c p ec ep = absurd (omega arith)
   each_more (d ∷ ds) [] cell pass l each is k c p ec ep = absurd (omega arith)

@@ -6,7 +6,7 @@ use Rattle.std.specs.List.{refill, swap, AllByRecursion}
 use Rattle.std.specs.Option.{option_map_or}
 use Rattle.std.proofs.lemmas.List.{length-set}
 use Rattle.std.proofs.lemmas.List.Elements.{All-set, All-get_or, All-from_recursion, recursion_from_All}
-use Rattle.std.proofs.lemmas.Option.{slice_get_cases}
+use Rattle.std.proofs.lemmas.Option.{slice_get_cases, same_Some}
 use Rattle.turn_cell.specs.declared.cell.TurnCell.{TurnCell}
 use Rattle.turn_cell.specs.declared.pass.Pass.{Pass}
 use Rattle.turn_cell.specs.History.{StartsWith}
@@ -17,9 +17,6 @@ use Rattle.segment_pool.specs.Pools.{size_of}
 use Rattle.conn_parts.specs.Shares.{AreOf, AreOwn, AreNew, GrewAt, HavePoolSize, numbers_of, seen_at, mine_at}
 use Rattle.conn_parts.specs.Places.{IsWithout}
 use Rattle.conn_parts.proofs.Lists.{refilled_set, get_is, get_set, get_set_else, set_cases, map_set}
-
-some_is : {X : Type 0} (x y : X) → Some x ≡ Some y → x ≡ y
-some_is x y e = cc
 
 module _ {S E F : Type 0} where
   -- ---- the pass at a place
@@ -42,8 +39,8 @@ module _ {S E F : Type 0} where
     many = length-set passes k after ∙ of.many;
     each = λ j c p at_cells at_set. elim (set_cases passes k j after) [
       | inl here ↦
-          let same : cell ≡ c = some_is cell c (sym (get_is cells k cell within is_cell) ∙ ap (slice_get cells) (sym here.0) ∙ at_cells) in
-          let new : after ≡ p = some_is after p (sym here.2 ∙ at_set) in
+          let same : cell ≡ c = same_Some cell c (sym (get_is cells k cell within is_cell) ∙ ap (slice_get cells) (sym here.0) ∙ at_cells) in
+          let new : after ≡ p = same_Some after p (sym here.2 ∙ at_set) in
           subst (λ (x : TurnCell S E F). IsPassOf x p) same (subst (IsPassOf cell) new is_pass)
       | inr else ↦ of.each j c p at_cells (sym else ∙ at_set)
     ];

@@ -2,6 +2,7 @@
 use Rattle.std.proofs.Common.{◌≡◌, ◌≢◌, inl, inr, ℕ, zero, suc, ◌<◌, true, false, cond, List, [], ◌∷◌, ◌++◌, length, get_or, Some, Result, Ok, Err, refl, sym, ap, subst, ◌∙◌, arith, append-nil}
 use Rattle.std.specs.Prelude.{slice_get, OnOk}
 use Rattle.std.proofs.lemmas.Bool.{eq-eqb, and_from, and_parts, eqb-true, cases_eq, cases_order, false_from_ne_true}
+use Rattle.std.proofs.lemmas.Option.{same_Some}
 use Rattle.flow_defs.specs.declared.task.ChannelId.{ChannelId}
 use Rattle.credit_reader.specs.Senders.{AreDistinct, is_same}
 use Rattle.flow_defs.specs.declared.cause.Cause.{Cause}
@@ -50,16 +51,13 @@ other_channel channels j k c d distinct at_j at_k ne = λ same.
       ]
     ]
 
-some_is : {X : Type 0} (x y : X) → Some x ≡ Some y → x ≡ y
-some_is x y e = cc
-
 -- What the channel at a place was given, channel by channel.
 gave_one : (channels : List ChannelId) (k : ℕ) (channel : ChannelId) (before after : List InputPass) (notes : List ReceiveEntry) (per : ChannelId → List ReceiveEntry) →
     AreDistinct channels → slice_get channels k ≡ Some channel → per channel ≡ notes → ((c : ChannelId) → channel ≢ c → per c ≡ []) → GaveAt k before after notes → Gave channels before after per
 gave_one channels k channel before after notes per distinct at here else gave = record {
   each = λ j c at_j. elim (cases_eq j k) [
     | inl is ↦
-        let same : channel ≡ c = some_is channel c (sym at ∙ ap (slice_get channels) (sym is) ∙ at_j) in
+        let same : channel ≡ c = same_Some channel c (sym at ∙ ap (slice_get channels) (sym is) ∙ at_j) in
         ap (λ n. noted (mine_at n after)) is ∙ gave.here.noted ∙ ap (λ n. noted (mine_at n before) ++ notes) (sym is)
         ∙ ap (λ l. noted (mine_at j before) ++ l) (sym here ∙ ap per same)
     | inr ne ↦

@@ -4,6 +4,7 @@ use Rattle.std.specs.Prelude.{count_by, sum_by, slice_get, slice_index_or, All}
 use Rattle.std.proofs.lemmas.List.Elements.{All-head, All-tail}
 use Rattle.std.proofs.lemmas.List.Sums.{sum_by-append, sum_by-cons}
 use Rattle.std.proofs.lemmas.Bool.{eqb-true, and_parts, false_from_ne_true}
+use Rattle.std.proofs.lemmas.Option.{same_Some}
 use Rattle.turn_cell.specs.History.{StartsWith, entries_of}
 use Rattle.flow_defs.specs.declared.task.ChannelId.{ChannelId}
 use Rattle.flow_defs.specs.declared.task.BarrierKind.TheVariants as barrier
@@ -24,7 +25,7 @@ use Rattle.conn_send_items.specs.Sending.{sent_kind}
 use Rattle.conn_read_control.specs.Controlling.{entries_in}
 use Rattle.conn_send_control.specs.Announcing.{BeginsWithRequests}
 use Rattle.conn_run.specs.Theorems.{CreditCoversData}
-use Rattle.conn_run.proofs.Arriving.{some_is, front_sent}
+use Rattle.conn_run.proofs.Arriving.{front_sent}
 
 -- ---- data
 
@@ -151,9 +152,9 @@ credit_covers_data law fronts parts covers tells items control asking reading it
     data_was data_ended control_was control_ended a b c d e f g i send_cause control_cause ask_cause read_cause history s h t r same_control same_reading distinct
     data_begins control_begins legal own_items own_control k channel at none_pushed none_told =
     let data_front = front_sent is_from_sender data_sent a b s.messages send_cause s.wrote in
-    let data_link = law is_from_sender s.messages r.messages data_sent data_got r.left data_front.0 refl s.wrote.frames s.wrote.direction r.read.frames r.read.direction data_front.1 data_begins (some_is _ _ r.read.bytes) in
+    let data_link = law is_from_sender s.messages r.messages data_sent data_got r.left data_front.0 refl s.wrote.frames s.wrote.direction r.read.frames r.read.direction data_front.1 data_begins (same_Some _ _ r.read.bytes) in
     let control_front = front_sent is_from_receiver control_sent e f t.messages ask_cause t.wrote in
-    let control_link = law is_from_receiver t.messages h.messages control_sent control_got h.left control_front.0 refl t.wrote.frames t.wrote.direction h.read.frames h.read.direction control_front.1 control_begins (some_is _ _ h.read.bytes) in
+    let control_link = law is_from_receiver t.messages h.messages control_sent control_got h.left control_front.0 refl t.wrote.frames t.wrote.direction h.read.frames h.read.direction control_front.1 control_begins (same_Some _ _ h.read.bytes) in
     let gave = r.pushed.pushes k channel (ap (λ l. slice_get l k) same_reading ∙ at) ∙ ap (λ l. l ++ items_on channel r.messages) none_pushed in
     let read_most = count_front (items_on channel s.messages) (items_on channel r.messages) (fronts channel s.messages r.messages data_link.0).items in
     let told = tells items.channels.now history channel legal in

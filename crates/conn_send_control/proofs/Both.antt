@@ -3,6 +3,7 @@ use Rattle.std.proofs.Common.{◌≡◌, ◌≢◌, ℕ, zero, suc, [], ◌∷�
 use Rattle.std.specs.Prelude.{slice_get, Some}
 use Rattle.std.proofs.lemmas.List.Elements.{All-nil, All-cons}
 use Rattle.std.proofs.lemmas.List.Kept.{AllPairs-cons}
+use Rattle.std.proofs.lemmas.Option.{same_Some}
 use Rattle.turn_cell.specs.declared.cell.TurnCell.{TurnCell}
 use Rattle.turn_cell.specs.declared.pass.Pass.{Pass}
 use Rattle.turn_cell.specs.Passes.{IsPassOf, number}
@@ -10,13 +11,10 @@ use Rattle.flow_defs.specs.declared.task.ChannelId.{ChannelId}
 use Rattle.credit_reader.specs.Senders.{AreDistinct}
 use Rattle.conn_parts.specs.Shares.{AreOwn}
 
-some_same : {X : Type 0} (x y : X) → Some x ≡ Some y → x ≡ y
-some_same x y e = cc
-
 module _ {S E F : Type 0} (n : ℕ) (a b : TurnCell S E F) (p q : Pass S E F) where
   each_of_two : IsPassOf a p → IsPassOf b q → (k : ℕ) (cell : TurnCell S E F) (pass : Pass S E F) → slice_get (a ∷ b ∷ []) k ≡ Some cell → slice_get (p ∷ q ∷ []) k ≡ Some pass → IsPassOf cell pass
-  each_of_two one two zero cell pass is_cell is_pass = subst (λ c. IsPassOf c pass) (some_same a cell is_cell) (subst (IsPassOf a) (some_same p pass is_pass) one)
-  each_of_two one two (suc zero) cell pass is_cell is_pass = subst (λ c. IsPassOf c pass) (some_same b cell is_cell) (subst (IsPassOf b) (some_same q pass is_pass) two)
+  each_of_two one two zero cell pass is_cell is_pass = subst (λ c. IsPassOf c pass) (same_Some a cell is_cell) (subst (IsPassOf a) (same_Some p pass is_pass) one)
+  each_of_two one two (suc zero) cell pass is_cell is_pass = subst (λ c. IsPassOf c pass) (same_Some b cell is_cell) (subst (IsPassOf b) (same_Some q pass is_pass) two)
   each_of_two one two (suc (suc k)) cell pass is_cell is_pass = absurd (cc)
 
   pub two_own : IsPassOf a p → number p ≡ n → IsPassOf b q → number q ≡ n → AreOwn n (a ∷ b ∷ []) (p ∷ q ∷ [])

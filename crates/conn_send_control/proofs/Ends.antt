@@ -5,7 +5,7 @@ use Rattle.std.specs.List.{refill}
 use Rattle.std.proofs.lemmas.List.{length-set}
 use Rattle.std.proofs.lemmas.List.Elements.{All-get_or, All-push}
 use Rattle.std.proofs.lemmas.Bool.{true≢false}
-use Rattle.std.proofs.lemmas.Option.{slice_get_within, slice_get-get_or}
+use Rattle.std.proofs.lemmas.Option.{slice_get_within, slice_get-get_or, same_Some}
 use Rattle.turn_cell.specs.declared.pass.Pass.{Pass}
 use Rattle.flow_defs.specs.declared.task.ChannelId.{ChannelId}
 use Rattle.input_channel.specs.declared.entry.ReceiveEntry.{ReceiveEntry}
@@ -14,9 +14,6 @@ use Rattle.conn_parts.proofs.Lists.{refilled_set, set_cases}
 use Rattle.conn_send_control.specs.Taking.{HasSeenEnd, HaveSeenMore, HaveEnded, NoneEnded}
 use Rattle.conn_send_control.specs.Going.{AllEnded}
 use Rattle.conn_send_control.proofs.Takings.{still_ended}
-
-is_true : (b : Bool) → Some b ≡ Some true → b ≡ true
-is_true b e = cc
 
 module _ {S F : Type 0} where
   pub ended_on : (ended : List Bool) (p q : List (Pass S ReceiveEntry F)) → HaveEnded ended p → HaveSeenMore p q → HaveEnded ended q
@@ -28,7 +25,7 @@ module _ {S F : Type 0} where
   ended_set ended lent at now p q lent_is are more here k is =
       let is_set : slice_get (set ended at now) k ≡ Some true = ap (λ l. slice_get l k) (sym (refilled_set ended lent at now lent_is)) ∙ is in
       elim (set_cases ended at k now) [
-        | inl same ↦ subst (λ j. HasSeenEnd (seen_at j q)) (sym same.0) (here (is_true now (sym same.2 ∙ is_set)))
+        | inl same ↦ subst (λ j. HasSeenEnd (seen_at j q)) (sym same.0) (here (same_Some now true (sym same.2 ∙ is_set)))
         | inr other ↦ ended_on ended p q are more k (sym other ∙ is_set)
       ]
 
@@ -46,5 +43,5 @@ none_more ended none = All-push (λ (b : Bool). b ≡ false) ended false none re
 pub none_ended : {S F : Type 0} (ended : List Bool) (p : List (Pass S ReceiveEntry F)) → NoneEnded ended → HaveEnded ended p
 none_ended ended p none k is =
     let within = slice_get_within ended k true is in
-    let marked : get_or ended k true ≡ true = is_true _ (sym (slice_get-get_or ended k true within) ∙ is) in
+    let marked : get_or ended k true ≡ true = same_Some _ true (sym (slice_get-get_or ended k true within) ∙ is) in
     absurd (true≢false (sym marked ∙ All-get_or (λ (b : Bool). b ≡ false) ended k true within none))

@@ -3,7 +3,7 @@ use Rattle.std.proofs.Common.{◌≡◌, ◌≢◌, ℕ, zero, suc, ◌+◌, ◌
 use Rattle.std.specs.Prelude.{Some, All, slice_get}
 use Rattle.std.specs.List.{refill}
 use Rattle.std.proofs.lemmas.Bool.{eqb-true, eq-eqb, cases_eq, cases_order, and_parts, and_from, false_from_ne_true}
-use Rattle.std.proofs.lemmas.Option.{slice_get_within, slice_get-get_or}
+use Rattle.std.proofs.lemmas.Option.{slice_get_within, slice_get-get_or, same_Some}
 use Rattle.std.proofs.lemmas.List.Elements.{All-nil, All-cons}
 use Rattle.turn_cell.specs.declared.pass.Pass.{Pass}
 use Rattle.turn_cell.specs.Passes.{mine}
@@ -35,11 +35,8 @@ same_channel c d test =
     let front = and_parts _ _ parts.0 in
     ap (λ n. id_of n c.from c.to) (eqb-true _ _ front.0) ∙ ap (λ n. id_of d.edge n c.to) (eqb-true _ _ front.1) ∙ ap (λ n. id_of d.edge d.from n) (eqb-true _ _ parts.1)
 
-some_same : {X : Type 0} (x y : X) → Some x ≡ Some y → x ≡ y
-some_same x y e = cc
-
 stands_at : (cs : List ChannelId) (k : ℕ) (c d : ChannelId) → slice_get cs k ≡ Some c → c ≡ get_or cs k d
-stands_at cs k c d is = some_same _ _ (sym is ∙ slice_get-get_or cs k d (slice_get_within cs k c is))
+stands_at cs k c d is = same_Some _ _ (sym is ∙ slice_get-get_or cs k d (slice_get_within cs k c is))
 
 apart : (cs : List ChannelId) (j k : ℕ) (c d : ChannelId) → AreDistinct cs → slice_get cs j ≡ Some c → slice_get cs k ≡ Some d → j ≢ k → c ≢ d
 apart cs j k c d distinct at_j at_k other same = elim (cases_order j k) [
@@ -113,7 +110,7 @@ module _ {S F : Type 0} (channels : List ChannelId) where
         (k : ℕ) (c : ChannelId) → slice_get channels k ≡ Some c → credit_told (mine_at k (set passes at after)) ≡ credit_told (mine_at k passes) + credit_on c ms
     credit_at distinct within here is tells took k c there = elim (cases_eq k at) [
       | inl same ↦
-          let c_is : channel ≡ c = some_same _ _ (sym here ∙ ap (slice_get channels) (sym same) ∙ there) in
+          let c_is : channel ≡ c = same_Some _ _ (sym here ∙ ap (slice_get channels) (sym same) ∙ there) in
           let told : credit_on c ms ≡ credit = tells.credit_is c ∙ ap (λ b. cond b credit 0) (ap (is_same channel) (sym c_is) ∙ is_same_self channel) in
           let now : mine_at k (set passes at after) ≡ mine after = ap (λ j. mine_at j (set passes at after)) same ∙ mine_set passes at after within in
           let was : mine_at k passes ≡ mine pass = ap (λ j. mine_at j passes) same ∙ mine_here passes at pass within is in
@@ -128,7 +125,7 @@ module _ {S F : Type 0} (channels : List ChannelId) where
         (k : ℕ) (c : ChannelId) → slice_get channels k ≡ Some c → resumes (mine_at k (set passes at after)) ≡ resumes (mine_at k passes) + resumptions_on c ms
     resumed_at distinct within here is tells took k c there = elim (cases_eq k at) [
       | inl same ↦
-          let c_is : channel ≡ c = some_same _ _ (sym here ∙ ap (slice_get channels) (sym same) ∙ there) in
+          let c_is : channel ≡ c = same_Some _ _ (sym here ∙ ap (slice_get channels) (sym same) ∙ there) in
           let told : resumptions_on c ms ≡ resumed = tells.resumed_is c ∙ ap (λ b. cond b resumed 0) (ap (is_same channel) (sym c_is) ∙ is_same_self channel) in
           let now : mine_at k (set passes at after) ≡ mine after = ap (λ j. mine_at j (set passes at after)) same ∙ mine_set passes at after within in
           let was : mine_at k passes ≡ mine pass = ap (λ j. mine_at j passes) same ∙ mine_here passes at pass within is in

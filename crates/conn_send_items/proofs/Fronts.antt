@@ -4,6 +4,7 @@ use Rattle.std.specs.Prelude.{slice_get, Some, None, All}
 use Rattle.std.specs.List.{filter, range_with_len}
 use Rattle.std.proofs.lemmas.List.{map-append}
 use Rattle.std.proofs.lemmas.List.Elements.{All-get_or, filter-append}
+use Rattle.std.proofs.lemmas.Option.{same_Some}
 use Rattle.flow_defs.specs.declared.task.BarrierKind.{BarrierKind}
 use Rattle.flow_defs.specs.declared.task.BarrierKind.TheVariants.{Inline}
 use Rattle.flow_defs.specs.declared.task.Head.TheVariants.{Nothing}
@@ -111,9 +112,6 @@ pub no_first : (items : List Item) → head_of items ≢ Nothing → slice_get i
 no_first [] some none = some refl
 no_first (x ∷ items) some none = some_not_none x none
 
-same_item : (x y : Item) → Some x ≡ Some y → x ≡ y
-same_item x y e = cc
-
 head_alone : (x : Item) (items : List Item) → head_of (x ∷ []) ≡ head_of (x ∷ items)
 head_alone (item.Buffer filled) items = refl
 head_alone (item.Barrier k kind) items = refl
@@ -121,7 +119,7 @@ head_alone item.End items = refl
 
 pub head_taken : (items : List Item) (x : Item) → slice_get items 0 ≡ Some x → head_of (x ∷ []) ≡ head_of items
 head_taken [] x is = absurd (some_not_none x (sym is))
-head_taken (y ∷ items) x is = ap (λ i. head_of (i ∷ [])) (sym (same_item y x is)) ∙ head_alone y items
+head_taken (y ∷ items) x is = ap (λ i. head_of (i ∷ [])) (sym (same_Some y x is)) ∙ head_alone y items
 
 -- ---- numbers of barriers
 
@@ -157,7 +155,7 @@ numbered entries numbers travel queue history (item.Barrier k kind) stands is =
   where
     stands_first : (items : List Item) → slice_get items 0 ≡ Some (item.Barrier k kind) → (rest : List Parcel) × (map parcel_of items ≡ Barrier k kind ∷ rest)
     stands_first [] is = absurd (some_not_none (item.Barrier k kind) (sym is))
-    stands_first (y ∷ items) is = (map parcel_of items, ap (λ i. parcel_of i ∷ map parcel_of items) (same_item y (item.Barrier k kind) is))
+    stands_first (y ∷ items) is = (map parcel_of items, ap (λ i. parcel_of i ∷ map parcel_of items) (same_Some y (item.Barrier k kind) is))
 
 -- ---- a turn of the sender
 

@@ -2,6 +2,7 @@
 use Rattle.std.proofs.Common.{◌≡◌, ◌≢◌, inl, inr, ℕ, zero, suc, ◌<◌, true, false, List, [], ◌∷◌, length, get_or, refl, sym, ap, subst, ◌∙◌, arith}
 use Rattle.std.specs.Prelude.{slice_get, Some}
 use Rattle.std.proofs.lemmas.Bool.{eqb-true, eq-eqb, and_parts, and_from, cases_eq, cases_order, false_from_ne_true}
+use Rattle.std.proofs.lemmas.Option.{same_Some}
 use Rattle.flow_defs.specs.declared.task.ChannelId.{ChannelId}
 use Rattle.flow_defs.specs.declared.task.Head.{Head}
 use Rattle.credit_reader.specs.Senders.{AreDistinct, is_same}
@@ -29,12 +30,9 @@ is_other c d other = false_from_ne_true _ (λ test. other (same_channel c d test
 
 -- ---- places of channels
 
-some_is : {X : Type 0} (x y : X) → Some x ≡ Some y → x ≡ y
-some_is x y e = cc
-
 pub there : {X : Type 0} (xs : List X) (k : ℕ) (x : X) → slice_get xs k ≡ Some x → (k < length xs) × ((d : X) → get_or xs k d ≡ x)
 there [] k x is = absurd (cc)
-there (y ∷ xs) zero x is = (omega arith, λ d. some_is y x is)
+there (y ∷ xs) zero x is = (omega arith, λ d. same_Some y x is)
 there (y ∷ xs) (suc k) x is = let t = there xs k x is in (omega (arith, t.0), t.1)
 
 pub stands_in : {X : Type 0} (xs : List X) (k : ℕ) (d : X) → k < length xs → slice_get xs k ≡ Some (get_or xs k d)
@@ -62,7 +60,7 @@ pub channel_there : (channels : List ChannelId) (k : ℕ) → k < length channel
 channel_there channels k within = stands_in channels k (id_of 0 0 0) within
 
 pub one_at : (channels : List ChannelId) (k : ℕ) (c d : ChannelId) → slice_get channels k ≡ Some c → slice_get channels k ≡ Some d → c ≡ d
-one_at channels k c d at_c at_d = some_is c d (sym at_c ∙ at_d)
+one_at channels k c d at_c at_d = same_Some c d (sym at_c ∙ at_d)
 
 -- ---- what stands first
 

@@ -4,6 +4,7 @@ use Rattle.std.specs.Prelude.{slice_get, count_by}
 use mir.Val.{bool_byte}
 use Rattle.circular_buffer.specs.Buffer.{keep_last}
 use Rattle.std.proofs.lemmas.List.{take-append-le, drop-append-le, take-append-drop, map-append, drop_all}
+use Rattle.std.proofs.lemmas.Option.{same_Some}
 use Rattle.std.proofs.Math.Seq.{take-add, drop-nil}
 use Rattle.flow_defs.specs.declared.task.BarrierKind.{BarrierKind}
 use Rattle.flow_defs.specs.declared.task.BarrierKind.TheVariants.{Inline, Front}
@@ -35,10 +36,7 @@ get-cons {A = A} [] x e = absurd (no x e)
   where
     no : (x : A) → ◌≡◌ {A = Option A} None (Some x) → ⊥
     no x e = cc
-get-cons {A = A} (y ∷ ys) x e = ap (λ z. z ∷ ys) (same y x e)
-  where
-    same : (y x : A) → Some y ≡ Some x → y ≡ x
-    same y x e = cc
+get-cons {A = A} (y ∷ ys) x e = ap (λ z. z ∷ ys) (same_Some y x e)
 
 pub get-nil : {A : Type 0} (xs : List A) → slice_get xs 0 ≡ None → xs ≡ []
 get-nil {A = A} [] e = refl

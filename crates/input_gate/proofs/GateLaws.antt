@@ -27,6 +27,7 @@ use Rattle.input_gate.specs.Making.{IsFreshLane, AreFreshLanes}
 use Rattle.turn_cell.specs.History.{entries_of}
 use Rattle.local_pool.specs.declared.entry.PoolEntry.{PoolEntry}
 use Rattle.std.proofs.lemmas.List.Sums.{sum_by-cons}
+use Rattle.std.proofs.lemmas.Option.{same_Some}
 use Rattle.input_gate.specs.Segments.{freed_by, added_by, freed_in, added_in, LoseNone}
 use Rattle.input_gate.proofs.Growing.{gives-all, all-short, spans-all}
 use Rattle.input_gate.proofs.RoundLaws.{looked_through}
@@ -65,10 +66,7 @@ came_back size (l ∷ ls) h none (suc c) exclusive = came_back size ls h.1 (λ d
 
 each_of : (size : ℕ) (ls : List Lane) → AreLanes size ls → (k : ℕ) (cell : InputCell) (pass : InputPass) → slice_get (cells_in ls) k ≡ Some cell → slice_get (passes_in ls) k ≡ Some pass → IsPassOf cell pass
 each_of size [] h k cell pass e f = cc
-each_of size (l ∷ ls) h zero cell pass e f = subst (λ c. IsPassOf c pass) (same l.cell.now cell e) (subst (λ p. IsPassOf l.cell.now p) (same l.pass pass f) h.0.pass.0)
-  where
-    same : {A : Type 0} (x y : A) → Some x ≡ Some y → x ≡ y
-    same x y e = cc
+each_of size (l ∷ ls) h zero cell pass e f = subst (λ c. IsPassOf c pass) (same_Some l.cell.now cell e) (subst (λ p. IsPassOf l.cell.now p) (same_Some l.pass pass f) h.0.pass.0)
 each_of size (l ∷ ls) h (suc k) cell pass e f = each_of size ls h.1 k cell pass e f
 
 numbers_are : (size : ℕ) (ls : List Lane) → AreLanes size ls → AllByRecursion (λ (pass : InputPass). number pass ≡ 0) (passes_in ls)

@@ -1,5 +1,6 @@
 -- What stands where in a list.
 use Rattle.std.proofs.Common.{◌≡◌, ◌⊎◌, ℕ, zero, suc, ◌+◌, ◌<◌, List, [], ◌∷◌, ◌++◌, length, Some, refl, sym, ap, ◌∙◌, subst, arith, inl, inr}
+use Rattle.std.proofs.lemmas.Option.{same_Some}
 use Rattle.std.specs.Prelude.{slice_get, slice_set}
 use mathlib.Core.Option.{some}
 use lib.ListN.{get_elem?}
@@ -47,13 +48,10 @@ module _ {A : Type 0} where
   at_place (x ∷ xs) zero h = (x, refl)
   at_place (x ∷ xs) (suc i) h = at_place xs i (omega arith)
 
-  pub some_is : (x y : A) → Some x ≡ Some y → x ≡ y
-  some_is x y e = cc
-
   -- What holds at each place still holds with one more item for which it holds.
   pub each_push : (F : ℕ → A → Type 0) (xs : List A) (x : A) → ((k : ℕ) (y : A) → slice_get xs k ≡ Some y → F k y) → F (length xs) x →
       (k : ℕ) (y : A) → slice_get (xs ++ x ∷ []) k ≡ Some y → F k y
-  each_push F [] x each last zero y at = subst (F 0) (some_is x y at) last
+  each_push F [] x each last zero y at = subst (F 0) (same_Some x y at) last
   each_push F [] x each last (suc k) y at = absurd (cc)
   each_push F (z ∷ xs) x each last zero y at = each 0 y at
   each_push F (z ∷ xs) x each last (suc k) y at =
@@ -62,7 +60,7 @@ module _ {A : Type 0} where
   -- What stands in a list of which one item was replaced.
   pub after_set : (xs : List A) (i : ℕ) (y : A) (k : ℕ) (z : A) → slice_get (slice_set xs i y) k ≡ Some z → ((k ≡ i) × (z ≡ y)) ⊎ ((k ≡ i → ⊥) × (slice_get xs k ≡ Some z))
   after_set [] i y k z at = absurd (cc)
-  after_set (x ∷ xs) zero y zero z at = inl (refl, sym (some_is y z at))
+  after_set (x ∷ xs) zero y zero z at = inl (refl, sym (same_Some y z at))
   after_set (x ∷ xs) zero y (suc k) z at = inr ((λ e. omega (arith, e)), at)
   after_set (x ∷ xs) (suc i) y zero z at = inr ((λ e. omega (arith, e)), at)
   after_set (x ∷ xs) (suc i) y (suc k) z at = elim (after_set xs i y k z at) [
@@ -74,7 +72,7 @@ module _ {A : Type 0} where
 pub pairs_push : {A B : Type 0} (F : ℕ → A → B → Type 0) (xs : List A) (ys : List B) (x : A) (y : B) → length ys ≡ length xs →
     ((k : ℕ) (a : A) (b : B) → slice_get xs k ≡ Some a → slice_get ys k ≡ Some b → F k a b) → F (length xs) x y →
     (k : ℕ) (a : A) (b : B) → slice_get (xs ++ x ∷ []) k ≡ Some a → slice_get (ys ++ y ∷ []) k ≡ Some b → F k a b
-pairs_push F [] [] x y same each last zero a b at at' = subst (λ z. F 0 z b) (some_is x a at) (subst (λ z. F 0 x z) (some_is y b at') last)
+pairs_push F [] [] x y same each last zero a b at at' = subst (λ z. F 0 z b) (same_Some x a at) (subst (λ z. F 0 x z) (same_Some y b at') last)
 pairs_push F [] [] x y same each last (suc k) a b at at' = absurd (cc)
 pairs_push F [] (q ∷ qs) x y same each last k a b at at' = absurd (omega arith)
 pairs_push F (p ∷ ps) [] x y same each last k a b at at' = absurd (omega arith)

@@ -6,7 +6,7 @@ use Rattle.std.specs.Option.{option_map_or, option_to_list}
 use Rattle.std.proofs.lemmas.Bool.{cases_lt}
 use Rattle.std.proofs.lemmas.List.{flat_map_more, take_more}
 use Rattle.std.proofs.lemmas.List.Elements.{All-append, All-cons, All-from_recursion, All-head, All-nil, All-same, recursion_from_All}
-use Rattle.std.proofs.lemmas.Option.{get_or_from_slice_get}
+use Rattle.std.proofs.lemmas.Option.{get_or_from_slice_get, same_Some}
 use Rattle.flow_defs.specs.Items.{Items}
 use Rattle.flow_defs.specs.declared.image.Snapshot.{Snapshot}
 use Rattle.flow_defs.specs.declared.job.Job.{Job}
@@ -26,7 +26,7 @@ use Rattle.job_ends.specs.Ended.{TaskPlace, AreReceived, AreSettled, ChannelsSta
 use Rattle.job_ends.specs.Leaving.{HasSnapshots, RowWithoutSnapshots, TookSnapshots, acknowledged_by, acknowledged_in}
 use Rattle.job_ends.proofs.Leavings.{sum_same}
 use Rattle.job_ends.proofs.Loops.{place_low}
-use Rattle.job_ends.proofs.Rows.{UpTo, place_is, some_is, stands, stands_at, up_to_all}
+use Rattle.job_ends.proofs.Rows.{UpTo, place_is, stands, stands_at, up_to_all}
 
 -- ---- lists end to end
 
@@ -52,7 +52,7 @@ module _ {A : Type 0} (P : A → Type 0) where
 
   pub all_apart : {X : Type 0} (f : X → List A) (xs : List X) (k : ℕ) (x : X) → All P (flat_map f xs) → slice_get xs k ≡ Some x → All P (f x)
   all_apart f [] k x all at = absurd (cc)
-  all_apart f (y ∷ xs) zero x all at = subst (λ z. All P (f z)) (some_is y x at) (all_left (f y) (flat_map f xs) all)
+  all_apart f (y ∷ xs) zero x all at = subst (λ z. All P (f z)) (same_Some y x at) (all_left (f y) (flat_map f xs) all)
   all_apart f (y ∷ xs) (suc k) x all at = all_apart f xs k x (all_right (f y) (flat_map f xs) all) at
 
 -- What comes of one more.
@@ -168,7 +168,7 @@ module _ {S : Type 0} where
         let w = up_to_all RowWithoutSnapshots n old new up all s st.row after.0 st.has_row after.1 in
         let place = stands after.0.items i (let low = place_low st.row.items i st.place st.has_place in let many = w.many in omega (arith, low, many)) in
         let without = w.each i st.place place.0 st.has_place place.1 in
-        let same : without.left ≡ left = some_is without.left left (sym without.was ∙ st.is_left) in
+        let same : without.left ≡ left = same_Some without.left left (sym without.was ∙ st.is_left) in
         ap (λ (p : TaskPlace S). left_in p) (place_is new s i after.0 place.0 after.1 place.1) ∙ without.now ∙ ap (λ (l : TaskLeft S). Some (record l { snapshots = None })) same
 
     pub are_settled : AreSettled old new

@@ -1,5 +1,6 @@
 -- All workers of a job have ended, and its edges are settled one after another.
 use Rattle.std.proofs.Common.{◌≡◌, ◌≢◌, Bool, ℕ, zero, suc, ◌+◌, ◌<◌, ◌≤◌, inl, inr, Option, Some, List, [], length, sym, ap, subst, ◌∙◌, arith}
+use Rattle.std.proofs.lemmas.Option.{same_Some}
 use Rattle.std.specs.Prelude.{slice_get, IfSome}
 use Rattle.std.specs.Option.{option_map_or}
 use Rattle.flow_defs.specs.Items.{Items}
@@ -21,7 +22,7 @@ use Rattle.job_ends.specs.declared.left.EdgeLeft.{EdgeLeft}
 use Rattle.job_ends.specs.Ended.{TaskPlace, LoopPlace, left_at, own_at, gate_at, AreEnded, AreLoopsEnded, AreSettled, LinksTell, SnapshotsStay, faults_in}
 use Rattle.job_ends.specs.Leaving.{HasArrived, HasEdge, LoopEnds, RowsGoOn, places_of}
 use Rattle.job_ends.proofs.Loops.{place_low}
-use Rattle.job_ends.proofs.Rows.{some_is, stands, rows_again, rows_fewer}
+use Rattle.job_ends.proofs.Rows.{stands, rows_again, rows_fewer}
 
 -- ---- counts of faults
 
@@ -45,10 +46,10 @@ met_starts sent finished got over all front met is came =
 -- A fault of a loop is one of its wire.
 pub wire_fault : {O I : Type 0} (of_out : O → ℕ) (of_in : I → ℕ) (ends : LoopEnds O I) (i : ℕ) (place : LoopPlace O I) → slice_get (places_of ends) i ≡ Some place → 0 < faults_in of_out of_in place →
     0 < of_out ends.send.half + of_in ends.items.half + of_out ends.announce.half + of_in ends.control.half
-wire_fault {O} {I} of_out of_in ends zero place at fault = let f : 0 < of_out ends.send.half = subst (λ (p : LoopPlace O I). 0 < faults_in of_out of_in p) (sym (some_is _ place at)) fault in omega (arith, f)
-wire_fault {O} {I} of_out of_in ends (suc zero) place at fault = let f : 0 < of_in ends.control.half = subst (λ (p : LoopPlace O I). 0 < faults_in of_out of_in p) (sym (some_is _ place at)) fault in omega (arith, f)
-wire_fault {O} {I} of_out of_in ends (suc (suc zero)) place at fault = let f : 0 < of_in ends.items.half = subst (λ (p : LoopPlace O I). 0 < faults_in of_out of_in p) (sym (some_is _ place at)) fault in omega (arith, f)
-wire_fault {O} {I} of_out of_in ends (suc (suc (suc zero))) place at fault = let f : 0 < of_out ends.announce.half = subst (λ (p : LoopPlace O I). 0 < faults_in of_out of_in p) (sym (some_is _ place at)) fault in omega (arith, f)
+wire_fault {O} {I} of_out of_in ends zero place at fault = let f : 0 < of_out ends.send.half = subst (λ (p : LoopPlace O I). 0 < faults_in of_out of_in p) (sym (same_Some _ place at)) fault in omega (arith, f)
+wire_fault {O} {I} of_out of_in ends (suc zero) place at fault = let f : 0 < of_in ends.control.half = subst (λ (p : LoopPlace O I). 0 < faults_in of_out of_in p) (sym (same_Some _ place at)) fault in omega (arith, f)
+wire_fault {O} {I} of_out of_in ends (suc (suc zero)) place at fault = let f : 0 < of_in ends.items.half = subst (λ (p : LoopPlace O I). 0 < faults_in of_out of_in p) (sym (same_Some _ place at)) fault in omega (arith, f)
+wire_fault {O} {I} of_out of_in ends (suc (suc (suc zero))) place at fault = let f : 0 < of_out ends.announce.half = subst (λ (p : LoopPlace O I). 0 < faults_in of_out of_in p) (sym (same_Some _ place at)) fault in omega (arith, f)
 wire_fault of_out of_in ends (suc (suc (suc (suc i)))) place at fault = absurd (cc)
 
 module _ {O I : Type 0} {belong : O → I → Type 0} {sent : O → Option (List ℕ)} {got : I → Option (List ℕ)} {job : Job} {e : ℕ} {edge : Edge} {row : List (LoopPlace O I)}

@@ -4,6 +4,7 @@ use Rattle.std.specs.Prelude.{slice_get}
 use Rattle.std.specs.Option.{option_map_or}
 use Rattle.std.proofs.Math.Nat.{mul-le-mul}
 use Rattle.std.proofs.lemmas.List.FromFn.{length-map-range_with_len}
+use Rattle.std.proofs.lemmas.Option.{same_Some}
 use Rattle.turn_cell.specs.declared.pass.Pass.{Pass}
 use Rattle.flow_defs.specs.Items.{Items}
 use Rattle.flow_defs.specs.declared.job.Job.{Job}
@@ -28,7 +29,7 @@ use Rattle.job_ends.specs.Ended.{TaskPlace, left_in, place_at, own_at, gate_at}
 use Rattle.job_ends.specs.Leaving.{HasArrived, HasEdge, HasPartition, HasGate, SentAt, TookAt, TookPartition, TookGate, sent_in, taken_in}
 use Rattle.job_ends.proofs.Histories.{starts_again}
 use Rattle.job_ends.proofs.Loops.{place_low}
-use Rattle.job_ends.proofs.Rows.{some_is, stands, place_is}
+use Rattle.job_ends.proofs.Rows.{stands, place_is}
 
 -- ---- channels that were settled after others
 
@@ -49,13 +50,13 @@ settled_back stands first stride own before now go settled c low = let s = settl
 module _ {S : Type 0} where
   pub partition_is : (before after : TaskPlace S) (passes : PartitionPasses) (has : HasPartition before) → TookPartition before after passes → has.passes ≡ passes
   partition_is before after passes has took =
-      let same : has.left ≡ took.without.left = some_is has.left took.without.left (sym has.is_left ∙ took.without.was) in
-      some_is has.passes passes (sym has.are_there ∙ ap (λ (l : TaskLeft S). l.partition) same ∙ took.had)
+      let same : has.left ≡ took.without.left = same_Some has.left took.without.left (sym has.is_left ∙ took.without.was) in
+      same_Some has.passes passes (sym has.are_there ∙ ap (λ (l : TaskLeft S). l.partition) same ∙ took.had)
 
   pub gate_is : (before after : TaskPlace S) (passes : GatePasses) (has : HasGate before) → TookGate before after passes → has.passes ≡ passes
   gate_is before after passes has took =
-      let same : has.left ≡ took.without.left = some_is has.left took.without.left (sym has.is_left ∙ took.without.was) in
-      some_is has.passes passes (sym has.are_there ∙ ap (λ (l : TaskLeft S). l.gate) same ∙ took.had)
+      let same : has.left ≡ took.without.left = same_Some has.left took.without.left (sym has.is_left ∙ took.without.was) in
+      same_Some has.passes passes (sym has.are_there ∙ ap (λ (l : TaskLeft S). l.gate) same ∙ took.had)
 
   pub sent_is : (before after : TaskPlace S) (passes : PartitionPasses) → TookPartition before after passes → sent_in before ≡ passes.subpartitions.items
   sent_is before after passes took =

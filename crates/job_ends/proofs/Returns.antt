@@ -2,6 +2,7 @@
 use Rattle.std.proofs.Common.{◌≡◌, ℕ, zero, suc, ◌+◌, ◌<◌, Bool, inl, inr, Option, Some, None, List, [], ◌∷◌, ◌++◌, length, refl, sym, ap, subst, ◌∙◌, arith, append_assoc, append-nil, length-append}
 use Rattle.std.specs.Prelude.{slice_get, IfSome}
 use Rattle.std.proofs.lemmas.Bool.{cases_lt}
+use Rattle.std.proofs.lemmas.Option.{same_Some}
 use Rattle.flow_defs.specs.Items.{Items}
 use Rattle.flow_defs.specs.declared.job.Job.{Job}
 use Rattle.outside.specs.declared.wires.Wire.{Wire}
@@ -13,7 +14,6 @@ use Rattle.job_ends.specs.declared.left.EdgeLeft.{EdgeLeft}
 use Rattle.job_ends.specs.Ended.{LoopPlace, AreLoopsEnded}
 use Rattle.job_ends.specs.Leaving.{LoopEnds, places_of}
 use Rattle.job_ends.specs.Returning.{ReadSame, GaveBack, CameBack, RowCameBack, RowsCameBack}
-use Rattle.job_ends.proofs.Rows.{some_is}
 
 -- ---- lists that grow
 
@@ -40,17 +40,17 @@ module _ {O I : Type 0} (got : I → Option (List ℕ)) (ended : I → Option Bo
 
   module _ (ends : LoopEnds O I) (back : Wire O I) (data_same : ReadSame got ended ends.items.half back.data_in) (control_same : ReadSame got ended ends.control.half back.control_in) where
     items_came : (i : ℕ) (end : LoopEnd I) → slice_get (places_of ends) i ≡ Some (Ended (ReadItems end)) → ReadSame got ended end.half back.data_in
-    items_came zero end at = let is = some_is _ _ at in absurd (cc)
-    items_came (suc zero) end at = let is = some_is _ _ at in absurd (cc)
-    items_came (suc (suc zero)) end at = let is = some_is _ _ at in read_same got ended ends.items.half end.half back.data_in (cc) data_same
-    items_came (suc (suc (suc zero))) end at = let is = some_is _ _ at in absurd (cc)
+    items_came zero end at = let is = same_Some _ _ at in absurd (cc)
+    items_came (suc zero) end at = let is = same_Some _ _ at in absurd (cc)
+    items_came (suc (suc zero)) end at = let is = same_Some _ _ at in read_same got ended ends.items.half end.half back.data_in (cc) data_same
+    items_came (suc (suc (suc zero))) end at = let is = same_Some _ _ at in absurd (cc)
     items_came (suc (suc (suc (suc i)))) end at = absurd (cc)
 
     control_came : (i : ℕ) (end : LoopEnd I) → slice_get (places_of ends) i ≡ Some (Ended (ReadControl end)) → ReadSame got ended end.half back.control_in
-    control_came zero end at = let is = some_is _ _ at in absurd (cc)
-    control_came (suc zero) end at = let is = some_is _ _ at in read_same got ended ends.control.half end.half back.control_in (cc) control_same
-    control_came (suc (suc zero)) end at = let is = some_is _ _ at in absurd (cc)
-    control_came (suc (suc (suc zero))) end at = let is = some_is _ _ at in absurd (cc)
+    control_came zero end at = let is = same_Some _ _ at in absurd (cc)
+    control_came (suc zero) end at = let is = same_Some _ _ at in read_same got ended ends.control.half end.half back.control_in (cc) control_same
+    control_came (suc (suc zero)) end at = let is = same_Some _ _ at in absurd (cc)
+    control_came (suc (suc (suc zero))) end at = let is = same_Some _ _ at in absurd (cc)
     control_came (suc (suc (suc (suc i)))) end at = absurd (cc)
 
   pub row_came_back : {belong : O → I → Type 0} {sent : O → Option (List ℕ)} {job : Job} {e : ℕ} {edge : Edge} {row : List (LoopPlace O I)}
@@ -99,7 +99,7 @@ module _ {O I : Type 0} (got : I → Option (List ℕ)) (ended : I → Option Bo
           | inl below ↦ let it = before.3 e other below there in (it.0, get_front gave (back ∷ []) e it.0 it.1, it.2)
           | inr above ↦
               let e_is : many ≡ e = omega (arith, low, above) in
-              let same : row ≡ other = some_is row other (sym at ∙ ap (λ (k : ℕ). slice_get loops k) e_is ∙ there) in (
+              let same : row ≡ other = same_Some row other (sym at ∙ ap (λ (k : ℕ). slice_get loops k) e_is ∙ there) in (
                 back,
                 subst (λ (k : ℕ). slice_get (gave ++ back ∷ []) k ≡ Some back) (count ∙ e_is) (get_last gave back),
                 subst (λ (r : Items (LoopPlace O I)). CameBack got ended r.items back) same one.2,

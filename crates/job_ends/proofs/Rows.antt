@@ -5,6 +5,7 @@ use Rattle.std.specs.List.{refill}
 use Rattle.std.specs.Option.{option_map_or}
 use Rattle.std.proofs.lemmas.Bool.{cases_lt}
 use Rattle.std.proofs.lemmas.List.{length-set}
+use Rattle.std.proofs.lemmas.Option.{same_Some}
 use Rattle.flow_defs.specs.Items.{Items}
 use Rattle.conn_parts.proofs.Lists.{get_is, get_set, get_set_else, refilled_set, set_cases}
 use Rattle.job_workers.specs.declared.place.Place.TheVariants.{Vacant}
@@ -16,11 +17,8 @@ use Rattle.job_ends.proofs.Loops.{place_low}
 
 -- ---- lists by place
 
-pub some_is : {X : Type 0} (x y : X) → Some x ≡ Some y → x ≡ y
-some_is x y e = cc
-
 pub one_there : {X : Type 0} (xs : List X) (k : ℕ) (x y : X) → slice_get xs k ≡ Some x → slice_get xs k ≡ Some y → x ≡ y
-one_there xs k x y a b = some_is x y (sym a ∙ b)
+one_there xs k x y a b = same_Some x y (sym a ∙ b)
 
 pub stands : {X : Type 0} (xs : List X) (k : ℕ) → k < length xs → (x : X) × (slice_get xs k ≡ Some x)
 stands [] k low = absurd (omega arith)
@@ -44,8 +42,8 @@ up_to_more {A} R n old new x y up at changes = record {
     | inl below ↦ up.done i p q below a (sym (get_set_else new n i y (λ e. omega (arith, e, below))) ∙ b)
     | inr above ↦
         let same : i ≡ n = omega (arith, low, above) in
-        let was : x ≡ p = some_is x p (sym at ∙ up.rest n (omega arith) ∙ ap (slice_get old) (sym same) ∙ a) in
-        let is : y ≡ q = some_is y q (sym (get_set new n y (place_low new n x at)) ∙ ap (slice_get (set new n y)) (sym same) ∙ b) in
+        let was : x ≡ p = same_Some x p (sym at ∙ up.rest n (omega arith) ∙ ap (slice_get old) (sym same) ∙ a) in
+        let is : y ≡ q = same_Some y q (sym (get_set new n y (place_low new n x at)) ∙ ap (slice_get (set new n y)) (sym same) ∙ b) in
         subst (λ (v : A). R p v) is (subst (λ (v : A). R v y) was changes)
   ];
   rest = λ i low. get_set_else new n i y (λ e. omega (arith, e, low)) ∙ up.rest i (omega (arith, low));
@@ -187,7 +185,7 @@ module _ {S : Type 0} where
   without_partition : (P G : Type 0) (old new : TaskPlace S) (left : TaskLeft S) → (P → ⊥) → WithoutPartition old new → left_in old ≡ Some left →
       (now : TaskLeft S) × (left_in new ≡ Some now) × LeftGoesOn P G left now
   without_partition P G old new left not w is =
-      let same : w.left ≡ left = some_is w.left left (sym w.was ∙ is) in (
+      let same : w.left ≡ left = same_Some w.left left (sym w.was ∙ is) in (
         record w.left { partition = None },
         w.now,
         record {
@@ -201,7 +199,7 @@ module _ {S : Type 0} where
   without_gate : (P G : Type 0) (old new : TaskPlace S) (left : TaskLeft S) → (G → ⊥) → WithoutGate old new → left_in old ≡ Some left →
       (now : TaskLeft S) × (left_in new ≡ Some now) × LeftGoesOn P G left now
   without_gate P G old new left not w is =
-      let same : w.left ≡ left = some_is w.left left (sym w.was ∙ is) in (
+      let same : w.left ≡ left = same_Some w.left left (sym w.was ∙ is) in (
         record w.left { gate = None },
         w.now,
         record {

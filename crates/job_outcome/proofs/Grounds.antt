@@ -3,6 +3,7 @@ use Rattle.std.proofs.Common.{◌≡◌, ◌≢◌, ℕ, zero, suc, ◌<◌, ◌
 use Rattle.std.specs.Prelude.{IfSome}
 use Rattle.std.specs.List.{AllByRecursion}
 use Rattle.std.proofs.lemmas.Bool.{cases_lt}
+use Rattle.std.proofs.lemmas.Option.{same_Some}
 use Rattle.turn_cell.specs.Passes.{seen}
 use Rattle.flow_defs.specs.Items.{Items}
 use Rattle.flow_defs.specs.declared.cause.Cause.{Cause}
@@ -39,7 +40,7 @@ use Rattle.job_chain.specs.Runs.{StartIsStill}
 use Rattle.job_outcome.specs.Theorems.{HaveRun, Run, start_of, IsNewWire, AreInputsLeft, AreLeftIn, AreSettledWith, HasGrounds, HasLargeImage, InputsComeBack, CausesHaveGrounds}
 use Rattle.job_outcome.specs.Words.{WorldWords}
 use Rattle.job_outcome.proofs.Chaining.{account_of, same_end, too_large}
-use Rattle.job_outcome.proofs.Places.{same_some, some_same, at_place, place_low, all_at, each_at}
+use Rattle.job_outcome.proofs.Places.{same_some, at_place, place_low, all_at, each_at}
 use Rattle.job_outcome.proofs.OverCredits.{is_over_by_one}
 use Rattle.job_outcome.proofs.PeerGrounds.{all_came, control_begins, has_ended, items_begin}
 use Rattle.job_outcome.proofs.Running.{EndAt, is_left, row_many, BySource, source_at, stage_at, aggregate_at, LoopsEnd, loops_at}
@@ -69,7 +70,7 @@ module _ {S O I L N : Type 0} {words : WorldWords S O I L N} {run : Run S O I} (
       let same_row : end.row ≡ stands.row = same_some (slice_get rows s) end.row stands.row end.row_is stands.row_is in
       let here : slice_get stands.row.items i ≡ Some (Ended end.left) = subst (λ (r : Items (TaskPlace S)). slice_get r.items i ≡ Some (Ended end.left)) same_row end.left_is in
       let same : Ended end.left ≡ place = same_some (slice_get stands.row.items i) (Ended end.left) place here stands.place_is in
-      some_same end.left.cause cause (ap (λ (p : TaskPlace S). cause_of_task p) same ∙ is)
+      same_Some end.left.cause cause (ap (λ (p : TaskPlace S). cause_of_task p) same ∙ is)
 
   low_at : (s i : ℕ) (place : TaskPlace S) → StandsAt rows s i place → i < tasks job s
   low_at s i place stands =
@@ -246,13 +247,13 @@ module _ {S O I L N : Type 0} {words : WorldWords S O I L N} {run : Run S O I} (
       of_place : (place : LoopPlace O I) → slice_get row.items i ≡ Some place → (cause : Cause) → cause_of_loop place ≡ Some cause → Ground cause
       of_place place at =
           let send : Grounded (Ended (did.SentItems l.ends.send)) = λ here cause is.
-          let same = some_same l.ends.send.cause cause is in of_send here cause same (subst IsSendItemsCause same l.ends.by_send.account.cause_is) in
+          let same = same_Some l.ends.send.cause cause is in of_send here cause same (subst IsSendItemsCause same l.ends.by_send.account.cause_is) in
           let control : Grounded (Ended (did.ReadControl l.ends.control)) = λ here cause is.
-          of_control here cause (subst ControlCause (some_same l.ends.control.cause cause is) l.ends.by_control.account.cause_is) in
+          of_control here cause (subst ControlCause (same_Some l.ends.control.cause cause is) l.ends.by_control.account.cause_is) in
           let items : Grounded (Ended (did.ReadItems l.ends.items)) = λ here cause is.
-          of_items here cause (subst ItemsCause (some_same l.ends.items.cause cause is) l.ends.by_items.account.cause_is) in
+          of_items here cause (subst ItemsCause (same_Some l.ends.items.cause cause is) l.ends.by_items.account.cause_is) in
           let announce : Grounded (Ended (did.SentControl l.ends.announce)) = λ here cause is.
-          let same = some_same l.ends.announce.cause cause is in of_announce here cause same (subst IsAnnounceCause same l.ends.by_announce.account.cause_is) in
+          let same = same_Some l.ends.announce.cause cause is in of_announce here cause same (subst IsAnnounceCause same l.ends.by_announce.account.cause_is) in
           let all = subst (λ (xs : List (LoopPlace O I)). AllByRecursion Grounded xs) (sym l.ends.row_is) (send, (control, (items, (announce, tt)))) in
           each_at Grounded row.items i place all at at
 
@@ -291,7 +292,7 @@ module _ {S O I L N : Type 0} {words : WorldWords S O I L N} {run : Run S O I} (
 
       by_collector : (cause : Cause) → cause_of_collector collected ≡ Some cause → Ground cause
       by_collector cause is =
-          let same : ran.end.cause ≡ cause = some_same ran.end.cause cause (ap (λ (place : Place CollectTask CollectEnd). cause_of_collector place) (sym ran.end_is) ∙ is) in
+          let same : ran.end.cause ≡ cause = same_Some ran.end.cause cause (ap (λ (place : Place CollectTask CollectEnd). cause_of_collector place) (sym ran.end_is) ∙ is) in
           of_collector cause (subst CollectCause same (account_of ran ran.end ran.end_is).cause_is)
 
       by_any : (cause : Cause) → HasEnded rows loops collected cause → Ground cause

@@ -1,5 +1,6 @@
 -- Places of lists, and what a worker leaves in its own.
 use Rattle.std.proofs.Common.{◌≡◌, ℕ, zero, suc, ◌<◌, List, [], ◌∷◌, length, Option, Some, slice_get, refl, ap, subst, ◌∙◌, arith}
+use Rattle.std.proofs.lemmas.Option.{same_Some}
 use Rattle.std.specs.Prelude.{map, All}
 use Rattle.std.specs.List.{AllByRecursion}
 use Rattle.turn_cell.specs.declared.pass.Pass.{Pass}
@@ -11,9 +12,6 @@ use Rattle.job_workers.specs.Places.{Leaves, RowLeaves}
 
 pub same_some : {A : Type 0} (m : Option A) (x y : A) → m ≡ Some x → m ≡ Some y → x ≡ y
 same_some m x y e f = cc
-
-pub some_same : {A : Type 0} (x y : A) → Some x ≡ Some y → x ≡ y
-some_same x y e = cc
 
 pub placed : {A : Type 0} (m : Option A) (x y : A) → m ≡ Some x → x ≡ y → m ≡ Some y
 placed m x y e f = cc

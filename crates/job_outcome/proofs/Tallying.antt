@@ -3,6 +3,7 @@ use Rattle.std.proofs.Common.{◌≡◌, ℕ, ◌<◌, ◌≤◌, Bool, true, Li
 use Rattle.std.specs.Prelude.{IsSome, IsSomeAnd, drop}
 use Rattle.std.specs.List.{AllByRecursion, last_or}
 use Rattle.std.proofs.lemmas.List.{append-nil}
+use Rattle.std.proofs.lemmas.Option.{same_Some}
 use Rattle.flow_defs.specs.Lines.{lines}
 use Rattle.flow_defs.specs.Records.{IsShort}
 use Rattle.flow_defs.specs.Tables.{join}
@@ -27,7 +28,6 @@ use Rattle.job_chain.proofs.Tasks.{from_first}
 use Rattle.snapshot_channel.specs.Snapshots.{has_ended}
 use Rattle.job_outcome.specs.Theorems.{HaveRun, Run, start_of, AreSettledWith, DoneWorkersTally, DoneCollectorHasLast}
 use Rattle.job_outcome.specs.Words.{WorldWords}
-use Rattle.job_outcome.proofs.Places.{some_same}
 use Rattle.job_outcome.proofs.Running.{source_at}
 use Rattle.job_outcome.proofs.Jobs.{source_did}
 use Rattle.job_outcome.proofs.Chaining.{account_of, interval_of, job_ran}
@@ -42,7 +42,7 @@ none_long (l ∷ ls) short (inr later) = none_long ls short.1 later
 
 -- The last one of some images, whatever is before the first.
 last_from : (base image : Image) (images : List Image) → last_or (Some base) images ≡ Some image → last_of base images ≡ image
-last_from base image [] is = some_same base image is
+last_from base image [] is = same_Some base image is
 last_from base image (x ∷ images) is = last_from x image images is
 
 last_is : (base image : Image) (images : List Image) → last_or None images ≡ Some image → last_of base images ≡ image
@@ -66,7 +66,7 @@ module _ {S O I L N : Type 0} {words : WorldWords S O I L N} {run : Run S O I} (
       let did = source_did ran bytes told a low in
       let account = did.0.account in
       let stands : StandsAt rows 0 a (Ended s.end.left) = record { row = s.end.row; row_is = s.end.row_is; place_is = s.end.left_is } in
-      let is_done = did.1 ∙ some_same s.end.left.cause Done (done.by_tasks 0 a (Ended s.end.left) stands) in
+      let is_done = did.1 ∙ same_Some s.end.left.cause Done (done.by_tasks 0 a (Ended s.end.left) stands) in
       let base = starts job in
       let first = from_first job (start_of snapshots) base.0 a base.1 (ran.begins base.0 base.1) low in
       let ended = (account.done is_done).0 in
@@ -83,7 +83,7 @@ module _ {S O I L N : Type 0} {words : WorldWords S O I L N} {run : Run S O I} (
   -- The worker that collects is done where all are.
   collector_done : (end : CollectEnd) → collected ≡ Ended end → AllDone rows loops collected → end.cause ≡ Done
   collector_done end is done =
-      some_same end.cause Done (ap (λ (place : Place CollectTask CollectEnd). cause_of_collector place) (sym is) ∙ done.by_collector)
+      same_Some end.cause Done (ap (λ (place : Place CollectTask CollectEnd). cause_of_collector place) (sym is) ∙ done.by_collector)
 
   module _ (end : CollectEnd) (is : collected ≡ Ended end) (is_done : end.cause ≡ Done) where
     pub has_last : IsSome end.last

@@ -3,6 +3,7 @@ use Rattle.std.proofs.Common.{◌≡◌, ℕ, ◌<◌, Bool, true, false, cond, 
 use Rattle.std.specs.Prelude.{codes, bytes_eq, decimal, unwrap_or}
 use Rattle.std.specs.Option.{option_map_or}
 use Rattle.std.proofs.lemmas.Bool.{and_from, not_from_true, cond-false, lt-leb, lt-ltb, eq-eqb, and_left, and_right, cases_Bool}
+use Rattle.std.proofs.lemmas.Option.{same_Some}
 use Rattle.flow_defs.specs.declared.job.TheConstants.{SOURCES_MAX, STAGES_MAX, TASKS_MAX}
 use Rattle.flow_defs.specs.declared.job.StageKind.{StageKind}
 use Rattle.flow_defs.specs.declared.job.AggKind.{AggKind}
@@ -12,7 +13,7 @@ use Rattle.stage_fns.specs.Functions.{Functions, has_stage, has_agg, HasStage, H
 use Rattle.job_text.specs.JobText.{kind_word, agg_word, line_of}
 use Rattle.job_text.specs.JobFaults.{Place, is_token, number_of, stage_kind_of, exchange_of, agg_of, tasks_of, source_fault, stage_fault, aggregate_fault}
 use Rattle.job_text.specs.Reading.{IsSource, IsStage, IsAggregate}
-use Rattle.job_text.proofs.SpellingLemmas.{same_bytes, same_some, token_known, number_decimal, agg_known, exchange_known, kind_known}
+use Rattle.job_text.proofs.SpellingLemmas.{same_bytes, token_known, number_decimal, agg_known, exchange_known, kind_known}
 
 -- a test that does not hold
 pass : {X : Type 0} (b : Bool) (x y z : X) → b ≡ false → y ≡ z → cond b x y ≡ z
@@ -56,7 +57,7 @@ module _ (functions : Functions) (place : Place) (first kind tasks exchange : Li
     (exchange_is : exchange_of exchange ≡ Some e) (width : e ≡ Forward → place.tasks ≡ n) where
   no_width : bytes_eq exchange (codes "forward") ≡ true → not (eqb (tasks_of tasks) place.tasks) ≡ false
   no_width forward =
-      let is : e ≡ Forward = same_some e Forward (sym exchange_is ∙ ap exchange_of (same_bytes exchange (codes "forward") forward)) in
+      let is : e ≡ Forward = same_Some e Forward (sym exchange_is ∙ ap exchange_of (same_bytes exchange (codes "forward") forward)) in
       not_from_true _ (eq-eqb _ _ (ap (λ (o : Option ℕ). unwrap_or o 0) tasks_are ∙ sym (width is)))
 
   wide : (bytes_eq exchange (codes "forward") && not (eqb (tasks_of tasks) place.tasks)) ≡ false

@@ -1,11 +1,11 @@
 -- What words spell, and what is spelled.
 use Rattle.std.proofs.Common.{◌≡◌, ℕ, ◌<◌, ◌≤◌, ◌^◌, Bool, true, false, cond, ◌&&◌, leb, List, [], ◌∷◌, ◌++◌, take, drop, refl, sym, ap, ◌∙◌, ◌⊎◌, inl, inr, subst, Option, Some, None, is_none, lit<}
-use Rattle.std.specs.Prelude.{codes, bytes_eq, decimal, All, unwrap_or}
+use Rattle.std.specs.Prelude.{codes, bytes_eq, decimal, All}
 use Rattle.std.specs.List.{list_all}
 use Rattle.std.proofs.lemmas.List.{take-append-drop}
 use Rattle.std.proofs.lemmas.List.Elements.{All-nil, All-cons, All-head, All-tail}
 use Rattle.std.proofs.lemmas.Slice.Eq.{bytes_eq-Decides}
-use Rattle.std.proofs.lemmas.Option.{none-some}
+use Rattle.std.proofs.lemmas.Option.{none-some, same_Some}
 use Rattle.std.proofs.lemmas.Bool.{and_parts, and_from, leb-true, le-leb, both_ways, cond-true, cond-false}
 use Rattle.flow_defs.specs.Stages.{IsToken, IsNumber, IsArgument}
 use Rattle.flow_defs.specs.declared.job.StageKind.{StageKind}
@@ -62,12 +62,9 @@ cond_cases : {A : Type 0} (b : Bool) (x y z : A) → cond b x y ≡ z → ((b �
 cond_cases true x y z is = inl (refl, is)
 cond_cases false x y z is = inr (refl, is)
 
-pub same_some : {A : Type 0} (a b : A) → Some a ≡ Some b → a ≡ b
-same_some a b same = ap (λ o. unwrap_or o a) same
-
 -- the first of three that the word is
 agg_at : (word : List ℕ) (kind other : AggKind) → bytes_eq word (agg_word other) ≡ true → Some other ≡ Some kind → word ≡ agg_word kind
-agg_at word kind other is same = same_bytes word (agg_word other) is ∙ ap agg_word (same_some other kind same)
+agg_at word kind other is same = same_bytes word (agg_word other) is ∙ ap agg_word (same_Some other kind same)
 
 max_known : (word : List ℕ) (kind : AggKind) → cond (bytes_eq word (codes "max")) (Some Max) None ≡ Some kind → word ≡ agg_word kind
 max_known word kind is = elim (cond_cases (bytes_eq word (codes "max")) (Some Max) None (Some kind) is) [ inl hit ↦ agg_at word kind Max hit.0 hit.1 | inr miss ↦ absurd (none-some kind miss.1) ]
@@ -85,7 +82,7 @@ agg_spelled Max = refl
 
 -- the first of three that the word is
 exchange_at : (word : List ℕ) (exchange other : Exchange) → bytes_eq word (exchange_word other) ≡ true → Some other ≡ Some exchange → word ≡ exchange_word exchange
-exchange_at word exchange other is same = same_bytes word (exchange_word other) is ∙ ap exchange_word (same_some other exchange same)
+exchange_at word exchange other is same = same_bytes word (exchange_word other) is ∙ ap exchange_word (same_Some other exchange same)
 
 forward_known : (word : List ℕ) (exchange : Exchange) → cond (bytes_eq word (codes "forward")) (Some Forward) None ≡ Some exchange → word ≡ exchange_word exchange
 forward_known word exchange is = elim (cond_cases (bytes_eq word (codes "forward")) (Some Forward) None (Some exchange) is) [ inl hit ↦ exchange_at word exchange Forward hit.0 hit.1 | inr miss ↦ absurd (none-some exchange miss.1) ]
@@ -109,7 +106,7 @@ some_kind kind arg = let k : Kind = (kind, arg) in Some k
 
 behind_known : (kind other : StageKind) (word arg rest : List ℕ) → word ≡ kind_word other rest → IsArgument other rest → some_kind other rest ≡ some_kind kind arg → (word ≡ kind_word kind arg) × IsArgument kind arg
 behind_known kind other word arg rest is fits same =
-    let parts = same_some {A = Kind} (other, rest) (kind, arg) same in
+    let parts = same_Some {A = Kind} (other, rest) (kind, arg) same in
     subst (λ (k : Kind). (word ≡ kind_word k.0 k.1) × IsArgument k.0 k.1) parts (is, fits)
 
 number_cases : (o : Option ℕ) → (o ≡ None) ⊎ ((n : ℕ) × (o ≡ Some n))

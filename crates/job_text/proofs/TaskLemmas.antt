@@ -1,5 +1,5 @@
 -- The tasks and edges that a text says are those of its lines.
-use Rattle.std.proofs.Common.{◌≡◌, ℕ, zero, suc, ◌<◌, ◌≤◌, List, [], ◌∷◌, ◌++◌, length, map, get_or, refl, sym, ap, ◌∙◌, subst, Option, Some, arith, append_assoc, lit<}
+use Rattle.std.proofs.Common.{◌≡◌, ℕ, zero, suc, ◌<◌, ◌≤◌, List, [], ◌∷◌, ◌++◌, length, map, get_or, refl, sym, ap, ◌∙◌, subst, Option, arith, append_assoc, lit<}
 use Rattle.std.specs.Prelude.{codes, decimal}
 use Rattle.std.specs.Option.{option_map_or}
 use Rattle.std.specs.List.{AllByRecursion}
@@ -20,18 +20,15 @@ use Rattle.job_text.proofs.SpellingLemmas.{decimal_number, exchange_spelled}
 use Rattle.job_text.proofs.AcceptLemmas.{words_of_line, kind_no_space, decimal_no_space, exchange_no_space, agg_no_space}
 use Rattle.job_text.proofs.FileLemmas.{file_of, line_for, head_is, tail_is, rest_begins, same_files}
 use Rattle.std.proofs.lemmas.List.{append_cancel_left}
-use Rattle.std.proofs.lemmas.Option.{slice_get_past}
-
-some_is : {A : Type 0} (a b : A) → Some a ≡ Some b → a ≡ b
-some_is a b same = cc
+use Rattle.std.proofs.lemmas.Option.{slice_get_past, same_Some}
 
 -- numbers of tasks that are spelled alike are one
 same_number : (m n : ℕ) → (1 ≤ m) × (m ≤ TASKS_MAX) → (1 ≤ n) × (n ≤ TASKS_MAX) → decimal m ≡ decimal n → m ≡ n
 same_number m n first second same =
-    some_is m n (sym (decimal_number TASKS_MAX m (lit< tt) first.0 first.1) ∙ ap (number_of TASKS_MAX) same ∙ decimal_number TASKS_MAX n (lit< tt) second.0 second.1)
+    same_Some m n (sym (decimal_number TASKS_MAX m (lit< tt) first.0 first.1) ∙ ap (number_of TASKS_MAX) same ∙ decimal_number TASKS_MAX n (lit< tt) second.0 second.1)
 
 same_exchange : (x y : Exchange) → exchange_word x ≡ exchange_word y → x ≡ y
-same_exchange x y same = some_is x y (sym (exchange_spelled x) ∙ ap exchange_of same ∙ exchange_spelled y)
+same_exchange x y same = same_Some x y (sym (exchange_spelled x) ∙ ap exchange_of same ∙ exchange_spelled y)
 
 -- what is known of a stage of a job
 pub record IsGood (s : Stage) : Type 0 where

@@ -2,6 +2,7 @@
 use Rattle.std.proofs.Common.{◌≡◌, ℕ, ◌+◌, ◌-◌, ◌≤◌, true, cond, List, [], ◌∷◌, ◌++◌, length, drop, Option, ◌&&◌, Some, None, eqb, leb, inl, inr, arith, refl, sym, ap, subst, ◌∙◌, length-drop}
 use Rattle.std.specs.Int.{Width, w8, w32, w64}
 use Rattle.std.proofs.lemmas.Bool.{leb-true, le-leb, eqb-true, eq-eqb}
+use Rattle.std.proofs.lemmas.Option.{same_Some}
 use Rattle.std.proofs.Math.ListN.{drop_of_length-le}
 use Rattle.flow_defs.specs.declared.task.ChannelId.{ChannelId}
 use Rattle.net_frames.specs.declared.frame.TheConstants.{CREDIT_MAX, ERROR_MAX, LEN_MAX, SIZE_MIN, SIZE_MAX}
@@ -15,7 +16,7 @@ use Rattle.net_frames.specs.Kinds.{may_have}
 use Rattle.net_frames.specs.Frames.{u8, u32, KeepsRanges, IsArrival, frame_kind, head_len, frame_len, channel_numbers, arrival_numbers, body_numbers}
 use Rattle.net_frames.specs.Faults.{number_at}
 use Rattle.net_frames.specs.Reading.{◌>>=◌, channel_in, ranged, barrier_in, arrival_of, arrival_in, frame_in}
-use Rattle.net_frames.proofs.Choices.{both, some_is, guard_some, bind_some, chosen}
+use Rattle.net_frames.proofs.Choices.{both, guard_some, bind_some, chosen}
 use Rattle.net_frames.proofs.Numbers.{Reads}
 
 -- ---- what was spelled is read
@@ -107,7 +108,7 @@ one_number w least most make bytes frame e =
     record {
       channel = a.0;
       number = b.0;
-      frame_is = some_is _ _ b.2;
+      frame_is = same_Some _ _ b.2;
       channel_reads = channel_found bytes a.0 a.1;
       number_is = ranged_found w 25 least most b.0 bytes b.1;
     }
@@ -168,21 +169,21 @@ module _ (bytes : List ℕ) (compression : number_at w8 34 bytes ≡ 0) (size : 
       elim (chosen (eqb kind 0 && leb 1 len) (Some Buffer) else_inline (Some what) e) [
         | inl first ↦
             let t = both (eqb kind 0) (leb 1 len) first.0 in
-            subst (λ (w : ArrivalKind2). IsArrived bytes w (arrival_head w)) (some_is _ _ first.1) (buffer_arrived bytes least most compression size (eqb-true _ _ t.0) (leb-true _ _ t.1))
+            subst (λ (w : ArrivalKind2). IsArrived bytes w (arrival_head w)) (same_Some _ _ first.1) (buffer_arrived bytes least most compression size (eqb-true _ _ t.0) (leb-true _ _ t.1))
         | inr later ↦
             elim (chosen (eqb kind 1 && eqb len 8) (barrier_in bytes >>= λ k. Some (Inline k)) else_front (Some what) later.1) [
               | inl second ↦
                   let t = both (eqb kind 1) (eqb len 8) second.0 in
                   let b = bind_some (barrier_in bytes) (λ k. Some (Inline k)) what second.1 in
                   let k_is = barrier_found b.0 bytes b.1 in
-                  subst (λ (w : ArrivalKind2). IsArrived bytes w (arrival_head w)) (some_is _ _ b.2) (inline_arrived b.0 (eqb-true _ _ t.0) (eqb-true _ _ t.1) k_is.0 k_is.1)
+                  subst (λ (w : ArrivalKind2). IsArrived bytes w (arrival_head w)) (same_Some _ _ b.2) (inline_arrived b.0 (eqb-true _ _ t.0) (eqb-true _ _ t.1) k_is.0 k_is.1)
               | inr later2 ↦
                   elim (chosen (eqb kind 2 && eqb len 8) (barrier_in bytes >>= λ k. Some (Front k)) else_end (Some what) later2.1) [
                     | inl third ↦
                         let t = both (eqb kind 2) (eqb len 8) third.0 in
                         let b = bind_some (barrier_in bytes) (λ k. Some (Front k)) what third.1 in
                         let k_is = barrier_found b.0 bytes b.1 in
-                        subst (λ (w : ArrivalKind2). IsArrived bytes w (arrival_head w)) (some_is _ _ b.2) (front_arrived b.0 (eqb-true _ _ t.0) (eqb-true _ _ t.1) k_is.0 k_is.1)
+                        subst (λ (w : ArrivalKind2). IsArrived bytes w (arrival_head w)) (same_Some _ _ b.2) (front_arrived b.0 (eqb-true _ _ t.0) (eqb-true _ _ t.1) k_is.0 k_is.1)
                     | inr last ↦
                         let g = guard_some (eqb kind 3 && eqb len 0) End what last.1 in
                         let t = both (eqb kind 3) (eqb len 0) g.0 in
@@ -217,7 +218,7 @@ frame_found kinds.Buffer bytes frame len most e =
     let channel = channel_found bytes a.0 a.1 in
     let backlog = ranged_found w32 29 0 CREDIT_MAX b.0 bytes b.1 in
     let arrival = arrival_found bytes w.0 (leb-true _ _ len) most w.1 in
-    subst (IsBody kinds.Buffer bytes) (some_is _ _ w.2) (record {
+    subst (IsBody kinds.Buffer bytes) (same_Some _ _ w.2) (record {
       kind_is = refl;
       reads = (channel.0, (channel.1.0, (channel.1.1.0, (channel.1.1.1.0, (refl, (backlog.is, arrival.reads))))));
       in_range = (backlog.high, arrival.in_range);
@@ -233,7 +234,7 @@ frame_found kinds.Request bytes frame len most e =
     subst (IsBody kinds.Request bytes) o.frame_is (record { kind_is = refl; reads = with_u32 o.channel o.number bytes o.channel_reads o.number_is.is; in_range = (o.number_is.high, ended 29 bytes n); whole = omega arith })
 frame_found kinds.Closing bytes frame len most e =
     let n = eqb-true (length bytes) 9 len in
-    subst (IsBody kinds.Closing bytes) (some_is _ _ e) (record { kind_is = refl; reads = tt; in_range = ended 9 bytes n; whole = omega arith })
+    subst (IsBody kinds.Closing bytes) (same_Some _ _ e) (record { kind_is = refl; reads = tt; in_range = ended 9 bytes n; whole = omega arith })
 frame_found kinds.Credit bytes frame len most e =
     let o = one_number w32 1 CREDIT_MAX AddCredit bytes frame e in
     let n = eqb-true (length bytes) 29 len in
@@ -241,7 +242,7 @@ frame_found kinds.Credit bytes frame len most e =
 frame_found kinds.Resumption bytes frame len most e =
     let a = bind_some (channel_in bytes) (λ channel. Some (ResumeConsumption channel)) frame e in
     let n = eqb-true (length bytes) 25 len in
-    subst (IsBody kinds.Resumption bytes) (some_is _ _ a.2) (record { kind_is = refl; reads = channel_found bytes a.0 a.1; in_range = ended 25 bytes n; whole = omega arith })
+    subst (IsBody kinds.Resumption bytes) (same_Some _ _ a.2) (record { kind_is = refl; reads = channel_found bytes a.0 a.1; in_range = ended 25 bytes n; whole = omega arith })
 frame_found kinds.Backlog bytes frame len most e =
     let o = one_number w32 1 CREDIT_MAX BacklogAnnouncement bytes frame e in
     let n = eqb-true (length bytes) 29 len in

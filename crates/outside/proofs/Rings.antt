@@ -5,6 +5,7 @@ use Rattle.std.specs.List.{filter}
 use Rattle.std.proofs.lemmas.List.{map-append, take-append-le, length-take-le, nil_from_length}
 use Rattle.std.proofs.Math.Nat.{min-le_right}
 use Rattle.std.proofs.lemmas.List.Elements.{filter-append}
+use Rattle.std.proofs.lemmas.Option.{same_Some}
 use Rattle.turn_cell.specs.declared.pass.Pass.{Pass}
 use Rattle.turn_cell.specs.Passes.{IsPassOf, mine, number, seen}
 use Rattle.outside.specs.MemoryLinks.{LinkCell}
@@ -148,9 +149,6 @@ none_behind : (xs ys : List ℕ) → xs ++ ys ≡ [] → ys ≡ []
 none_behind [] ys is = is
 none_behind (x ∷ xs) ys is = absurd (cc)
 
-told : (a b : Bool) → Some a ≡ Some b → a ≡ b
-told a b e = cc
-
 nothing_more : (xs ys : List LinkEntry) → has_finished xs ≡ true → EndsThere (xs ++ ys) → bytes_written ys ≡ []
 nothing_more [] ys is ends = absurd (cc)
 nothing_more (Wrote bytes ∷ xs) ys is ends = nothing_more xs ys is ends
@@ -198,6 +196,6 @@ pub met : (history : List (ℕ × LinkEntry)) (own other : List LinkEntry) (ende
     IsFront history × (ended ≡ true → IsAll history) → HasMet (Some (bytes_written own)) (Some (has_finished own)) (Some (bytes_read other)) (Some ended)
 met history own other ended is_own is_other kept = record {
   begins = (kept.0.0, ap bytes_written (sym is_own) ∙ kept.0.1 ∙ ap (λ es. bytes_read es ++ kept.0.0) is_other);
-  whole = λ e. ap bytes_read (sym is_other) ∙ (kept.1 (told ended true e)).0 ∙ ap bytes_written is_own;
-  was_finished = λ e. ap has_finished (sym is_own) ∙ (kept.1 (told ended true e)).1;
+  whole = λ e. ap bytes_read (sym is_other) ∙ (kept.1 (same_Some ended true e)).0 ∙ ap bytes_written is_own;
+  was_finished = λ e. ap has_finished (sym is_own) ∙ (kept.1 (same_Some ended true e)).1;
 }

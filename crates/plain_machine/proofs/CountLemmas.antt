@@ -3,7 +3,7 @@ use Rattle.std.proofs.Common.{◌≡◌, ℕ, zero, suc, ◌+◌, ◌*◌, ◌/�
 use Rattle.std.specs.Prelude.{slice_index, nat_lt, min}
 use Rattle.std.proofs.lemmas.Bool.{ltb-true, lt-ltb, cases_lt}
 use Rattle.std.proofs.lemmas.Nat.{div_below, le-div}
-use Rattle.std.proofs.lemmas.Option.{get_or_from_slice_get}
+use Rattle.std.proofs.lemmas.Option.{get_or_from_slice_get, same_Some}
 use Rattle.flow_defs.specs.declared.job.Job.{Job}
 use Rattle.flow_defs.specs.declared.image.Image.{Image}
 use Rattle.flow_defs.specs.Jobs.{tasks, IsJob}
@@ -12,7 +12,7 @@ use Rattle.plain_machine.specs.Chains.{Follows, Chain, last_of}
 use Rattle.plain_machine.specs.Counts.{most_below, most_lines}
 use Rattle.plain_machine.specs.SizeTheorems.{FinishedChainIsCounted}
 use Rattle.plain_machine.proofs.StartLemmas.{start_is_start}
-use Rattle.plain_machine.proofs.LastLemmas.{some_same, at_place}
+use Rattle.plain_machine.proofs.LastLemmas.{at_place}
 
 -- ---- the greatest of some numbers
 
@@ -53,7 +53,7 @@ module _ (job : Job) (lines : ℕ → List (List ℕ)) (n : ℕ) (is : IsJob job
     past = λ all. most_under (tasks job 0) (λ a. length (lines a)) (suc k * n) some_source (λ a here.
         let was = at.offsets a here in
         let low : a < length new.ended.items = (let many = follows.fits.ended in omega (arith, here, many)) in
-        let told = some_same true (nat_lt (length (lines a)) (slice_index old.offsets.items a + n)) (sym (at_place new.ended.items a true true low (all a true low)) ∙ follows.goes.ended a here) in
+        let told = same_Some true (nat_lt (length (lines a)) (slice_index old.offsets.items a + n)) (sym (at_place new.ended.items a true true low (all a true low)) ∙ follows.goes.ended a here) in
         let past = ltb-true (length (lines a)) (slice_index old.offsets.items a + n) (sym told) in
         omega (arith, was, past));
     ended = λ high a d low.

@@ -3,6 +3,7 @@ use Rattle.std.proofs.Common.{◌≡◌, ℕ, zero, suc, ◌+◌, ◌<◌, true,
 use Rattle.std.specs.Prelude.{slice_index, slice_get, flat_map, unwrap_or}
 use Rattle.std.specs.FinMap.{entries, empty, get-empty}
 use Rattle.std.proofs.lemmas.Bool.{ltb-true}
+use Rattle.std.proofs.lemmas.Option.{same_Some}
 use Rattle.flow_defs.specs.declared.job.Job.{Job}
 use Rattle.flow_defs.specs.declared.image.Image.{Image}
 use Rattle.flow_defs.specs.Records.{spans}
@@ -78,9 +79,6 @@ nothing_unread job lines image fit same last a here =
 
 -- ---- an image that follows has read as far as its sources go
 
-pub some_same : {X : Type 0} (x y : X) → Some x ≡ Some y → x ≡ y
-some_same x y e = cc
-
 goes-unchanged : (job : Job) (lines : ℕ → List (List ℕ)) (every : Option ℕ) (old new : Image) → Goes job lines every old new → IsUnchanged job lines new
 goes-unchanged job lines None old new goes = record {
   read = λ a here. let e = goes.offsets a here in omega (arith, e);
@@ -90,7 +88,7 @@ goes-unchanged job lines (Some n) old new goes = record {
   read = λ a here. let e = goes.offsets a here in omega (arith, e);
   ended = λ a here is.
       let e = goes.offsets a here in
-      let past : length (lines a) < slice_index old.offsets.items a + n = ltb-true _ _ (some_same _ true (sym (goes.ended a here) ∙ is)) in
+      let past : length (lines a) < slice_index old.offsets.items a + n = ltb-true _ _ (same_Some _ true (sym (goes.ended a here) ∙ is)) in
       omega (arith, e, past);
 }
 
@@ -109,7 +107,7 @@ start_unchanged job lines image is = record {
   read = λ a here. let e = (start_is_start job image is).offsets a here in omega (arith, e);
   ended = λ a here on.
       let low : a < length image.ended.items = omega (arith, is.fits.ended) in
-      let e : false ≡ true = some_same false true (sym (at_place image.ended.items a false false low (is.ended a false low)) ∙ on) in cc;
+      let e : false ≡ true = same_Some false true (sym (at_place image.ended.items a false false low (is.ended a false low)) ∙ on) in cc;
 }
 
 start_worth : (job : Job) (lines : ℕ → List (List ℕ)) (image : Image) → IsStart job image → worth job lines (cut_of job image) ≡ tally job lines

@@ -2,7 +2,7 @@
 use Rattle.std.proofs.Common.{◌≡◌, ℕ, suc, ◌+◌, ◌≤◌, cond, List, [], ◌∷◌, ◌++◌, length, map, refl, sym, ap, ◌∙◌, ◌⊎◌, inl, inr, subst, Option, Some, None, Result, Ok, Err, is_none, arith}
 use Rattle.std.specs.Prelude.{◌↔◌}
 use Rattle.std.specs.List.{AllByRecursion}
-use Rattle.std.proofs.lemmas.Option.{none-some}
+use Rattle.std.proofs.lemmas.Option.{none-some, same_Some}
 use Rattle.flow_defs.specs.Lines.{lines}
 use Rattle.script_text.specs.declared.event.TheConstants.{CHANNELS_MAX}
 use Rattle.script_text.specs.declared.event.Event.{Event}
@@ -13,7 +13,6 @@ use Rattle.script_text.specs.declared.lines.Opening.{Opening}
 use Rattle.script_text.specs.Scripts.{IsEvent, IsOpening, IsScriptText, IsSameScript, open_line, event_line, contents}
 use Rattle.script_text.specs.ScriptFaults.{IsOpenLine, IsEventLine, BeginsScript, IsBadBehind, IsFirstBadLine}
 use Rattle.script_text.specs.Reading.{event_of, opening_of, bad_from, bad_behind, bad_line, IsTold, Opens}
-use Rattle.script_text.proofs.Numbers.{some_same}
 use Rattle.script_text.proofs.Spellings.{event_known, event_spelled, opening_known, opening_spelled}
 
 -- ---- single lines
@@ -67,7 +66,7 @@ found_first channels number n line rest none is = record {
   line = line;
   rest = rest;
   lines_are = refl;
-  number_is = let same = some_same number n is in omega (arith, same);
+  number_is = let same = same_Some number n is in omega (arith, same);
   good = tt;
   bad = none;
 }
@@ -119,19 +118,19 @@ module _ (text : List ℕ) (n : ℕ) where
         number_is = let same = found.number_is in omega (arith, same);
         begins = (o.channels, first_read first o is, found.good);
         bad = λ begins.
-            let same : begins.0 ≡ o.channels = ap (λ (p : Opening). p.channels) (some_same _ o (sym (open_line_read begins.0 first begins.1) ∙ is)) in
+            let same : begins.0 ≡ o.channels = ap (λ (p : Opening). p.channels) (same_Some _ o (sym (open_line_read begins.0 first begins.1) ∙ is)) in
             let last : IsEventLine begins.0 found.line = all_last (IsEventLine begins.0) found.before found.line begins.2 in
             no_both (event_of begins.0 found.line) _ (ap (λ m. event_of m found.line) same ∙ found.bad) (event_line_read begins.0 found.line (few_of begins.0 first begins.1) last);
       }
 
   found_behind_first : (first : List ℕ) (events : List (List ℕ)) → lines text ≡ first ∷ events → bad_line (first ∷ events) ≡ Some n → IsFirstBadLine text n
   found_behind_first first events lines_are is = elim (cases (opening_of first)) [
-    | inl none ↦ found_at_first (first ∷ events) lines_are (no_opening first none) (some_same 1 n (sym (ap (λ (o : Option Opening). bad_behind o events) none) ∙ is))
+    | inl none ↦ found_at_first (first ∷ events) lines_are (no_opening first none) (same_Some 1 n (sym (ap (λ (o : Option Opening). bad_behind o events) none) ∙ is))
     | inr some ↦ found_event first events some.0 lines_are some.1 (bad_found some.0.channels 2 n events (sym (ap (λ (o : Option Opening). bad_behind o events) some.1) ∙ is))
   ]
 
   found_in : (all : List (List ℕ)) → lines text ≡ all → bad_line all ≡ Some n → IsFirstBadLine text n
-  found_in [] lines_are is = found_at_first [] lines_are refl (some_same 1 n is)
+  found_in [] lines_are is = found_at_first [] lines_are refl (same_Some 1 n is)
   found_in (first ∷ events) lines_are is = found_behind_first first events lines_are is
 
   -- the number that is found is that of the first bad line
@@ -182,7 +181,7 @@ same_events channels few (e ∷ events) [] all rest is = absurd (cc)
 same_events channels few (e ∷ events) (other ∷ others) all rest is =
     let first : event_line e ≡ event_line other = cc in
     let more : map event_line events ≡ map event_line others = cc in
-    let same : contents e ≡ contents other = some_same _ _ (sym (event_spelled channels few e all.0) ∙ ap (event_of channels) first ∙ event_spelled channels few other rest.0) in
+    let same : contents e ≡ contents other = same_Some _ _ (sym (event_spelled channels few e all.0) ∙ ap (event_of channels) first ∙ event_spelled channels few other rest.0) in
     ap (λ x. x ∷ map contents events) same ∙ ap (λ x. contents other ∷ x) (same_events channels few events others all.1 rest.1 more)
 
 pub one_script : (text : List ℕ) (script other : Script) → IsScriptText text script → IsScriptText text other → IsSameScript script other
@@ -190,7 +189,7 @@ one_script text script other is other_is =
     let both : open_line script.channels script.size script.total ∷ map event_line script.events.items ≡ open_line other.channels other.size other.total ∷ map event_line other.events.items = sym is.lines_are ∙ other_is.lines_are in
     let first : open_line script.channels script.size script.total ≡ open_line other.channels other.size other.total = cc in
     let rest : map event_line script.events.items ≡ map event_line other.events.items = cc in
-    let same = some_same _ _ (sym (opening_spelled script.channels script.size script.total is.opening) ∙ ap opening_of first ∙ opening_spelled other.channels other.size other.total other_is.opening) in
+    let same = same_Some _ _ (sym (opening_spelled script.channels script.size script.total is.opening) ∙ ap opening_of first ∙ opening_spelled other.channels other.size other.total other_is.opening) in
     let channels : script.channels ≡ other.channels = ap (λ (p : Opening). p.channels) same in
     record {
       channels = channels;
@@ -208,7 +207,7 @@ module _ (text : List ℕ) (r : Result Script ScriptFault) where
   pub told_line : (told : ScriptFault) → r ≡ Err told → IsTold told (bad_line (lines text)) → (line : ℕ) → (r ≡ Err (Line line)) ↔ IsFirstBadLine text line
   told_line (Line n) is told line = (
     λ same. first_bad_found text line (let at : n ≡ line = cc in told ∙ ap (λ k. Some k) at),
-    λ bad. is ∙ ap (λ k. let e : Result Script ScriptFault = Err (Line k) in e) (some_same n line (sym told ∙ first_bad_is text line bad)),
+    λ bad. is ∙ ap (λ k. let e : Result Script ScriptFault = Err (Line k) in e) (same_Some n line (sym told ∙ first_bad_is text line bad)),
   )
   told_line Memory is told line = absurd told
 
@@ -233,7 +232,7 @@ script_read text rest o script opens channels size total events_are all =
 -- ---- each text is one or the other
 
 pub one_bad_line : (text : List ℕ) (n m : ℕ) → IsFirstBadLine text n → IsFirstBadLine text m → n ≡ m
-one_bad_line text n m first second = some_same n m (sym (first_bad_is text n first) ∙ first_bad_is text m second)
+one_bad_line text n m first second = same_Some n m (sym (first_bad_is text n first) ∙ first_bad_is text m second)
 
 events_of : (channels number : ℕ) (all : List (List ℕ)) → bad_from channels number all ≡ None → (events : List Event) × (map event_line events ≡ all) × AllByRecursion (IsEvent channels) events
 events_of channels number [] none = ([], refl, tt)

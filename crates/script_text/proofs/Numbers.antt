@@ -1,10 +1,11 @@
 -- Numbers and their spelling.
 use Rattle.std.proofs.Common.{◌≡◌, ℕ, ◌<◌, ◌≤◌, ◌^◌, Bool, true, false, cond, ◌&&◌, leb, List, refl, sym, ap, ◌∙◌, ◌⊎◌, inl, inr, subst, Option, Some, None, arith}
-use Rattle.std.specs.Prelude.{decimal, bytes_eq, unwrap_or}
+use Rattle.std.specs.Prelude.{decimal, bytes_eq}
 use Rattle.std.specs.Str.Parse.{digits_value}
 use Rattle.std.proofs.lemmas.Bool.{and_parts, and_from, leb-true, le-leb, cond-true}
 use Rattle.std.proofs.lemmas.Fmt.{decimal_is_IsNumeral, decimal_injective}
 use Rattle.std.proofs.lemmas.Slice.Eq.{bytes_eq-Decides}
+use Rattle.std.proofs.lemmas.Option.{same_Some}
 use Rattle.script_text.specs.Reading.{number_of}
 
 pub same_bytes : (a b : List ℕ) → bytes_eq a b ≡ true → a ≡ b
@@ -13,11 +14,8 @@ same_bytes a b is = (bytes_eq-Decides a b).0 is
 pub bytes_same : (a b : List ℕ) → a ≡ b → bytes_eq a b ≡ true
 bytes_same a b is = (bytes_eq-Decides a b).1 is
 
-pub some_same : {A : Type 0} (a b : A) → Some a ≡ Some b → a ≡ b
-some_same a b same = ap (λ o. unwrap_or o a) same
-
 chosen : (b : Bool) (x y : ℕ) → cond b (Some x) None ≡ Some y → (b ≡ true) × (x ≡ y)
-chosen true x y is = (refl, some_same x y is)
+chosen true x y is = (refl, same_Some x y is)
 chosen false x y is = absurd (cc)
 
 -- a word that is found to spell a number

@@ -3,7 +3,7 @@ use Rattle.std.proofs.Common.{◌≡◌, ℕ, ◌<◌, ◌≤◌, ◌^◌, ◌-�
 use Rattle.std.specs.Prelude.{codes, bytes_eq, decimal, All, option_map, option_and_then}
 use Rattle.std.specs.List.{list_all}
 use Rattle.std.proofs.lemmas.List.Elements.{All-nil, All-cons, All-head, All-tail}
-use Rattle.std.proofs.lemmas.Option.{none-some}
+use Rattle.std.proofs.lemmas.Option.{none-some, same_Some}
 use Rattle.std.proofs.lemmas.Bool.{and_parts, and_from, leb-true, le-leb, cond-true}
 use Rattle.script_text.specs.declared.event.TheConstants.{CHANNELS_MAX, SIZE_MIN, SIZE_MAX, TOTAL_MAX, FILL_MAX}
 use Rattle.script_text.specs.declared.event.Event.{Event}
@@ -11,7 +11,7 @@ use Rattle.script_text.specs.declared.event.Event.TheVariants.{Emit, Fill, Barri
 use Rattle.script_text.specs.declared.lines.Opening.{Opening}
 use Rattle.script_text.specs.Scripts.{IsText, IsChannel, IsEvent, IsOpening, open_line, event_line, contents}
 use Rattle.script_text.specs.Reading.{cut, number_of, is_text, bare_event, channel_event, emit_event, barrier_number, long_event, event_behind, event_rest, event_of, opening_by, opening_behind, opening_rest, opening_of}
-use Rattle.script_text.proofs.Numbers.{same_bytes, some_same, number_known, number_spelled, number_cases}
+use Rattle.script_text.proofs.Numbers.{same_bytes, number_known, number_spelled, number_cases}
 use Rattle.script_text.proofs.Cuts.{Cut, joined, joined_cut, has_no_space, cut_behind, cut_whole, decimal_no_space}
 
 -- ---- texts
@@ -47,7 +47,7 @@ module _ (P : Event → Type 0) (word : List ℕ) (e : Event) where
   either text this other hit miss is = elim (cond_cases (bytes_eq word text) this other (Some e) is) [ inl found ↦ hit (same_bytes word text found.0) found.1 | inr not_found ↦ miss not_found.1 ]
 
   this_one : (text : List ℕ) (x : Event) → P x → Some x ≡ Some e → P e
-  this_one text x fine is = subst P (some_same x e is) fine
+  this_one text x fine is = subst P (same_Some x e is) fine
 
   none_left : None ≡ Some e → P e
   none_left is = absurd (none-some e is)
@@ -197,7 +197,7 @@ with_all None size total o is = absurd (none-some o is)
 with_all (Some m) None total o is = absurd (none-some o is)
 with_all (Some m) (Some b) None o is = absurd (none-some o is)
 with_all (Some m) (Some b) (Some t) o is =
-    let same = some_same (opening m b t) o is in
+    let same = same_Some (opening m b t) o is in
     (ap (λ (p : Opening). Some p.channels) same, ap (λ (p : Opening). Some p.size) same, ap (λ (p : Opening). Some p.total) same)
 
 abbrev Opens : Opening → List ℕ → Type 0

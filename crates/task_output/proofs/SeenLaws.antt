@@ -3,6 +3,7 @@ use Rattle.std.proofs.Common.{◌≡◌, ◌+◌, ◌-◌, ℕ, zero, suc, List,
 use Rattle.std.specs.Prelude.{Bool, Contains}
 use Rattle.std.specs.List.{last_or}
 use Rattle.std.proofs.lemmas.List.Elements.{Contains-append_left, Contains-append_right}
+use Rattle.std.proofs.lemmas.Option.{same_Some}
 use Rattle.turn_cell.specs.History.{entries_of}
 use Rattle.outside.specs.declared.last_image.Stored.{Stored}
 use Rattle.task_output.specs.declared.acks.Acks.{Acks}
@@ -11,12 +12,9 @@ use Rattle.task_output.specs.Waiting.{HasSeenStored, HasWaited, SeenIsWaited, Wa
 last_is_there : {X : Type 0} (o : Option X) (xs : List X) (x : X) → last_or o xs ≡ Some x → (o ≡ Some x) ⊎ Contains xs x
 last_is_there o [] x is = inl is
 last_is_there o (y ∷ xs) x is = elim (last_is_there (Some y) xs x is) [
-  | inl here ↦ inr (0, omega arith, first here)
+  | inl here ↦ inr (0, omega arith, same_Some y x here)
   | inr later ↦ inr (Contains-append_right (y ∷ []) xs x later)
 ]
-  where
-    first : Some y ≡ Some x → y ≡ x
-    first is = cc
 
 contained : (history : List (ℕ × Stored)) (stored : Stored) → last_or None (entries_of history) ≡ Some stored → Contains (entries_of history) stored
 contained history stored is = elim (last_is_there None (entries_of history) stored is) [ inl none ↦ absurd (cc) | inr there ↦ there ]

@@ -2,6 +2,7 @@
 use Rattle.std.proofs.Common.{◌≡◌, ℕ, zero, suc, ◌+◌, ◌*◌, ◌≤◌, List, [], ◌∷◌, refl, sym, ap, subst, ◌∙◌, arith}
 use Rattle.std.specs.Prelude.{slice_get, Some, None}
 use Rattle.std.proofs.lemmas.List.Elements.{All-nil, All-cons}
+use Rattle.std.proofs.lemmas.Option.{same_Some}
 use Rattle.turn_cell.specs.Passes.{IsPassOf, opened_with, number, mine}
 use Rattle.flow_defs.specs.declared.job.Job.{Job}
 use Rattle.flow_defs.specs.declared.job.Exchange.{Exchange}
@@ -14,9 +15,6 @@ use Rattle.record_writer.specs.Writers.{SendCell, SendPass, ways, ways_on, AreOw
 abbrev pub IsNewTask : SendCell → SendPass → Type 0
 IsNewTask cell pass = IsPassOf cell pass × (number pass ≡ 0) × (mine pass ≡ [])
 
-some_is : {X : Type 0} (x y : X) → Some x ≡ Some y → x ≡ y
-some_is x y e = cc
-
 module _ (one two : SendCell) (p q : SendPass) where
   abbrev cells : List SendCell
   cells = one ∷ two ∷ []
@@ -25,15 +23,15 @@ module _ (one two : SendCell) (p q : SendPass) where
   both_own new new' = record { many_are = refl; each = each }
     where
       each : (c : ℕ) (pass : SendPass) → slice_get (p ∷ q ∷ []) c ≡ Some pass → (cell : SendCell) × (slice_get cells (0 + c * 1) ≡ Some cell) × IsPassOf cell pass × (number pass ≡ 0)
-      each zero pass is = (one, refl, subst (IsPassOf one) (some_is p pass is) new.0, ap (λ (x : SendPass). number x) (sym (some_is p pass is)) ∙ new.1)
-      each (suc zero) pass is = (two, refl, subst (IsPassOf two) (some_is q pass is) new'.0, ap (λ (x : SendPass). number x) (sym (some_is q pass is)) ∙ new'.1)
+      each zero pass is = (one, refl, subst (IsPassOf one) (same_Some p pass is) new.0, ap (λ (x : SendPass). number x) (sym (same_Some p pass is)) ∙ new.1)
+      each (suc zero) pass is = (two, refl, subst (IsPassOf two) (same_Some q pass is) new'.0, ap (λ (x : SendPass). number x) (sym (same_Some q pass is)) ∙ new'.1)
       each (suc (suc c)) pass is = absurd (let none : None ≡ Some pass = is in cc)
 
   pub second_own : IsNewTask two q → AreOwnAt cells 1 2 1 (q ∷ [])
   second_own new' = record { many_are = refl; each = each }
     where
       each : (c : ℕ) (pass : SendPass) → slice_get (q ∷ []) c ≡ Some pass → (cell : SendCell) × (slice_get cells (1 + c * 2) ≡ Some cell) × IsPassOf cell pass × (number pass ≡ 0)
-      each zero pass is = (two, refl, subst (IsPassOf two) (some_is q pass is) new'.0, ap (λ (x : SendPass). number x) (sym (some_is q pass is)) ∙ new'.1)
+      each zero pass is = (two, refl, subst (IsPassOf two) (same_Some q pass is) new'.0, ap (λ (x : SendPass). number x) (sym (same_Some q pass is)) ∙ new'.1)
       each (suc c) pass is = absurd (let none : None ≡ Some pass = is in cc)
 
   pub second_new : IsNewTask two q → AreNew (q ∷ [])
@@ -44,12 +42,12 @@ module _ (one two : SendCell) (p q : SendPass) where
 
   module _ (size : (opened_with one).size ≡ 64) (size' : (opened_with two).size ≡ 64) where
     pub both_sizes : HaveSizeAt cells 0 1 2 64
-    both_sizes zero cell low is = ap (λ (x : SendCell). (opened_with x).size) (sym (some_is one cell is)) ∙ size
-    both_sizes (suc zero) cell low is = ap (λ (x : SendCell). (opened_with x).size) (sym (some_is two cell is)) ∙ size'
+    both_sizes zero cell low is = ap (λ (x : SendCell). (opened_with x).size) (sym (same_Some one cell is)) ∙ size
+    both_sizes (suc zero) cell low is = ap (λ (x : SendCell). (opened_with x).size) (sym (same_Some two cell is)) ∙ size'
     both_sizes (suc (suc c)) cell low is = absurd (omega arith)
 
     pub second_size : HaveSizeAt cells 1 2 1 64
-    second_size zero cell low is = ap (λ (x : SendCell). (opened_with x).size) (sym (some_is two cell is)) ∙ size'
+    second_size zero cell low is = ap (λ (x : SendCell). (opened_with x).size) (sym (same_Some two cell is)) ∙ size'
     second_size (suc c) cell low is = absurd (omega arith)
 
 -- How many channels a task has on the edges of the job of the tests.

@@ -7,6 +7,7 @@ use Rattle.input_channel.specs.Legal.{may_receive}
 use Rattle.input_channel.specs.States.{ChannelState, ChannelStandsFor, Allows, channel_next}
 use Rattle.input_channel.specs.Theorems.{CallsAreLegal, CallsAddEntries}
 use Rattle.std.proofs.lemmas.List.Elements.{All-from_recursion}
+use Rattle.std.proofs.lemmas.Option.{same_Some}
 use mathlib.Core.Logic.{dite}
 use native.Mathlib.Decide.{ℕ_discrete}
 use Rattle.turn_cell.specs.Passes.{IsPassOf, number, seen, mine}
@@ -21,12 +22,9 @@ use Rattle.input_gate.specs.Turning.{InputCell, InputPass}
 use Rattle.input_gate.specs.Making.{AreTwo}
 use Rattle.input_gate.proofs.Growing.{stops_in-append}
 
-same : {A : Type 0} (x y : A) → Some x ≡ Some y → x ≡ y
-same x y e = cc
-
 each_two : (cells : List InputCell) (passes : List InputPass) → AreTwo cells passes → (k : ℕ) (cell : InputCell) (pass : InputPass) → slice_get cells k ≡ Some cell → slice_get passes k ≡ Some pass → IsPassOf cell pass
-each_two (c ∷ d ∷ []) (p ∷ q ∷ []) h zero cell pass e f = subst (λ c. IsPassOf c pass) (same c cell e) (subst (IsPassOf c) (same p pass f) h.0.of_cell)
-each_two (c ∷ d ∷ []) (p ∷ q ∷ []) h (suc zero) cell pass e f = subst (λ c. IsPassOf c pass) (same d cell e) (subst (IsPassOf d) (same q pass f) h.1.of_cell)
+each_two (c ∷ d ∷ []) (p ∷ q ∷ []) h zero cell pass e f = subst (λ c. IsPassOf c pass) (same_Some c cell e) (subst (IsPassOf c) (same_Some p pass f) h.0.of_cell)
+each_two (c ∷ d ∷ []) (p ∷ q ∷ []) h (suc zero) cell pass e f = subst (λ c. IsPassOf c pass) (same_Some d cell e) (subst (IsPassOf d) (same_Some q pass f) h.1.of_cell)
 each_two (c ∷ d ∷ []) (p ∷ q ∷ []) h (suc (suc k)) cell pass e f = cc
 each_two cells passes h k cell pass e f = absurd h
 

@@ -1,5 +1,6 @@
 -- What the end of a cell tells of all its passes.
 use Rattle.std.proofs.Common.{◌≡◌, ℕ, zero, suc, ◌<◌, ◌≤◌, ◌⊎◌, inl, inr, ⊎_elim, true, List, [], ◌∷◌, ◌++◌, length, sym, refl, ap, ◌∙◌, subst, arith, append_assoc, Option, Some}
+use Rattle.std.proofs.lemmas.Option.{same_Some}
 use mathlib.Core.Option.{some, some-injective}
 use lib.ListN.{get_elem?}
 use Rattle.atomic_table.specs.Table.{State, Seen, Final}
@@ -61,8 +62,7 @@ module _ {S E F : Type 0} (stands : S → List (ℕ × E) → Type 0) (fixed : S
       → ((k : ℕ) → k < base.passes → 1 ≤ bears k v) → Final (Seen (Kept stands fixed) id v) ws xs → (x : S) × (get_elem? xs 0 ≡ some (Some x)) × Ended base v x
   closes id v base ws xs live away about all f =
       let s : State (Option S) V = f.0 in let r : Kept stands fixed s = f.1.0 in let at : get_elem? s.views id ≡ some v = f.1.1 in let k = r.each id v at in
-      let some_same : (a b : Opening S) → Some a ≡ Some b → a ≡ b = λ a b e. cc in
-      let is : r.base ≡ base = some_same r.base base (sym (k.about live) ∙ about) in
+      let is : r.base ≡ base = same_Some r.base base (sym (k.about live) ∙ about) in
       let count : r.base.passes ≡ base.passes = ap (λ (o : Opening S). o.passes) is in let fits = r.fits in
       let h : Home stands fixed r.base (told r.moments) s.homes = ⊎_elim (λ h. h) (λ (out : 1 ≤ total (λ (x : V). turning x) s.views).
       let o = total-some (λ (x : V). turning x) s.views out in let i : ℕ = o.0 in let u : V = o.1 in

@@ -1,5 +1,6 @@
 -- The steps on seats keep the rule: the first, a further one, one laid off, one taken in, a look at the history, one released.
 use Rattle.std.proofs.Common.{replicate, le_refl, ◌≡◌, ◌≢◌, ℕ, zero, suc, ◌+◌, ◌<◌, ◌≤◌, inl, inr, ⊎_elim, true, false, cond, List, [], ◌∷◌, ◌++◌, length, set, sym, refl, ap, ◌∙◌, subst, arith, Option, Some}
+use Rattle.std.proofs.lemmas.Option.{same_Some}
 use mathlib.Core.Logic.{dite}
 use mathlib.Core.Option.{none, some, some-injective, some-ne-none}
 use native.Mathlib.Decide.{ℕ_discrete}
@@ -90,8 +91,7 @@ module _ {S F E : Type 0} (stands : S → List (ℕ × E) → Type 0) (fixed : S
   pub splits : (id : ℕ) (v : V) (base : Opening S) → v.live ≡ true → 0 < v.made → v.about ≡ Some base → v.made < base.passes → Splits Rule id v (maker v) (newcomer v.made 0 v.about v.seen)
   splits id v base live first about room s r at =
       let a : V = maker v in let w : V = newcomer v.made 0 v.about v.seen in let k = r.each id v at in let now = k.making first in let is = now.0 in
-      let some_same : (x y : Opening S) → Some x ≡ Some y → x ≡ y = λ x y e. cc in
-      let same : base.passes ≡ r.base.passes = ap (λ (o : Opening S). o.passes) (some_same base r.base (sym about ∙ k.about live)) in
+      let same : base.passes ≡ r.base.passes = ap (λ (o : Opening S). o.passes) (same_Some base r.base (sym about ∙ k.about live)) in
       let none_of : (j : ℕ) (u : V) → get_elem? s.views j ≡ some u → bears r.made u ≡ 0 = λ j u e. let o = r.each j u e in
       let inner = total-none (λ (p : Past E). is_number r.made p.number) u.gathered (λ n p f. other_number r.made p.number (λ q. let b = (o.gone p (Rattle.turn_cell.proofs.Lists.has_at u.gathered n p f)).below in omega arith)) in
       let outer : cond u.live (is_number r.made u.number) 0 ≡ 0 = (elim u.live as (λ b. (u.live ≡ b) → cond b (is_number r.made u.number) 0 ≡ 0) [ true ↦ λ l. other_number r.made u.number (λ q. let b = o.below l in omega arith) | false ↦ λ _. refl ]) refl in omega arith in

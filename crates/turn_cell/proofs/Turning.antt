@@ -16,6 +16,7 @@ use Rattle.turn_cell.specs.Rule.{Has, total, is_number, one_if, is_turn, is_wait
 use Rattle.turn_cell.specs.History.{by, told, seen_by}
 use Rattle.std.proofs.Math.Decide.{dec_lt}
 use Rattle.std.proofs.Math.Nat.{min-eq_left, min-eq_right}
+use Rattle.std.proofs.lemmas.Option.{same_Some}
 use Rattle.turn_cell.proofs.Lists.{same_number, other_number, by-longer, by-longer-own, starts_itself, starts_longer, starts_whole, seen_by-own, seen_by-other, total-set, total-none, total-has, total-some, one_home}
 use Rattle.turn_cell.proofs.Keeps.{waits_here, turns_here, turn_is, turning_is, waiting_is, bears_own, changed, few_out, one_seat, one_ticket}
 
@@ -167,9 +168,6 @@ module _ {S F E : Type 0} (stands : S → List (ℕ × E) → Type 0) (fixed : S
       ))
       (λ miss. (v, keeps, tt, unmoved s r 1 id m at, ((λ hit. absurd (miss hit)), λ _. refl)))
 
-  some_same : (a b : Opening S) → Some a ≡ Some b → a ≡ b
-  some_same a b e = cc
-
   -- the history is counted in a turn
   pub counts : (slots id : ℕ) (m : M) → is_turn m.0.stage ≡ true → Allows Rule slots id m 18 (λ n. n) (counted (step slots 18 0 0 none) m)
   counts slots id m in_turn s r len at small =
@@ -260,7 +258,7 @@ module _ {S F E : Type 0} (stands : S → List (ℕ × E) → Type 0) (fixed : S
       let st = turns_here (told r.moments) r.drawn r.served v.live v.seen v.stage t on k.stage in
       let live : v.live ≡ true = st.0 in
       let now : v.stage ≡ Turns r.served = on ∙ ap Turns st.1 in
-      let is : base ≡ r.base = some_same base r.base (sym about ∙ k.about live) in
+      let is : base ≡ r.base = same_Some base r.base (sym about ∙ k.about live) in
       let wide = r.wide in let serving = r.serving in
       let word : ℕ = (get_or s.words 1 0 + 1) % 18446744073709551616 in
       let sum = total-set (λ (y : V). has_ticket y) s.views id v w at in let had : has_ticket v ≡ 1 = ap tickets_of now in let c = r.counted in

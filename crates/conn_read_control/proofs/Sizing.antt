@@ -1,12 +1,13 @@
 -- Desired sizes, channel by channel.
-use Rattle.std.proofs.Common.{◌≡◌, ◌≢◌, inl, inr, ℕ, ◌<◌, Bool, true, false, List, [], ◌∷◌, ◌++◌, length, get_or, set, map, refl, sym, ap, subst, ◌∙◌, arith, append-nil}
+use Rattle.std.proofs.Common.{◌≡◌, ◌≢◌, inl, inr, ℕ, ◌<◌, Bool, List, [], ◌∷◌, ◌++◌, length, get_or, set, map, sym, ap, subst, ◌∙◌, arith, append-nil}
 use Rattle.std.specs.Prelude.{slice_get, if◌then◌else◌, Some}
 use Rattle.std.specs.List.{refill}
-use Rattle.std.proofs.lemmas.Bool.{eqb-true, eq-eqb, cases_order, and_parts, and_from, false_from_ne_true}
+use Rattle.std.proofs.lemmas.Bool.{cases_order}
 use Rattle.std.proofs.lemmas.Option.{slice_get_within, get_or_from_slice_get, same_Some}
 use Rattle.turn_cell.specs.Passes.{mine}
 use Rattle.flow_defs.specs.declared.task.ChannelId.{ChannelId}
-use Rattle.credit_reader.specs.Senders.{is_same, AreDistinct}
+use Rattle.credit_reader.specs.Senders.{AreDistinct}
+use Rattle.credit_reader.proofs.Channels.{is_same_self, is_other}
 use Rattle.net_frames.specs.declared.frame.Frame.TheVariants.{NewBufferSize}
 use Rattle.subpartition.specs.declared.entry.SendEntry.TheVariants.{Size}
 use Rattle.conn_parts.specs.Shares.{mine_at}
@@ -30,22 +31,6 @@ desired_lent n passes lent k pass after is within is_pass told =
     subst (HasDesired k n passes) (sym (refilled_set passes lent k after is)) (desired_set n passes k pass after within is_pass told)
 
 -- ---- channels
-
-id_of : ℕ → ℕ → ℕ → ChannelId
-id_of edge f t = record { edge = edge; from = f; to = t }
-
-is_same_self : (c : ChannelId) → is_same c c ≡ true
-is_same_self c = and_from _ _ (and_from _ _ (eq-eqb c.edge c.edge refl) (eq-eqb c.from c.from refl)) (eq-eqb c.to c.to refl)
-
-same_channel : (c d : ChannelId) → is_same c d ≡ true → c ≡ d
-unfolding id_of
-same_channel c d test =
-    let parts = and_parts _ _ test in
-    let front = and_parts _ _ parts.0 in
-    ap (λ n. id_of n c.from c.to) (eqb-true _ _ front.0) ∙ ap (λ n. id_of d.edge n c.to) (eqb-true _ _ front.1) ∙ ap (λ n. id_of d.edge d.from n) (eqb-true _ _ parts.1)
-
-is_other : (c d : ChannelId) → c ≢ d → is_same c d ≡ false
-is_other c d other = false_from_ne_true _ (λ test. other (same_channel c d test))
 
 -- A channel stands at one place.
 one_place : (channels : List ChannelId) (j k : ℕ) (c : ChannelId) → AreDistinct channels → slice_get channels j ≡ Some c → slice_get channels k ≡ Some c → j ≡ k

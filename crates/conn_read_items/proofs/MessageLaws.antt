@@ -1,10 +1,11 @@
 -- What a message gives to its channel, and how it ends the loop.
 use Rattle.std.proofs.Common.{◌≡◌, ◌≢◌, inl, inr, ℕ, zero, suc, ◌<◌, true, false, cond, List, [], ◌∷◌, ◌++◌, length, get_or, Some, Result, Ok, Err, refl, sym, ap, subst, ◌∙◌, arith, append-nil}
 use Rattle.std.specs.Prelude.{slice_get, OnOk}
-use Rattle.std.proofs.lemmas.Bool.{eq-eqb, and_from, and_parts, eqb-true, cases_eq, cases_order, false_from_ne_true}
+use Rattle.std.proofs.lemmas.Bool.{cases_eq, cases_order}
 use Rattle.std.proofs.lemmas.Option.{same_Some}
 use Rattle.flow_defs.specs.declared.task.ChannelId.{ChannelId}
 use Rattle.credit_reader.specs.Senders.{AreDistinct, is_same}
+use Rattle.credit_reader.proofs.Channels.{is_same_self, is_other}
 use Rattle.flow_defs.specs.declared.cause.Cause.{Cause}
 use Rattle.net_frames.specs.declared.frame.Frame.{Frame}
 use Rattle.net_frames.specs.declared.frame.Frame.TheVariants as frames
@@ -21,18 +22,6 @@ use Rattle.conn_read_items.specs.Turning.{InputPass}
 use Rattle.conn_read_items.specs.Taking.{GaveAt, Gave, TookFrame, brought}
 
 -- ---- channels
-
-abbrev id_of : ℕ → ℕ → ℕ → ChannelId
-id_of edge «from» to = record { edge = edge; from = «from»; to = to }
-
-is_same_self : (c : ChannelId) → is_same c c ≡ true
-is_same_self c = and_from _ _ (and_from _ _ (eq-eqb c.edge c.edge refl) (eq-eqb c.from c.from refl)) (eq-eqb c.to c.to refl)
-
-same_channel : (c d : ChannelId) → is_same c d ≡ true → c ≡ d
-same_channel c d test =
-    let parts = and_parts _ _ test in
-    let front = and_parts _ _ parts.0 in
-    ap (λ n. id_of n c.from c.to) (eqb-true _ _ front.0) ∙ ap (λ n. id_of d.edge n c.to) (eqb-true _ _ front.1) ∙ ap (λ n. id_of d.edge d.from n) (eqb-true _ _ parts.1)
 
 -- The channel at a place, and that no other place has it.
 get_at : {X : Type 0} (xs : List X) (k : ℕ) (x d : X) → slice_get xs k ≡ Some x → (k < length xs) × (get_or xs k d ≡ x)
@@ -75,7 +64,7 @@ pub gave_note : (channels : List ChannelId) (k : ℕ) (channel : ChannelId) (bef
 gave_note channels k channel before after note distinct at gave =
     gave_one channels k channel before after (note ∷ []) (brought channel note) distinct at
     (ap (λ b. cond b (note ∷ []) []) (is_same_self channel))
-    (λ c ne. ap (λ b. cond b (note ∷ []) []) (false_from_ne_true _ (λ test. ne (same_channel channel c test)))) gave
+    (λ c ne. ap (λ b. cond b (note ∷ []) []) (is_other channel c ne)) gave
 
 -- ---- what messages bring
 

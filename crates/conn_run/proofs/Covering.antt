@@ -3,7 +3,6 @@ use Rattle.std.proofs.Common.{◌≡◌, ◌≢◌, ℕ, suc, ◌+◌, ◌<◌, 
 use Rattle.std.specs.Prelude.{count_by, sum_by, slice_get, slice_index_or, All}
 use Rattle.std.proofs.lemmas.List.Elements.{All-head, All-tail}
 use Rattle.std.proofs.lemmas.List.Sums.{sum_by-append, sum_by-cons}
-use Rattle.std.proofs.lemmas.Bool.{eqb-true, and_parts, false_from_ne_true}
 use Rattle.std.proofs.lemmas.Option.{same_Some}
 use Rattle.turn_cell.specs.History.{StartsWith, entries_of}
 use Rattle.flow_defs.specs.declared.task.ChannelId.{ChannelId}
@@ -13,6 +12,7 @@ use Rattle.flow_defs.specs.declared.parcel.Parcel.TheVariants.{Data, Barrier, En
 use Rattle.flow_defs.specs.Parcels.{is_data}
 use Rattle.credit_reader.specs.declared.reader.SentKind.{SentKind}
 use Rattle.credit_reader.specs.Senders.{AreDistinct, is_same}
+use Rattle.credit_reader.proofs.Channels.{same_channel, is_other}
 use Rattle.net_frames.specs.declared.frame.Frame.TheVariants.{BufferResponse, ErrorResponse, PartitionRequest, Close, AddCredit, ResumeConsumption, BacklogAnnouncement, NewBufferSize}
 use Rattle.reader_state.specs.declared.entry.ReaderEntry.{ReaderEntry}
 use Rattle.reader_state.specs.Standing as readers
@@ -108,23 +108,15 @@ none_requested c (m ∷ ms) none =
 
 -- ---- a channel is requested once
 
-abbrev id_of : ℕ → ℕ → ℕ → ChannelId
-id_of edge from to = record { edge = edge; from = from; to = to }
-
 cases_bool : (b : Bool) → (b ≡ true) ⊎ (b ≡ false)
 cases_bool true = inl refl
 cases_bool false = inr refl
-
-same_channel : (c d : ChannelId) → is_same c d ≡ true → c ≡ d
-same_channel c d test =
-    let parts = and_parts _ _ test in let front = and_parts _ _ parts.0 in
-    ap (λ n. id_of n c.from c.to) (eqb-true _ _ front.0) ∙ ap (λ n. id_of d.edge n c.to) (eqb-true _ _ front.1) ∙ ap (λ n. id_of d.edge d.from n) (eqb-true _ _ parts.1)
 
 absent : (c : ChannelId) (ds : List ChannelId) → ((j : ℕ) → j < length ds → slice_index_or ds j c ≢ c) → requested c (requests_of ds) ≡ 0
 absent c [] other = refl
 absent c (d ∷ ds) other =
     let rest = absent c ds (λ j lt. other (suc j) (omega arith)) in
-    let here : is_same d c ≡ false = false_from_ne_true _ (λ test. other 0 (omega arith) (same_channel d c test)) in
+    let here : is_same d c ≡ false = is_other d c (other 0 (omega arith)) in
     sum_by-cons (request_in c) (PartitionRequest d 2, []) (requests_of ds) ∙ ap (λ b. cond b 2 0 + requested c (requests_of ds)) here ∙ omega (arith, rest)
 
 asked_once : (c : ChannelId) (ds : List ChannelId) → AreDistinct ds → requested c (requests_of ds) ≤ 2

@@ -2,7 +2,7 @@
 use Rattle.std.proofs.Common.{◌≡◌, ◌≢◌, ℕ, zero, suc, ◌+◌, ◌<◌, inl, inr, cond, Bool, true, false, List, [], ◌∷◌, ◌++◌, length, get_or, set, refl, sym, ap, subst, ◌∙◌, arith}
 use Rattle.std.specs.Prelude.{Some, All, slice_get}
 use Rattle.std.specs.List.{refill}
-use Rattle.std.proofs.lemmas.Bool.{eqb-true, eq-eqb, cases_eq, cases_order, and_parts, and_from, false_from_ne_true}
+use Rattle.std.proofs.lemmas.Bool.{cases_eq, cases_order, false_from_ne_true}
 use Rattle.std.proofs.lemmas.Option.{slice_get_within, slice_get-get_or, same_Some}
 use Rattle.std.proofs.lemmas.List.Elements.{All-nil, All-cons}
 use Rattle.turn_cell.specs.declared.pass.Pass.{Pass}
@@ -11,6 +11,7 @@ use Rattle.flow_defs.specs.declared.task.ChannelId.{ChannelId}
 use Rattle.net_frames.specs.Frames.{AreFrames}
 use Rattle.net_frames.specs.declared.frame.Frame.TheVariants.{AddCredit, ResumeConsumption}
 use Rattle.credit_reader.specs.Senders.{AreDistinct, is_same}
+use Rattle.credit_reader.proofs.Channels.{is_same_self, same_channel}
 use Rattle.input_channel.specs.declared.entry.ReceiveEntry.{ReceiveEntry}
 use Rattle.input_channel.specs.Legal.{credit_told, resumes}
 use Rattle.conn_parts.specs.Messages.{Message, AreFrom, is_from_receiver, is_request, requests_of, credit_on, resumptions_on}
@@ -22,18 +23,6 @@ use Rattle.conn_send_control.specs.Taking.{Took, one_if, credit_message, resumpt
 use Rattle.conn_send_control.specs.Going.{Told}
 
 -- ---- channels that are distinct
-
-is_same_self : (c : ChannelId) → is_same c c ≡ true
-is_same_self c = and_from _ _ (and_from _ _ (eq-eqb c.edge c.edge refl) (eq-eqb c.from c.from refl)) (eq-eqb c.to c.to refl)
-
-abbrev id_of : ℕ → ℕ → ℕ → ChannelId
-id_of edge from to = record { edge = edge; from = from; to = to }
-
-same_channel : (c d : ChannelId) → is_same c d ≡ true → c ≡ d
-same_channel c d test =
-    let parts = and_parts _ _ test in
-    let front = and_parts _ _ parts.0 in
-    ap (λ n. id_of n c.from c.to) (eqb-true _ _ front.0) ∙ ap (λ n. id_of d.edge n c.to) (eqb-true _ _ front.1) ∙ ap (λ n. id_of d.edge d.from n) (eqb-true _ _ parts.1)
 
 stands_at : (cs : List ChannelId) (k : ℕ) (c d : ChannelId) → slice_get cs k ≡ Some c → c ≡ get_or cs k d
 stands_at cs k c d is = same_Some _ _ (sym is ∙ slice_get-get_or cs k d (slice_get_within cs k c is))
@@ -50,9 +39,12 @@ apart cs j k c d distinct at_j at_k other same = elim (cases_order j k) [
 is_other : (cs : List ChannelId) (j k : ℕ) (c d : ChannelId) → AreDistinct cs → slice_get cs j ≡ Some c → slice_get cs k ≡ Some d → j ≢ k → is_same c d ≡ false
 is_other cs j k c d distinct at_j at_k other = false_from_ne_true _ (λ test. apart cs j k c d distinct at_j at_k other (same_channel c d test))
 
+abbrev no_channel : ChannelId
+no_channel = record { edge = 0; from = 0; to = 0 }
+
 -- The channel that was read at a place stands there.
-pub channel_at : (cs : List ChannelId) (at : ℕ) → at < length cs → slice_get cs at ≡ Some (get_or cs at (id_of 0 0 0))
-channel_at cs at within = slice_get-get_or cs at (id_of 0 0 0) within
+pub channel_at : (cs : List ChannelId) (at : ℕ) → at < length cs → slice_get cs at ≡ Some (get_or cs at no_channel)
+channel_at cs at within = slice_get-get_or cs at no_channel within
 
 -- ---- messages of one channel
 

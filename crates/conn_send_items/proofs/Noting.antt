@@ -1,11 +1,12 @@
 -- What the readers were told of the backlogs, and what stands there, while turns are taken.
-use Rattle.std.proofs.Common.{◌≡◌, ◌≢◌, inl, inr, ℕ, zero, suc, ◌<◌, true, cond, List, [], ◌∷◌, ◌++◌, length, set, get_or, length-set, refl, sym, ap, subst, ◌∙◌, arith}
+use Rattle.std.proofs.Common.{◌≡◌, ◌≢◌, inl, inr, ℕ, zero, suc, ◌<◌, cond, List, [], ◌∷◌, ◌++◌, length, set, get_or, length-set, refl, sym, ap, subst, ◌∙◌, arith}
 use Rattle.std.specs.Prelude.{slice_get, Some}
 use Rattle.std.proofs.lemmas.Bool.{cases_eq}
 use Rattle.flow_defs.specs.declared.task.ChannelId.{ChannelId}
 use Rattle.flow_defs.specs.declared.task.Head.{Head}
 use Rattle.credit_reader.specs.Senders.{AreDistinct, is_same}
 use Rattle.credit_reader.specs.declared.reader.SentKind.{SentKind}
+use Rattle.credit_reader.proofs.Channels.{is_same_of}
 use Rattle.turn_cell.specs.Passes.{mine}
 use Rattle.reader_state.specs.declared.entry.ReaderEntry.{ReaderEntry}
 use Rattle.reader_state.specs.declared.entry.ReaderEntry.TheVariants.{Ready, Sent}
@@ -16,11 +17,8 @@ use Rattle.conn_send_items.specs.declared.cells.SendCells.{SendCells}
 use Rattle.conn_send_items.specs.declared.cells.SendPasses.{SendPasses}
 use Rattle.conn_send_items.specs.Fronts.{SendPass, backlog_after, OthersStay}
 use Rattle.conn_send_items.specs.Steps.{BacklogAt, TellsBacklog, KeepsBacklogs, AreNoted}
-use Rattle.conn_send_items.proofs.Standing.{is_same_self, apart_at, one_at, there, stands_in}
+use Rattle.conn_send_items.proofs.Standing.{apart_at, one_at, there, stands_in}
 use Rattle.conn_send_items.proofs.Saying.{told_more}
-
-pub same_of : (c d : ChannelId) → c ≡ d → is_same c d ≡ true
-same_of c d is = subst (λ e. is_same c e ≡ true) is (is_same_self c)
 
 module _ (channels : List ChannelId) (place : ℕ) (passes now : List SendPass) (others : OthersStay place passes now) where
   -- A place at which no turn was taken.
@@ -31,7 +29,7 @@ module _ (channels : List ChannelId) (place : ℕ) (passes now : List SendPass) 
       (told : (c : ChannelId) → told_last c own_after ≡ cond (is_same channel c) n (told_last c own)) where
     -- The reader of the channel is told what stands there.
     pub told_here : backlog_after (seen_at place now) ≡ n → BacklogAt channels own_after now place n
-    told_here left = (λ c at. told c ∙ ap (λ b. cond b n (told_last c own)) (same_of channel c (one_at channels place channel c is_there at)), left)
+    told_here left = (λ c at. told c ∙ ap (λ b. cond b n (told_last c own)) (is_same_of channel c (one_at channels place channel c is_there at)), left)
 
     pub told_else : (k m : ℕ) → k ≢ place → BacklogAt channels own passes k m → BacklogAt channels own_after now k m
     told_else k m ne was = (

@@ -12,6 +12,7 @@ use Rattle.net_frames.specs.Frames.{IsFrame, spelling}
 use Rattle.credit_reader.specs.declared.reader.SentKind.{SentKind}
 use Rattle.credit_reader.specs.declared.reader.Told.{Told as Announced}
 use Rattle.credit_reader.specs.Senders.{AreDistinct, is_same}
+use Rattle.credit_reader.proofs.Channels.{is_same_of, same_channel}
 use Rattle.subpartition.specs.declared.item.Item.{Item}
 use Rattle.subpartition.specs.declared.item.Item.TheVariants.{Buffer, Barrier, End}
 use Rattle.subpartition.specs.Queues.{parcel_of}
@@ -26,7 +27,7 @@ use Rattle.conn_send_items.specs.Fronts.{SendPass, taken_in, backlog_after, behi
 use Rattle.conn_send_items.specs.Items.{arrival_of, content_of, response, announcement, backlogs_on, announcements_on}
 use Rattle.conn_send_items.specs.Sending.{sent_kind}
 use Rattle.conn_send_items.specs.Steps.{Sends, Ends, EndsWith, Lays}
-use Rattle.conn_send_items.proofs.Standing.{is_same_self, same_channel, apart_at, one_at}
+use Rattle.conn_send_items.proofs.Standing.{apart_at, one_at}
 use Rattle.conn_send_items.proofs.Saying.{sent_on-append, announced_more, grows_not}
 
 -- ---- what a response brings
@@ -57,9 +58,6 @@ module _ (d c : ChannelId) (s b : ℕ) (item : Item) where
     | true ↦ refl
     | false ↦ refl
   ]
-
-is_same_of : (c d : ChannelId) → c ≡ d → is_same c d ≡ true
-is_same_of c d is = subst (λ e. is_same c e ≡ true) is (is_same_self c)
 
 -- An item was taken at a place, and its response has the next sequence number.
 module _ (channels : List ChannelId) (distinct : AreDistinct channels) (place : ℕ) (c : ChannelId) (is_there : slice_get channels place ≡ Some c) where

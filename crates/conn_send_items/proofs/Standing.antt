@@ -1,32 +1,16 @@
 -- What readers were told to stand first, while turns are taken.
-use Rattle.std.proofs.Common.{◌≡◌, ◌≢◌, inl, inr, ℕ, zero, suc, ◌<◌, true, false, List, [], ◌∷◌, length, get_or, refl, sym, ap, subst, ◌∙◌, arith}
+use Rattle.std.proofs.Common.{◌≡◌, ◌≢◌, inl, inr, ℕ, zero, suc, ◌<◌, false, List, [], ◌∷◌, length, get_or, refl, sym, ap, subst, ◌∙◌, arith}
 use Rattle.std.specs.Prelude.{slice_get, Some}
-use Rattle.std.proofs.lemmas.Bool.{eqb-true, eq-eqb, and_parts, and_from, cases_eq, cases_order, false_from_ne_true}
+use Rattle.std.proofs.lemmas.Bool.{cases_eq, cases_order}
 use Rattle.std.proofs.lemmas.Option.{same_Some}
 use Rattle.flow_defs.specs.declared.task.ChannelId.{ChannelId}
 use Rattle.flow_defs.specs.declared.task.Head.{Head}
 use Rattle.credit_reader.specs.Senders.{AreDistinct, is_same}
+use Rattle.credit_reader.proofs.Channels.{is_other}
 use Rattle.reader_state.specs.declared.entry.ReaderEntry.{ReaderEntry}
 use Rattle.reader_state.specs.Turning.{head_told, HeadsStay, HeadsChange}
 use Rattle.conn_parts.specs.Shares.{seen_at}
 use Rattle.conn_send_items.specs.Fronts.{SendPass, front_after, FrontStays, OthersStay, StandsAt}
-
--- ---- ids of channels
-
-abbrev id_of : ℕ → ℕ → ℕ → ChannelId
-id_of edge from to = record { edge = edge; from = from; to = to }
-
-pub is_same_self : (c : ChannelId) → is_same c c ≡ true
-is_same_self c = and_from _ _ (and_from _ _ (eq-eqb c.edge c.edge refl) (eq-eqb c.from c.from refl)) (eq-eqb c.to c.to refl)
-
-pub same_channel : (c d : ChannelId) → is_same c d ≡ true → c ≡ d
-same_channel c d test =
-    let parts = and_parts _ _ test in
-    let front = and_parts _ _ parts.0 in
-    ap (λ n. id_of n c.from c.to) (eqb-true _ _ front.0) ∙ ap (λ n. id_of d.edge n c.to) (eqb-true _ _ front.1) ∙ ap (λ n. id_of d.edge d.from n) (eqb-true _ _ parts.1)
-
-is_other : (c d : ChannelId) → (c ≡ d → ⊥) → is_same c d ≡ false
-is_other c d other = false_from_ne_true _ (λ test. other (same_channel c d test))
 
 -- ---- places of channels
 
@@ -54,10 +38,10 @@ apart_at channels distinct j k c d at_j at_k ne =
 
 -- The channel at a place.
 abbrev pub channel_at : List ChannelId → ℕ → ChannelId
-channel_at channels k = get_or channels k (id_of 0 0 0)
+channel_at channels k = get_or channels k (record { edge = 0; from = 0; to = 0 })
 
 pub channel_there : (channels : List ChannelId) (k : ℕ) → k < length channels → slice_get channels k ≡ Some (channel_at channels k)
-channel_there channels k within = stands_in channels k (id_of 0 0 0) within
+channel_there channels k within = stands_in channels k (record { edge = 0; from = 0; to = 0 }) within
 
 pub one_at : (channels : List ChannelId) (k : ℕ) (c d : ChannelId) → slice_get channels k ≡ Some c → slice_get channels k ≡ Some d → c ≡ d
 one_at channels k c d at_c at_d = same_Some c d (sym at_c ∙ at_d)

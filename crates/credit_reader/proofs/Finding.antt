@@ -1,5 +1,5 @@
 -- Readers by their channels, and what happens to one of them.
-use Rattle.std.proofs.Common.{◌≡◌, ℕ, ◌<◌, ◌≤◌, Bool, true, false, cond, ◌&&◌, eqb, List, [], ◌∷◌, ◌++◌, length, drop, map, get_or, set, Some, None, refl, sym, ap, subst, ◌∙◌, arith, inl, inr, ltb}
+use Rattle.std.proofs.Common.{◌≡◌, ℕ, ◌<◌, ◌≤◌, Bool, true, false, cond, ◌&&◌, eqb, List, [], ◌∷◌, ◌++◌, length, drop, get_or, set, Some, None, refl, sym, ap, subst, ◌∙◌, arith, inl, inr, ltb}
 use Rattle.std.specs.Prelude.{find, position}
 use Rattle.std.specs.List.{position_or_len}
 use Rattle.std.specs.Option.{option_map, option_map_or}
@@ -12,11 +12,12 @@ use Rattle.std.proofs.lemmas.Option.{none-some}
 use Rattle.flow_defs.specs.declared.task.ChannelId.{ChannelId}
 use Rattle.credit_reader.specs.declared.reader.Reader.{Reader}
 use Rattle.credit_reader.specs.declared.places.Found.{Found}
-use Rattle.credit_reader.specs.Readers.{can_send, is_due, KeepsRanges, Happening, Asked, Granted, Resumed, Ready, Sent, Announced, reader_next}
+use Rattle.credit_reader.specs.Readers.{can_send, is_due, KeepsRanges, Happening, reader_next}
 use Rattle.credit_reader.specs.Senders.{Sender, is_same, reader_of, is_able, after_at, queue_after, happened}
 use Rattle.credit_reader.specs.Places.{reader_at, channel_at, seen, HaveOwnChannels, IsQueue, IsFound, Fits, put_at, turned_at}
 use Rattle.credit_reader.specs.Laws.{ChangesOne}
-use Rattle.credit_reader.proofs.Queues.{nobody, sender, is_same_self, is_same_of, same_channel, is_other, own_place}
+use Rattle.credit_reader.proofs.Queues.{nobody, sender, own_place}
+use Rattle.credit_reader.proofs.Channels.{is_same_self, is_same_of, is_other, channel_stays, touched, reader_after, channels_after}
 
 -- ---- the first element that passes a test
 
@@ -59,34 +60,6 @@ module _ (rs : List Reader) (places : List ℕ) (capacity : ℕ) (queue : IsQueu
   }
 
 -- ---- what happens to one reader
-
-pub channel_stays : (r : Reader) (h : Happening) → (reader_next r h).channel ≡ r.channel
-channel_stays r (Asked n) = refl
-channel_stays r (Granted n) = refl
-channel_stays r Resumed = refl
-channel_stays r (Ready head backlog) = refl
-channel_stays r (Sent what head backlog) = refl
-channel_stays r Announced = refl
-
--- a reader after what happens to that of a channel
-abbrev pub touched : ChannelId → Happening → Reader → Reader
-touched c h r = cond (is_same r.channel c) (reader_next r h) r
-
-touched_channel : (c : ChannelId) (h : Happening) (r : Reader) → (touched c h r).channel ≡ r.channel
-touched_channel c h r = elim (is_same r.channel c) as (λ b. (cond b (reader_next r h) r).channel ≡ r.channel) [ true ↦ channel_stays r h | false ↦ refl ]
-
-pub reader_after : (c : ChannelId) (h : Happening) (d : ChannelId) (rs : List Reader) → reader_of d (after_at c h rs) ≡ option_map (λ r. cond (is_same d c) (reader_next r h) r) (reader_of d rs)
-reader_after c h d [] = refl
-reader_after c h d (r ∷ rs) =
-    ap (λ e. cond (is_same e d) (Some (touched c h r)) (reader_of d (after_at c h rs))) (touched_channel c h r)
-    ∙ (elim (is_same r.channel d) as (λ b. is_same r.channel d ≡ b → cond b (Some (touched c h r)) (reader_of d (after_at c h rs)) ≡ option_map (λ r. cond (is_same d c) (reader_next r h) r) (cond b (Some r) (reader_of d rs))) [
-      | true ↦ λ is. ap (λ e. Some (cond (is_same e c) (reader_next r h) r)) (same_channel _ _ is)
-      | false ↦ λ is. reader_after c h d rs
-    ] refl)
-
-channels_after : (c : ChannelId) (h : Happening) (rs : List Reader) → map (λ (r : Reader). r.channel) (after_at c h rs) ≡ map (λ (r : Reader). r.channel) rs
-channels_after c h [] = refl
-channels_after c h (r ∷ rs) = ap (λ e. e ∷ map (λ (r : Reader). r.channel) (after_at c h rs)) (touched_channel c h r) ∙ ap (λ es. r.channel ∷ es) (channels_after c h rs)
 
 pub changes_one : (c : ChannelId) (h : Happening) (rs : List Reader) → ChangesOne c h rs
 changes_one c h rs = record { each = λ d. reader_after c h d rs; channels = channels_after c h rs }

@@ -10,9 +10,8 @@ use Rattle.credit_reader.specs.declared.reader.SentKind.{SentKind}
 use Rattle.credit_reader.specs.Readers.{fresh, Happening, Sent, May, reader_next}
 use Rattle.credit_reader.specs.Senders.{Sender, is_same, reader_of, after_at, MayHappen, happened, has_sent}
 use Rattle.credit_reader.specs.Laws.{MayAll, after_all, AddsUp, History, after_history, of_channel, HasHistory}
-use Rattle.credit_reader.proofs.Queues.{same_channel}
-use Rattle.credit_reader.proofs.Finding.{reader_after}
 use Rattle.credit_reader.proofs.Adding.{adds_up}
+use Rattle.credit_reader.proofs.Channels.{same_channel, reader_after}
 
 -- ---- one more happening
 

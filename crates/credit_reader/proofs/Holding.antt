@@ -15,8 +15,9 @@ use Rattle.credit_reader.specs.Senders.{AreDistinct, is_same, reader_of, is_able
 use Rattle.credit_reader.specs.Places.{reader_at, channel_at, seen, IsQueue}
 use Rattle.credit_reader.specs.Laws.{HoldsEachOnce, FirstCanSend}
 use Rattle.credit_reader.proofs.Lists.{one_if, count, count_cons, count_first}
-use Rattle.credit_reader.proofs.Queues.{nobody, same_channel, same_test, there_within, there_can}
+use Rattle.credit_reader.proofs.Queues.{nobody, same_test, there_within, there_can}
 use Rattle.credit_reader.proofs.Finding.{find_from_position, find_nowhere, fails_all, reader_of_own}
+use Rattle.credit_reader.proofs.Channels.{same_channel}
 
 -- ---- a new queue
 

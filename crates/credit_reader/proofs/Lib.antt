@@ -1,4 +1,5 @@
 mod Lists
+pub mod Channels
 mod Queues
 mod Finding
 mod Holding

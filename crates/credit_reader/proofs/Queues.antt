@@ -1,7 +1,7 @@
 -- The queue of places, as a reader is put in another's place.
 use Rattle.std.proofs.Common.{◌≡◌, ℕ, ◌+◌, ◌<◌, ◌≤◌, Bool, true, false, not, cond, eqb, List, [], ◌∷◌, ◌++◌, length, drop, map, get_or, set, Some, None, refl, sym, ap, subst, ◌∙◌, arith, inl, inr}
 use Rattle.std.specs.Prelude.{All, filter, slice_get}
-use Rattle.std.proofs.lemmas.Bool.{eqb-true, eq-eqb, ne_eqb, cases_eq, cases_lt, cases_order, and_parts, and_from, false_from_ne_true, false≢true}
+use Rattle.std.proofs.lemmas.Bool.{eq-eqb, ne_eqb, cases_eq, cases_lt, cases_order, false≢true}
 use Rattle.std.proofs.lemmas.List.{get_or-set_same, get_or-set_other, get_or_default, get_or_past, length-set, length_push, map-append, append-nil}
 use Rattle.std.proofs.lemmas.Option.{none-some, same_Some}
 use Rattle.std.proofs.lemmas.List.Elements.{All-set}
@@ -13,31 +13,12 @@ use Rattle.credit_reader.specs.Senders.{Sender, is_same, queue_after}
 use Rattle.circular_buffer.specs.Buffer.{Buffer, buffer}
 use Rattle.credit_reader.specs.Places.{reader_at, channel_at, HaveOwnChannels, IsQueue, Fits, seen, put_at, turned_at, places_after}
 use Rattle.credit_reader.proofs.Lists.{one_if, count, without, count_cons, count_push, count_without_same, count_without_other, length_without, count_first}
-
--- ---- ids of channels
-
-abbrev id_of : ℕ → ℕ → ℕ → ChannelId
-id_of edge from to = record { edge = edge; from = from; to = to }
-
-pub is_same_self : (c : ChannelId) → is_same c c ≡ true
-is_same_self c = and_from _ _ (and_from _ _ (eq-eqb c.edge c.edge refl) (eq-eqb c.from c.from refl)) (eq-eqb c.to c.to refl)
-
-pub is_same_of : (c d : ChannelId) → c ≡ d → is_same c d ≡ true
-is_same_of c d is = subst (λ e. is_same c e ≡ true) is (is_same_self c)
-
-pub same_channel : (c d : ChannelId) → is_same c d ≡ true → c ≡ d
-same_channel c d test =
-    let parts = and_parts _ _ test in
-    let front = and_parts _ _ parts.0 in
-    ap (λ n. id_of n c.from c.to) (eqb-true _ _ front.0) ∙ ap (λ n. id_of d.edge n c.to) (eqb-true _ _ front.1) ∙ ap (λ n. id_of d.edge d.from n) (eqb-true _ _ parts.1)
-
-pub is_other : (c d : ChannelId) → (c ≡ d → ⊥) → is_same c d ≡ false
-is_other c d other = false_from_ne_true _ (λ test. other (same_channel c d test))
+use Rattle.credit_reader.proofs.Channels.{is_same_of, is_other}
 
 -- ---- the readers
 
 abbrev pub nobody : Reader
-nobody = fresh (id_of 0 0 0)
+nobody = fresh (record { edge = 0; from = 0; to = 0 })
 
 pub at_default : (rs : List Reader) (j : ℕ) (d : Reader) → j < length rs → get_or rs j d ≡ reader_at rs j
 at_default rs j d lt = get_or_default rs j d _ lt

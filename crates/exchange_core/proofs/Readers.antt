@@ -6,9 +6,10 @@ use Rattle.std.proofs.lemmas.List.FromFn.{get_or-map-range_with_len, length-map-
 use Rattle.credit_reader.specs.Readers.{fresh, Asked}
 use Rattle.credit_reader.specs.Senders.{Sender, AreDistinct, sender_of, is_same, reader_of, happened}
 use Rattle.credit_reader.specs.Answers.{request_answer}
+use Rattle.credit_reader.proofs.Channels.{is_same_self}
 use Rattle.exchange_world.specs.Lanes.{channel_id}
 use Rattle.exchange_world.specs.Worlds.{requested}
-use Rattle.exchange_world.proofs.LaneLemmas.{is_same_self, same_number, other_channel, reader_there}
+use Rattle.exchange_world.proofs.LaneLemmas.{same_number, other_channel, reader_there}
 
 pub ids_distinct : (n : ℕ) → AreDistinct (map channel_id (range_with_len 1 n))
 ids_distinct n i j d less within same =

@@ -13,12 +13,13 @@ use Rattle.credit_reader.specs.declared.reader.Reader.{Reader}
 use Rattle.credit_reader.specs.Readers.{Happening, Granted, Resumed, Announced, is_due, reader_next}
 use Rattle.credit_reader.specs.Senders.{is_same, reader_of, happened}
 use Rattle.credit_reader.specs.Answers.{due_first}
+use Rattle.credit_reader.proofs.Channels.{is_same_self, channels_after}
 use Rattle.script_text.specs.declared.event.Event.TheVariants as events
 use Rattle.exchange_world.specs.Lanes.{Lane, ITEMS_MAX, channel_id}
 use Rattle.exchange_world.specs.Worlds.{World, DataFrame, Announcement, ControlFrame, AddCredit, Resumption, lane_of, partition_limit}
 use Rattle.exchange_world.specs.Steps.{step, obeys, announces, number_of}
 use Rattle.exchange_world.specs.Sound.{responses, credit_coming, resumptions_coming, AreOfChannels, ControlsAreOfChannels, IsSoundLane, IsSound}
-use Rattle.exchange_world.proofs.LaneLemmas.{other_channel, is_same_self, reader_here, reader_there, channels_after, SoundOn, sound_on, is_sound_lane}
+use Rattle.exchange_world.proofs.LaneLemmas.{other_channel, reader_here, reader_there, SoundOn, sound_on, is_sound_lane}
 use Rattle.exchange_world.proofs.QueueLemmas.{happened_holds, no_cons, same_cons}
 use Rattle.exchange_world.proofs.WorldLemmas.{keeps_sound, responses-append, of_channels-append}
 

@@ -13,6 +13,7 @@ use Rattle.credit_reader.specs.declared.reader.Reader.{Reader}
 use Rattle.credit_reader.specs.Readers.{Happening, Granted, Resumed, Ready, Sent, Announced, reader_next, can_send, cost}
 use Rattle.credit_reader.specs.Senders.{is_same, reader_of, after_at, happened}
 use Rattle.credit_reader.specs.Answers.{due_first}
+use Rattle.credit_reader.proofs.Channels.{reader_after}
 use Rattle.input_channel.specs.Inboxes.{poll_gives}
 use Rattle.input_channel.specs.Counts.{told}
 use Rattle.input_channel.specs.declared.entry.ReceiveEntry.TheVariants as entries
@@ -24,7 +25,7 @@ use Rattle.exchange_world.specs.Worlds.{World, DataFrame, Response, Announcement
 use Rattle.exchange_world.specs.Steps.{step, buffers_of, with_items, puts, emits, number_of, sent_kind, sends_first, sends_of, announces, obeys, receives, delivers, polls_item, polls}
 use Rattle.exchange_world.specs.Theorems.{is_buffer, sent_in, granted_in, announced_in}
 use Rattle.exchange_world.specs.Sound.{IsSound, ControlsAreOfChannels, credit_coming}
-use Rattle.exchange_world.proofs.LaneLemmas.{other_channel, reader_after, reader_here, reader_there}
+use Rattle.exchange_world.proofs.LaneLemmas.{other_channel, reader_here, reader_there}
 use Rattle.exchange_world.proofs.QueueLemmas.{first_can_send, number_found}
 use Rattle.exchange_world.proofs.WorldLemmas.{credit_coming-append}
 use Rattle.exchange_world.proofs.SendingLemmas.{costs, can_send_parts}

@@ -8,12 +8,13 @@ use Rattle.flow_defs.specs.declared.task.ChannelId.{ChannelId}
 use Rattle.credit_reader.specs.declared.reader.Reader.{Reader}
 use Rattle.credit_reader.specs.Readers.{fresh, Asked, reader_next}
 use Rattle.credit_reader.specs.Senders.{Sender, sender_of, is_same, reader_of, happened}
+use Rattle.credit_reader.proofs.Channels.{is_same_self, channels_after}
 use Rattle.input_channel.specs.States.{opening}
 use Rattle.exchange_world.specs.Lanes.{Lane, BUFFERS_MAX, new_lane, channel_id, floating_here}
 use Rattle.exchange_world.specs.Worlds.{requested, opened, partition_limit}
 use Rattle.exchange_world.specs.Sound.{IsSoundInbox}
 use Rattle.exchange_world.specs.Laws.{OpenedIsSound}
-use Rattle.exchange_world.proofs.LaneLemmas.{other_channel, is_same_self, reader_here, reader_there, channels_after, SoundOn, is_sound_lane}
+use Rattle.exchange_world.proofs.LaneLemmas.{other_channel, reader_here, reader_there, SoundOn, is_sound_lane}
 use Rattle.exchange_world.proofs.QueueLemmas.{opened_holds}
 
 -- ---- the readers

@@ -16,6 +16,7 @@ use Rattle.flow_defs.specs.Items.{Items}
 use Rattle.credit_reader.specs.declared.reader.Reader.{Reader}
 use Rattle.credit_reader.specs.Readers.{Ready, reader_next}
 use Rattle.credit_reader.specs.Senders.{happened}
+use Rattle.credit_reader.proofs.Channels.{channels_after}
 use Rattle.script_text.specs.declared.event.Event.TheVariants as events
 use Rattle.script_text.specs.declared.reply.Reply.{Reply}
 use Rattle.script_text.specs.declared.reply.Reply.TheVariants as replies
@@ -24,7 +25,7 @@ use Rattle.exchange_world.specs.Lanes.{Lane, ITEMS_MAX, channel_id, backlog_in, 
 use Rattle.exchange_world.specs.Worlds.{World, lane_of, with_lane, partition_limit, partition_lent}
 use Rattle.exchange_world.specs.Steps.{step, pieces_within, pieces, buffers_of, with_items, puts, emits}
 use Rattle.exchange_world.specs.Sound.{responses, credit_coming, resumptions_coming, AreFit, IsSound}
-use Rattle.exchange_world.proofs.LaneLemmas.{other_channel, lane_put, lane_stays, lanes_stay, reader_here, reader_there, channels_after, SoundOn, sound_on, is_sound_lane}
+use Rattle.exchange_world.proofs.LaneLemmas.{other_channel, lane_put, lane_stays, lanes_stay, reader_here, reader_there, SoundOn, sound_on, is_sound_lane}
 use Rattle.exchange_world.proofs.QueueLemmas.{happened_holds}
 use Rattle.exchange_world.proofs.WorldLemmas.{keeps_sound, limit_stays, gate_limit_stays, gate_lent_stays}
 

@@ -15,9 +15,10 @@ use Rattle.credit_reader.specs.Readers.{fresh, may_go, can_send, Happening, Aske
 use Rattle.credit_reader.specs.Senders.{Sender, sender_of, is_same, reader_of, is_able, after_at, queue_after, happened, has_sent}
 use Rattle.credit_reader.specs.Answers.{due_first, announced}
 use Rattle.credit_reader.specs.Laws.{HoldsEachOnce, IsFirst, FirstCanSend}
+use Rattle.credit_reader.proofs.Channels.{is_same_self, is_same_of, same_channel}
 use Rattle.exchange_world.specs.Lanes.{channel_id}
 use Rattle.exchange_world.specs.Worlds.{requested}
-use Rattle.exchange_world.proofs.LaneLemmas.{is_same_self, is_same_of, same_channel, reader_there, channel_found}
+use Rattle.exchange_world.proofs.LaneLemmas.{reader_there, channel_found}
 
 abbrev one_if : Bool → ℕ
 one_if b = cond b 1 0

@@ -17,13 +17,14 @@ use Rattle.flow_defs.specs.Parcels.{is_data, barriers_of, has_end}
 use Rattle.credit_reader.specs.declared.reader.Reader.{Reader}
 use Rattle.credit_reader.specs.Readers.{Sent, reader_next, can_send, may_go, cost, blocks}
 use Rattle.credit_reader.specs.Senders.{reader_of}
+use Rattle.credit_reader.proofs.Channels.{channels_after}
 use Rattle.input_channel.specs.Legal.{inline_in}
 use Rattle.script_text.specs.declared.event.Event.TheVariants as events
 use Rattle.exchange_world.specs.Lanes.{Lane, ITEMS_MAX, channel_id, backlog_in, head_in}
 use Rattle.exchange_world.specs.Worlds.{World, DataFrame, Response, lane_of, partition_limit}
 use Rattle.exchange_world.specs.Steps.{step, number_of, sent_kind, sequence_of, sends_first, sends_of}
 use Rattle.exchange_world.specs.Sound.{responses, credit_coming, resumptions_coming, AreFit, AreNumbered, number_behind, IsSound}
-use Rattle.exchange_world.proofs.LaneLemmas.{other_channel, lane_put, lane_stays, lanes_stay, reader_here, reader_there, channels_after, SoundOn, sound_on, is_sound_lane}
+use Rattle.exchange_world.proofs.LaneLemmas.{other_channel, lane_put, lane_stays, lanes_stay, reader_here, reader_there, SoundOn, sound_on, is_sound_lane}
 use Rattle.exchange_world.proofs.QueueLemmas.{has_sent_holds, first_can_send, number_found}
 use Rattle.exchange_world.proofs.WorldLemmas.{keeps_sound, responses-append, of_channels-append, limit_stays, gate_limit_stays, gate_lent_stays}
 use Rattle.exchange_world.proofs.PuttingLemmas.{backlog_in-append, brought}

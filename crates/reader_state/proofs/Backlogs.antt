@@ -11,6 +11,7 @@ use Rattle.credit_reader.specs.declared.reader.Told.{Told}
 use Rattle.credit_reader.specs.Answers.{due_first, told_of}
 use Rattle.credit_reader.specs.Readers.{Happening, Asked, Granted, Resumed, Ready, Sent, Announced, reader_next, is_due}
 use Rattle.credit_reader.specs.Senders.{Sender, AreDistinct, is_same, reader_of, after_at}
+use Rattle.credit_reader.proofs.Channels.{reader_after}
 use Rattle.reader_state.specs.declared.entry.ReaderEntry.{ReaderEntry}
 use Rattle.reader_state.specs.declared.entry.ReaderEntry.TheVariants as entry
 use Rattle.reader_state.specs.Ledgers as ledgers
@@ -19,7 +20,7 @@ use Rattle.reader_state.specs.Standing.{told_last_from, told_last}
 use Rattle.reader_state.specs.Turning.{ReaderCell, ReaderPass, channels_in, ledger_after, IsOneOf, AnnouncedFirst, AnnouncesDue}
 use Rattle.reader_state.proofs.Histories.{eqb_comm}
 use Rattle.reader_state.proofs.Channels.{find_there, found_here}
-use Rattle.reader_state.proofs.Ledgers.{reader_after, told, told_stays, settled_keeps}
+use Rattle.reader_state.proofs.Ledgers.{told, told_stays, settled_keeps}
 use Rattle.reader_state.proofs.Numbering.{fresh_there}
 use Rattle.reader_state.proofs.Telling.{backlog_by}
 use Rattle.reader_state.proofs.Standing.{Entered, own_is, entered_ledger, due_is_one, legal_is}

@@ -9,13 +9,13 @@ use Rattle.flow_defs.specs.declared.cause.PeerFault.TheVariants as peer
 use Rattle.credit_reader.specs.declared.reader.Reader.{Reader}
 use Rattle.credit_reader.specs.Readers.{Granted}
 use Rattle.credit_reader.specs.Senders.{Sender, is_same, reader_of}
+use Rattle.credit_reader.proofs.Channels.{is_same_self}
 use Rattle.reader_state.specs.declared.state.Early.{Early}
 use Rattle.reader_state.specs.declared.state.Kept.{Kept}
 use Rattle.reader_state.specs.declared.entry.ReaderEntry.{ReaderEntry}
 use Rattle.reader_state.specs.Ledgers.{Ledger, early_of, with_early, with_reader, fitting, credit_given, is_requested, settled, ledger_next, MayEnter}
 use Rattle.reader_state.specs.Settling.{alone, put_at, IsEarlyKept, Took}
 use Rattle.reader_state.specs.Turning.{IsRefused}
-use Rattle.reader_state.proofs.Channels.{is_same_self}
 use Rattle.reader_state.proofs.Ledgers.{asked_credit}
 use Rattle.reader_state.proofs.Placing.{channel_of, no_early, only_at, touched_place}
 

@@ -1,31 +1,14 @@
 -- Items by their channels: what is found of one channel, after something was done to that of another or of the same.
-use Rattle.std.proofs.Common.{◌≡◌, ℕ, ◌<◌, Bool, true, false, cond, zero, suc, List, [], ◌∷◌, length, map, get_or, set, Option, Some, None, refl, sym, ap, subst, ◌∙◌, arith, inl, inr}
+use Rattle.std.proofs.Common.{◌≡◌, ℕ, ◌<◌, Bool, true, false, cond, zero, suc, List, [], ◌∷◌, length, map, get_or, set, Option, Some, None, refl, sym, ap, ◌∙◌, arith, inl, inr}
 use Rattle.std.specs.Prelude.{find, position, slice_get, ◌≢◌}
 use Rattle.std.specs.List.{AllPairs}
 use Rattle.std.specs.Option.{option_map}
-use Rattle.std.proofs.lemmas.Bool.{eqb-true, eq-eqb, and_parts, and_from, false_from_ne_true, cases_eq, cases_order, cond-true, cond-false}
+use Rattle.std.proofs.lemmas.Bool.{cases_eq, cases_order, cond-true, cond-false}
 use Rattle.std.proofs.lemmas.List.{get_or-map, get_or-set_same, get_or-set_other, length-map, length-set, ext_get_or, get_or_default}
 use Rattle.std.proofs.lemmas.Option.{none-some, slice_get-map}
 use Rattle.flow_defs.specs.declared.task.ChannelId.{ChannelId}
 use Rattle.credit_reader.specs.Senders.{is_same}
-
-abbrev id_of : ℕ → ℕ → ℕ → ChannelId
-id_of edge from to = record { edge = edge; from = from; to = to }
-
-pub is_same_self : (c : ChannelId) → is_same c c ≡ true
-is_same_self c = and_from _ _ (and_from _ _ (eq-eqb c.edge c.edge refl) (eq-eqb c.from c.from refl)) (eq-eqb c.to c.to refl)
-
-pub is_same_of : (c d : ChannelId) → c ≡ d → is_same c d ≡ true
-is_same_of c d is = subst (λ e. is_same c e ≡ true) is (is_same_self c)
-
-pub same_channel : (c d : ChannelId) → is_same c d ≡ true → c ≡ d
-same_channel c d test =
-    let parts = and_parts _ _ test in
-    let front = and_parts _ _ parts.0 in
-    ap (λ n. id_of n c.from c.to) (eqb-true _ _ front.0) ∙ ap (λ n. id_of d.edge n c.to) (eqb-true _ _ front.1) ∙ ap (λ n. id_of d.edge d.from n) (eqb-true _ _ parts.1)
-
-pub is_other : (c d : ChannelId) → (c ≡ d → ⊥) → is_same c d ≡ false
-is_other c d other = false_from_ne_true _ (λ test. other (same_channel c d test))
+use Rattle.credit_reader.proofs.Channels.{same_channel, is_other}
 
 -- what is found is there
 pub find_there : {X : Type 0} (p : X → Bool) (xs : List X) (x : X) → find p xs ≡ Some x → (k : ℕ) × (slice_get xs k ≡ Some x)
@@ -57,10 +40,6 @@ module _ {X : Type 0} (key : X → ChannelId) where
           | true ↦ λ is. ap (λ e. Some (cond (is_same e c) (f x) x)) (same_channel _ _ is)
           | false ↦ λ is. found_after d xs
         ] refl)
-
-    pub keys_after : (xs : List X) → map key (map (touched c f) xs) ≡ map key xs
-    keys_after [] = refl
-    keys_after (x ∷ xs) = ap (λ e. e ∷ map key (map (touched c f) xs)) (touched_key x) ∙ ap (λ es. key x ∷ es) (keys_after xs)
 
   -- what is found has the channel that was looked for
   pub found_key : (c : ChannelId) (xs : List X) (x : X) → found c xs ≡ Some x → key x ≡ c

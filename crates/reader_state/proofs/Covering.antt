@@ -14,6 +14,7 @@ use Rattle.credit_reader.specs.declared.reader.SentKind.{SentKind}
 use Rattle.credit_reader.specs.declared.reader.SentKind.TheVariants as kinds
 use Rattle.credit_reader.specs.Readers.{fresh, Happening, Asked, Granted, Resumed, Ready, Sent, Announced, reader_next, can_send, may_go, cost, blocks}
 use Rattle.credit_reader.specs.Senders.{Sender, is_same, is_able, has_sent, reader_of}
+use Rattle.credit_reader.proofs.Channels.{is_same_self, is_same_of, same_channel}
 use Rattle.reader_state.specs.declared.state.Early.{Early}
 use Rattle.reader_state.specs.declared.entry.ReaderEntry.{ReaderEntry}
 use Rattle.reader_state.specs.declared.entry.ReaderEntry.TheVariants as entry
@@ -27,7 +28,7 @@ use Rattle.reader_state.proofs.Ledgers.{channels_stay}
 use Rattle.reader_state.proofs.Waiting.{ledger_more}
 use Rattle.reader_state.proofs.Numbering.{fresh_there}
 use Rattle.reader_state.proofs.Opening.{fresh_names}
-use Rattle.reader_state.proofs.Channels.{is_same_self, is_same_of, same_channel, key_of_found}
+use Rattle.reader_state.proofs.Channels.{key_of_found}
 use Rattle.reader_state.proofs.Telling.{sent_on-append, credit_on-append, resumptions_on-append}
 use Rattle.reader_state.proofs.Queueing.{Queued, one_if, first_able, turned_other, entry_queued, opened_queued}
 use Rattle.reader_state.proofs.Parts.{reader_own, reader_other, early_own, early_other, settled_own, settled_other}

@@ -9,26 +9,12 @@ use Rattle.credit_reader.specs.declared.reader.SentKind.{SentKind}
 use Rattle.credit_reader.specs.Readers.{Happening, Asked, Granted, Resumed, Ready, Sent, Announced, reader_next}
 use Rattle.credit_reader.specs.Senders.{Sender, is_same, reader_of, after_at, happened, has_sent}
 use Rattle.credit_reader.specs.Answers.{due_first, announced}
+use Rattle.credit_reader.proofs.Channels.{reader_after, channels_after}
 use Rattle.reader_state.specs.declared.state.Early.{Early}
 use Rattle.reader_state.specs.declared.entry.ReaderEntry.{ReaderEntry}
 use Rattle.reader_state.specs.declared.entry.ReaderEntry.TheVariants as entry
 use Rattle.reader_state.specs.Ledgers as ledgers
 use Rattle.reader_state.specs.Ledgers.{Ledger, channels_of, early_of, with_early, with_reader, fitting, credit_given, may_resume, resumption_given, settled, is_requested}
-use Rattle.reader_state.proofs.Channels.{found_after, keys_after}
-
-pub channel_stays : (r : Reader) (h : Happening) → (reader_next r h).channel ≡ r.channel
-channel_stays r (Asked n) = refl
-channel_stays r (Granted n) = refl
-channel_stays r Resumed = refl
-channel_stays r (Ready head backlog) = refl
-channel_stays r (Sent what head backlog) = refl
-channel_stays r Announced = refl
-
-pub reader_after : (c : ChannelId) (h : Happening) (d : ChannelId) (rs : List Reader) → reader_of d (after_at c h rs) ≡ option_map (λ r. cond (is_same d c) (reader_next r h) r) (reader_of d rs)
-reader_after c h d rs = found_after (λ (r : Reader). r.channel) c (λ r. reader_next r h) (λ r. channel_stays r h) d rs
-
-pub channels_after : (c : ChannelId) (h : Happening) (rs : List Reader) → map (λ (r : Reader). r.channel) (after_at c h rs) ≡ map (λ (r : Reader). r.channel) rs
-channels_after c h rs = keys_after (λ (r : Reader). r.channel) c (λ r. reader_next r h) (λ r. channel_stays r h) rs
 
 -- the channels of readers
 abbrev pub names_of : Sender → List ChannelId

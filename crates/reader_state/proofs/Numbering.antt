@@ -9,14 +9,14 @@ use Rattle.credit_reader.specs.declared.reader.Reader.{Reader}
 use Rattle.credit_reader.specs.declared.reader.SentKind.{SentKind}
 use Rattle.credit_reader.specs.Readers.{fresh, Happening, Asked, Granted, Resumed, Ready, Sent, Announced, reader_next}
 use Rattle.credit_reader.specs.Senders.{is_same, reader_of, after_at}
+use Rattle.credit_reader.proofs.Channels.{is_same_self, is_same_of, same_channel, is_other, reader_after}
 use Rattle.reader_state.specs.declared.entry.ReaderEntry.{ReaderEntry}
 use Rattle.reader_state.specs.declared.entry.ReaderEntry.TheVariants as entry
 use Rattle.reader_state.specs.Ledgers as ledgers
 use Rattle.reader_state.specs.Ledgers.{Ledger, opened, after_all, replayed, settled}
 use Rattle.reader_state.specs.Standing.{sent_on}
 use Rattle.reader_state.specs.Turning.{IsOneOf}
-use Rattle.reader_state.proofs.Channels.{is_same_self, is_same_of, same_channel, is_other}
-use Rattle.reader_state.proofs.Ledgers.{reader_after, told, told_stays, told_other, settled_keeps}
+use Rattle.reader_state.proofs.Ledgers.{told, told_stays, told_other, settled_keeps}
 
 abbrev pub numbered : ChannelId → Ledger → Option ℕ
 numbered c l = told (λ r. r.sequence) c l.sender.readers

@@ -7,10 +7,10 @@ use Rattle.flow_defs.specs.declared.task.ChannelId.{ChannelId}
 use Rattle.credit_reader.specs.declared.reader.Reader.{Reader}
 use Rattle.credit_reader.specs.Readers.{Happening, Granted, Resumed, reader_next}
 use Rattle.credit_reader.specs.Senders.{Sender, is_same, reader_of, after_at}
+use Rattle.credit_reader.proofs.Channels.{is_same_self, reader_after}
 use Rattle.reader_state.specs.declared.state.Early.{Early}
 use Rattle.reader_state.specs.Ledgers.{Ledger, early_of, with_early, with_reader, fitting, credit_given, may_resume, resumption_given, settled}
-use Rattle.reader_state.proofs.Channels.{is_same_self, found_after}
-use Rattle.reader_state.proofs.Ledgers.{reader_after}
+use Rattle.reader_state.proofs.Channels.{found_after}
 use Rattle.reader_state.proofs.Placing.{channel_of}
 use Rattle.reader_state.proofs.Queueing.{one_if}
 

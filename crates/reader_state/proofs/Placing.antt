@@ -14,11 +14,12 @@ use Rattle.flow_defs.specs.declared.task.ChannelId.{ChannelId}
 use Rattle.credit_reader.specs.declared.reader.Reader.{Reader}
 use Rattle.credit_reader.specs.Readers.{Granted, Resumed}
 use Rattle.credit_reader.specs.Senders.{Sender, AreDistinct, is_same, reader_of, happened}
+use Rattle.credit_reader.proofs.Channels.{is_same_of, is_other, same_channel}
 use Rattle.reader_state.specs.declared.state.Early.{Early}
 use Rattle.reader_state.specs.declared.state.Kept.{Kept}
 use Rattle.reader_state.specs.Ledgers.{Ledger, early_of, none_early, with_early, with_reader, fitting, credit_given, may_resume, resumption_given, settled, is_requested}
 use Rattle.reader_state.specs.Settling.{alone, put_at, IsEarlyKept}
-use Rattle.reader_state.proofs.Channels.{is_same_of, is_other, same_channel, touched, found_of_key}
+use Rattle.reader_state.proofs.Channels.{touched, found_of_key}
 
 abbrev pub no_early : Early
 no_early = none_early (record { edge = 0; from = 0; to = 0 })

@@ -9,12 +9,11 @@ use Rattle.flow_defs.specs.declared.task.ChannelId.{ChannelId}
 use Rattle.credit_reader.specs.declared.reader.Reader.{Reader}
 use Rattle.credit_reader.specs.Readers.{fresh, Happening, Asked, Granted, Resumed, Ready, Sent, Announced, reader_next, can_send}
 use Rattle.credit_reader.specs.Senders.{Sender, is_same, is_able, reader_of, after_at, happened, has_sent, queue_after}
+use Rattle.credit_reader.proofs.Channels.{is_same_self, is_same_of, same_channel, is_other, reader_after}
 use Rattle.reader_state.specs.declared.entry.ReaderEntry.{ReaderEntry}
 use Rattle.reader_state.specs.declared.entry.ReaderEntry.TheVariants as entry
 use Rattle.reader_state.specs.Ledgers as ledgers
 use Rattle.reader_state.specs.Ledgers.{Ledger, MayEnter, with_early, with_reader, fitting, credit_given, may_resume, resumption_given, settled}
-use Rattle.reader_state.proofs.Channels.{is_same_self, is_same_of, same_channel, is_other}
-use Rattle.reader_state.proofs.Ledgers.{reader_after}
 
 abbrev pub one_if : Bool → ℕ
 one_if b = cond b 1 0

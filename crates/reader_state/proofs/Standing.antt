@@ -17,6 +17,7 @@ use Rattle.credit_reader.specs.Readers.{Happening, Granted, Resumed, Ready, Sent
 use Rattle.credit_reader.specs.declared.reader.Told.{Told}
 use Rattle.credit_reader.specs.Answers.{due_first, told_of}
 use Rattle.credit_reader.specs.Senders.{Sender, is_same, is_able, reader_of, after_at}
+use Rattle.credit_reader.proofs.Channels.{is_same_self, reader_after}
 use Rattle.reader_state.specs.declared.entry.ReaderEntry.{ReaderEntry}
 use Rattle.reader_state.specs.declared.entry.ReaderEntry.TheVariants as entry
 use Rattle.reader_state.specs.Ledgers as ledgers
@@ -24,8 +25,8 @@ use Rattle.reader_state.specs.Ledgers.{Ledger, MayEnter, channels_of, replayed}
 use Rattle.reader_state.specs.Standing.{LedgerStandsFor, may_make, MayEnterAs}
 use Rattle.reader_state.specs.Turning.{ReaderCell, ReaderPass, channels_in, IsOneOf, IsReaderPass, StandsIn, ledger_after, head_told, CanSend, HeadsStay, HeadsChange}
 use Rattle.reader_state.proofs.Histories.{history_more}
-use Rattle.reader_state.proofs.Channels.{is_same_self, find_there, found_of_key, key_of_found}
-use Rattle.reader_state.proofs.Ledgers.{reader_after, channels_stay, told, told_stays, told_other, settled_keeps}
+use Rattle.reader_state.proofs.Channels.{find_there, found_of_key, key_of_found}
+use Rattle.reader_state.proofs.Ledgers.{channels_stay, told, told_stays, told_other, settled_keeps}
 use Rattle.reader_state.proofs.Waiting.{Waited, waited, ledger_more, head_of_told}
 
 -- ---- one more entry

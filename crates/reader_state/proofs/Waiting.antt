@@ -13,6 +13,7 @@ use Rattle.turn_cell.specs.History.{by, entries_of, IsHistory, StartsWith}
 use Rattle.credit_reader.specs.declared.reader.Reader.{Reader}
 use Rattle.credit_reader.specs.Readers.{Happening, Asked, Granted, Resumed, reader_next, can_send, may_go}
 use Rattle.credit_reader.specs.Senders.{Sender, is_same, is_able, reader_of, after_at, happened, queue_after}
+use Rattle.credit_reader.proofs.Channels.{same_channel, reader_after}
 use Rattle.reader_state.specs.declared.entry.ReaderEntry.{ReaderEntry}
 use Rattle.reader_state.specs.declared.entry.ReaderEntry.TheVariants as entry
 use Rattle.reader_state.specs.Ledgers as ledgers
@@ -20,8 +21,7 @@ use Rattle.reader_state.specs.Ledgers.{Ledger, MayEnter, opened, after_all, repl
 use Rattle.reader_state.specs.Standing.{may_make, MayEnterAs}
 use Rattle.reader_state.specs.Turning.{ledger_after, head_told, CanSend, HeadsStay}
 use Rattle.reader_state.proofs.Histories.{eqb_comm, no_cons, entries_of-append, cancel_nil, by-cons, by-append}
-use Rattle.reader_state.proofs.Channels.{same_channel}
-use Rattle.reader_state.proofs.Ledgers.{reader_after, told, told_stays}
+use Rattle.reader_state.proofs.Ledgers.{told, told_stays}
 
 -- ---- senders that take nothing back
 

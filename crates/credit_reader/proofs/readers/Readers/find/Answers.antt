@@ -3,9 +3,10 @@ use Rattle.std.proofs.lemmas.List.{get_or_read}
 use Rattle.credit_reader.specs.declared.reader.Reader.{Reader}
 use Rattle.credit_reader.specs.Senders.{is_same, reader_of}
 use Rattle.credit_reader.specs.Places.{seen, IsFound}
-use Rattle.credit_reader.proofs.Queues.{nobody, same_channel}
+use Rattle.credit_reader.proofs.Queues.{nobody}
 use Rattle.credit_reader.proofs.Finding.{find_from_position, find_nowhere, is_found}
 use Rattle.credit_reader.proofs.readers.Readers.find.Goals as goal
+use Rattle.credit_reader.proofs.Channels.{same_channel}
 
 pub returns-in_err-place-clause-none : goal.returns-in_err-place-clause-none
 returns-in_err-place-clause-none c =

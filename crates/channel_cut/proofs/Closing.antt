@@ -3,12 +3,14 @@ use Rattle.std.proofs.Common.{◌≡◌, ◌+◌, ℕ, zero, suc, cond, List, []
 use Rattle.std.specs.Prelude.{flat_map, take}
 use Rattle.std.specs.List.{range_with_len}
 use Rattle.std.proofs.lemmas.Bool.{ne_eqb}
-use Rattle.std.proofs.lemmas.List.{map-append}
 use Rattle.turn_cell.specs.History.{by, entries_of, StartsWith}
+use Rattle.turn_cell.proofs.Lists.{starts_on}
+use Rattle.turn_cell.proofs.Histories.{entries_of-append}
 use Rattle.flow_defs.specs.declared.task.BarrierKind.{BarrierKind}
 use Rattle.flow_defs.specs.declared.parcel.Parcel.{Parcel}
 use Rattle.flow_defs.specs.declared.parcel.Parcel.TheVariants.{Data, Barrier, End}
 use Rattle.flow_defs.specs.Parcels.{barriers_of}
+use Rattle.flow_defs.proofs.Lists.{head_same, tail_same}
 use Rattle.plain_machine.specs.Images.{AreSpans}
 use Rattle.checkpoint_laws.specs.Puts as puts
 use Rattle.checkpoint_laws.specs.Puts.{stretches, onto_first}
@@ -40,25 +42,16 @@ by_place : (s j : ℕ) (ps : List Parcel) → map (λ (b : ℕ × BarrierKind). 
 by_place s j [] numbered = ap joined (sym (take-nil j))
 by_place s j (Data bytes ∷ ps) numbered = ap (λ z. bytes ++ z) (by_place s j ps numbered) ∙ sym (onto-joined bytes j (stretches ps))
 by_place s zero (Barrier i kind ∷ ps) numbered =
-    let here : i ≡ suc s = head_is i (suc s) (map (λ (b : ℕ × BarrierKind). b.0) (barriers_of ps)) (range_with_len (suc s + 1) (length (barriers_of ps))) numbered in
+    let here : i ≡ suc s = head_same i (suc s) (map (λ (b : ℕ × BarrierKind). b.0) (barriers_of ps)) (range_with_len (suc s + 1) (length (barriers_of ps))) numbered in
     ap (λ b. cond b [] (data_before (suc (s + 0)) ps)) (eq-eqb i (suc (s + 0)) (omega (arith, here)))
-  where
-    head_is : (x y : ℕ) (xs ys : List ℕ) → x ∷ xs ≡ y ∷ ys → x ≡ y
-    head_is x y xs ys e = cc
 by_place s (suc j) (Barrier i kind ∷ ps) numbered =
-    let here : i ≡ suc s = head_is i (suc s) (map (λ (b : ℕ × BarrierKind). b.0) (barriers_of ps)) (range_with_len (suc s + 1) (length (barriers_of ps))) numbered in
-    let later = tail_is i (suc s) (map (λ (b : ℕ × BarrierKind). b.0) (barriers_of ps)) (range_with_len (suc s + 1) (length (barriers_of ps))) numbered in
+    let here : i ≡ suc s = head_same i (suc s) (map (λ (b : ℕ × BarrierKind). b.0) (barriers_of ps)) (range_with_len (suc s + 1) (length (barriers_of ps))) numbered in
+    let later = tail_same i (suc s) (map (λ (b : ℕ × BarrierKind). b.0) (barriers_of ps)) (range_with_len (suc s + 1) (length (barriers_of ps))) numbered in
     let next : suc s + 1 ≡ suc (suc s) = omega arith in
     let number : suc (s + suc j) ≡ suc (suc s + j) = omega arith in
     ap (λ b. cond b [] (data_before (suc (s + suc j)) ps)) (ne_eqb i (suc (s + suc j)) (λ same. omega (arith, same, here)))
     ∙ ap (λ k. data_before k ps) number
     ∙ by_place (suc s) j ps (later ∙ ap (λ a. range_with_len a (length (barriers_of ps))) next)
-  where
-    head_is : (x y : ℕ) (xs ys : List ℕ) → x ∷ xs ≡ y ∷ ys → x ≡ y
-    head_is x y xs ys e = cc
-
-    tail_is : (x y : ℕ) (xs ys : List ℕ) → x ∷ xs ≡ y ∷ ys → xs ≡ ys
-    tail_is x y xs ys e = cc
 by_place s j (End ∷ ps) numbered = by_place s j ps numbered
 
 number_is_place : (ps : List Parcel) (k : ℕ) → map (λ (b : ℕ × BarrierKind). b.0) (barriers_of ps) ≡ range_with_len 1 (length (barriers_of ps)) → data_before (suc k) ps ≡ puts.put_before (suc k) ps
@@ -73,18 +66,12 @@ pub record Laws : Type 0 where
   pub entries : sending.EntriesAreHistory
   pub reader : receiving.ReaderTellsPushed
 
-entries-append : {E : Type 0} (xs ys : List (ℕ × E)) → entries_of (xs ++ ys) ≡ entries_of xs ++ entries_of ys
-entries-append xs ys = map-append (λ e. e.1) xs ys
-
-starts_on : {A : Type 0} (xs ys zs : List A) → StartsWith xs ys → StartsWith ys zs → StartsWith xs zs
-starts_on xs ys zs one two = (two.0 ++ one.0, one.1 ∙ ap (λ l. l ++ one.0) two.1 ∙ append_assoc zs two.0 one.0)
-
 pub settled_are_ends : Laws → SettledAreEnds
 settled_are_ends laws size sends takers takes pushers sender receiver carried =
     let sent = sender.history in
     let received = receiver.history in
     let grows : StartsWith (taken (entries_of sent)) (taken (entries_of takers)) =
-    subst (λ es. StartsWith (taken es) (taken (entries_of takers))) (sym (ap entries_of sender.later_loop.1 ∙ entries-append takers sender.later_loop.0)) (laws.grows (entries_of takers) (entries_of sender.later_loop.0)) in (
+    subst (λ es. StartsWith (taken es) (taken (entries_of takers))) (sym (ap entries_of sender.later_loop.1 ∙ entries_of-append takers sender.later_loop.0)) (laws.grows (entries_of takers) (entries_of sender.later_loop.0)) in (
       sent,
       received,
       record {
@@ -106,7 +93,7 @@ ends_are_cut laws size sends takes sent received flight k lines ends held record
     let numbered = laws.numbers size (entries_of sent) (laws.entries size sent ends.legal) in
     let put : put_before (suc k) (entries_of sent) ≡ puts.put_before (suc k) own =
     number_is_place (parcels_put (entries_of sent)) k numbered ∙ ap (puts.put_before (suc k)) (parcels_told size sent ends.legal ∙ ap parcels_put ends.all_put) in
-    let seen : entries_of received ≡ entries_of takes ++ entries_of ends.receiver.0 = ap entries_of ends.receiver.1 ∙ entries-append takes ends.receiver.0 in
+    let seen : entries_of received ≡ entries_of takes ++ entries_of ends.receiver.0 = ap entries_of ends.receiver.1 ∙ entries_of-append takes ends.receiver.0 in
     ap (λ z. flight ++ z) (sym put)
     ∙ cut_of_channel (entries_of sent) (entries_of received) flight (suc k) lines ends.begins held (subst AreSpans (sym put) records)
     (subst (λ es. Rattle.channel_cut.specs.Cuts.Shows flight es (InLine (suc k) lines)) (sym seen) (cuts_stay flight (entries_of takes) (entries_of ends.receiver.0) (InLine (suc k) lines) shown))

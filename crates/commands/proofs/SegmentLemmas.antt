@@ -20,6 +20,7 @@ use Rattle.flow_defs.specs.declared.job.Exchange.TheVariants.{Hash, Rebalance, F
 use Rattle.flow_defs.specs.declared.job.TheConstants.{TASKS_MAX}
 use Rattle.flow_defs.specs.Jobs.{segments_needed, sum_below, edge_width, exchange, tasks, last_edge, width}
 use Rattle.flow_defs.specs.Stages.{IsArgument, pieces}
+use Rattle.flow_defs.proofs.Lists.{head_same, tail_same}
 use Rattle.stage_fns.specs.Functions.{Functions}
 use Rattle.job_text.specs.JobText.{IsJobText, kind_word, exchange_word, agg_word, source_line, stage_line, aggregate_line}
 use Rattle.job_text.specs.JobFaults.{number_of, exchange_of}
@@ -126,22 +127,16 @@ record SaySame (xs ys : List Stage) (m n : ℕ) : Type 0 where
   tasks_too : (i : ℕ) → tasks_in xs m i ≡ tasks_in ys n i
   exchanges_too : (i : ℕ) → exchange_in xs i ≡ exchange_in ys i
 
-head_is : {A : Type 0} (x y : A) (xs ys : List A) → x ∷ xs ≡ y ∷ ys → x ≡ y
-head_is x y xs ys same = cc
-
-tail_is : {A : Type 0} (x y : A) (xs ys : List A) → x ∷ xs ≡ y ∷ ys → xs ≡ ys
-tail_is x y xs ys same = cc
-
 say_same : (xs ys : List Stage) (a b : AggKind) (m n : ℕ) → AreArguments xs → HaveTasks xs → HasTasks m → AreArguments ys → HaveTasks ys → HasTasks n
     → map stage_line xs ++ aggregate_line a m ∷ [] ≡ map stage_line ys ++ aggregate_line b n ∷ [] → SaySame xs ys m n
 say_same [] [] a b m n xa xt first ya yt second same =
-    let here = same_aggregate_tasks a b m n first second (head_is (aggregate_line a m) (aggregate_line b n) [] [] same) in
+    let here = same_aggregate_tasks a b m n first second (head_same (aggregate_line a m) (aggregate_line b n) [] [] same) in
     record { many = refl; tasks_too = λ i. here; exchanges_too = λ i. refl }
-say_same [] (t ∷ ys) a b m n xa xt first ya yt second same = absurd (no_stage t a m (sym (head_is (aggregate_line a m) (stage_line t) [] (map stage_line ys ++ aggregate_line b n ∷ []) same)))
-say_same (s ∷ xs) [] a b m n xa xt first ya yt second same = absurd (no_stage s b n (head_is (stage_line s) (aggregate_line b n) (map stage_line xs ++ aggregate_line a m ∷ []) [] same))
+say_same [] (t ∷ ys) a b m n xa xt first ya yt second same = absurd (no_stage t a m (sym (head_same (aggregate_line a m) (stage_line t) [] (map stage_line ys ++ aggregate_line b n ∷ []) same)))
+say_same (s ∷ xs) [] a b m n xa xt first ya yt second same = absurd (no_stage s b n (head_same (stage_line s) (aggregate_line b n) (map stage_line xs ++ aggregate_line a m ∷ []) [] same))
 say_same (s ∷ xs) (t ∷ ys) a b m n xa xt first ya yt second same =
-    let line : stage_line s ≡ stage_line t = head_is (stage_line s) (stage_line t) (map stage_line xs ++ aggregate_line a m ∷ []) (map stage_line ys ++ aggregate_line b n ∷ []) same in
-    let rest : SaySame xs ys m n = say_same xs ys a b m n xa.1 xt.1 first ya.1 yt.1 second (tail_is (stage_line s) (stage_line t) (map stage_line xs ++ aggregate_line a m ∷ []) (map stage_line ys ++ aggregate_line b n ∷ []) same) in
+    let line : stage_line s ≡ stage_line t = head_same (stage_line s) (stage_line t) (map stage_line xs ++ aggregate_line a m ∷ []) (map stage_line ys ++ aggregate_line b n ∷ []) same in
+    let rest : SaySame xs ys m n = say_same xs ys a b m n xa.1 xt.1 first ya.1 yt.1 second (tail_same (stage_line s) (stage_line t) (map stage_line xs ++ aggregate_line a m ∷ []) (map stage_line ys ++ aggregate_line b n ∷ []) same) in
     let many : s.tasks ≡ t.tasks = same_stage_tasks s t xa.0 xt.0 ya.0 yt.0 line in
     let by : s.exchange ≡ t.exchange = same_stage_exchange s t xa.0 xt.0 ya.0 yt.0 line in
     record { many = ap suc rest.many; tasks_too = tasks_here many rest; exchanges_too = exchanges_here by rest }

@@ -1,5 +1,5 @@
 -- Lists of messages that are added one after another, or of which a beginning was read.
-use Rattle.std.proofs.Common.{◌≡◌, ℕ, zero, suc, ◌+◌, ◌%◌, ◌^◌, ◌≤◌, Bool, List, [], ◌∷◌, ◌++◌, map, length, refl, sym, ap, ◌∙◌, arith, append_assoc, append-nil}
+use Rattle.std.proofs.Common.{◌≡◌, ℕ, zero, suc, ◌+◌, ◌%◌, ◌^◌, ◌≤◌, Bool, List, [], ◌∷◌, ◌++◌, map, length, refl, ap, ◌∙◌, arith, append-nil}
 use Rattle.std.specs.Prelude.{sum_by}
 use Rattle.std.proofs.lemmas.Grind.{flat_map-append}
 use Rattle.std.proofs.lemmas.List.{map-append}
@@ -98,12 +98,6 @@ length-counted first zero = refl
 length-counted first (suc n) = ap suc (length-counted (suc first) n)
 
 -- ---- beginnings
-
-pub starts_itself : {A : Type 0} (xs : List A) → StartsWith xs xs
-starts_itself xs = ([], sym (append-nil xs))
-
-pub starts_on : {A : Type 0} (xs ys zs : List A) → StartsWith xs ys → StartsWith ys zs → StartsWith xs zs
-starts_on xs ys zs a b = (b.0 ++ a.0, a.1 ∙ ap (λ l. l ++ a.0) b.1 ∙ append_assoc zs b.0 a.0)
 
 pub items_start : (c : ChannelId) (written read : List Message) → StartsWith written read → StartsWith (items_on c written) (items_on c read)
 items_start c written read front = (items_on c front.0, ap (items_on c) front.1 ∙ items-append c read front.0)

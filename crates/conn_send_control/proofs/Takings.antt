@@ -4,6 +4,7 @@ use Rattle.std.specs.Prelude.{sum_by}
 use Rattle.std.proofs.lemmas.List.Sums.{sum_by-append, sum_by-cons}
 use Rattle.flow_defs.proofs.ParcelLemmas.{end_stays}
 use Rattle.turn_cell.specs.History.{StartsWith, entries_of}
+use Rattle.turn_cell.proofs.Histories.{entries_of-append}
 use Rattle.flow_defs.specs.declared.parcel.Parcel.{Parcel}
 use Rattle.flow_defs.specs.declared.parcel.Parcel.TheVariants.{Data, Barrier, End}
 use Rattle.flow_defs.specs.Parcels.{has_end}
@@ -15,7 +16,6 @@ use Rattle.input_channel.specs.Legal.{may_receive, credit_of, credit_told, is_re
 use Rattle.input_channel.specs.States.{ChannelState, channel_next, ChannelStandsFor}
 use Rattle.input_channel.specs.Theorems.{CallsAreLegal, CallsAddEntries}
 use Rattle.input_channel.proofs.CountLemmas.{count-snoc}
-use Rattle.input_channel.proofs.HistoryLemmas.{entries_of-append}
 use Rattle.input_channel.proofs.InboxLaws.{pushed-append}
 use Rattle.conn_send_control.specs.Taking.{Took, HasSeenEnd}
 

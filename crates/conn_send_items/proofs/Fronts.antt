@@ -1,9 +1,8 @@
 -- What stands first on a channel, from one turn of its sender to the next.
-use Rattle.std.proofs.Common.{◌≡◌, ◌≢◌, ℕ, zero, suc, ◌+◌, ◌≤◌, true, false, cond, eqb, true≢false, List, [], ◌∷◌, ◌++◌, map, refl, sym, ap, subst, ◌∙◌, arith, eqb-true, eq-eqb, append_assoc, append-nil}
+use Rattle.std.proofs.Common.{◌≡◌, ◌≢◌, ℕ, zero, suc, ◌+◌, ◌≤◌, true, false, eqb, true≢false, List, [], ◌∷◌, ◌++◌, map, refl, sym, ap, subst, ◌∙◌, arith, eqb-true, eq-eqb, append_assoc, append-nil}
 use Rattle.std.specs.Prelude.{slice_get, Some, None, All}
-use Rattle.std.specs.List.{filter, range_with_len}
-use Rattle.std.proofs.lemmas.List.{map-append}
-use Rattle.std.proofs.lemmas.List.Elements.{All-get_or, filter-append}
+use Rattle.std.specs.List.{range_with_len}
+use Rattle.std.proofs.lemmas.List.Elements.{All-get_or}
 use Rattle.std.proofs.lemmas.Option.{same_Some}
 use Rattle.flow_defs.specs.declared.task.BarrierKind.{BarrierKind}
 use Rattle.flow_defs.specs.declared.task.BarrierKind.TheVariants.{Inline}
@@ -11,6 +10,7 @@ use Rattle.flow_defs.specs.declared.task.Head.TheVariants.{Nothing}
 use Rattle.flow_defs.specs.declared.parcel.Parcel.{Parcel}
 use Rattle.flow_defs.specs.declared.parcel.Parcel.TheVariants.{Data, Barrier, End}
 use Rattle.flow_defs.specs.Parcels.{barriers_of}
+use Rattle.flow_defs.proofs.Lists.{cancel_nil, head_same, tail_same, no_cons}
 use Rattle.turn_cell.specs.History.{by, StartsWith, IsHistory, entries_of}
 use Rattle.subpartition.specs.declared.entry.SendEntry.{SendEntry}
 use Rattle.subpartition.specs.declared.entry.SendEntry.TheVariants.{Put, PutInline, Finish, Take, Size}
@@ -20,37 +20,15 @@ use Rattle.subpartition.specs.Sending.{Outbox, take_first, sent_one, sent_from, 
 use Rattle.subpartition.specs.Queues.{Queue, HasLength, parcel_of, head_of}
 use Rattle.subpartition.specs.Standing.{QueueStandsFor}
 use Rattle.subpartition.specs.Theorems.{EntriesAreHistory, BarriersAreNumbered, BarriersTravelInOrder}
-use Rattle.subpartition.proofs.Growing.{entries_of-append, cancel_nil}
 use Rattle.subpartition.proofs.Travelling.{sent_from-append}
 use Rattle.turn_cell.specs.Passes.{IsTurnOf, IsSamePass, seen}
+use Rattle.turn_cell.proofs.Histories.{entries_of-append}
+use Rattle.turn_cell.proofs.Lists.{by-append, first_apart}
 use Rattle.subpartition.specs.Queues as queues
 use Rattle.conn_send_items.specs.Fronts.{SendCell, SendPass, IsSender, left_after, first_of, front_after, FrontStays, backlog_of, backlog_after, behind_first, behind_one, behind_from, behind_taken, behind_in, taken_in, NoneTaken, OneTaken}
 use Rattle.conn_send_items.specs.Items.{IsNumbered}
 
 -- ---- the entries of others
-
-by-append : {E : Type 0} (m : ℕ) (xs ys : List (ℕ × E)) → by m (xs ++ ys) ≡ by m xs ++ by m ys
-by-append {E} m xs ys =
-    ap (map (λ (e : ℕ × E). e.1)) (filter-append (λ (e : ℕ × E). eqb m e.0) xs ys)
-    ∙ map-append (λ (e : ℕ × E). e.1) (filter (λ e. eqb m e.0) xs) (filter (λ e. eqb m e.0) ys)
-
-by-cons : (m : ℕ) (pair : ℕ × SendEntry) (pairs : List (ℕ × SendEntry)) → by m (pair ∷ pairs) ≡ cond (eqb m pair.0) (pair.1 ∷ by m pairs) (by m pairs)
-by-cons m pair pairs =
-    elim (eqb m pair.0) as (λ b. map (λ (e : ℕ × SendEntry). e.1) (cond b (pair ∷ filter (λ e. eqb m e.0) pairs) (filter (λ e. eqb m e.0) pairs)) ≡ cond b (pair.1 ∷ by m pairs) (by m pairs)) [
-      | true ↦ refl
-      | false ↦ refl
-    ]
-
-not_empty : {E : Type 0} (x : E) (xs : List E) → x ∷ xs ≡ [] → ⊥
-not_empty x xs e = cc
-
--- None of these entries is one of the sender's.
-first_apart : (pair : ℕ × SendEntry) (pairs : List (ℕ × SendEntry)) → by 1 (pair ∷ pairs) ≡ [] → (eqb 1 pair.0 ≡ false) × (by 1 pairs ≡ [])
-first_apart pair pairs none =
-    elim (eqb 1 pair.0) as (λ b. cond b (pair.1 ∷ by 1 pairs) (by 1 pairs) ≡ [] → (b ≡ false) × (by 1 pairs ≡ [])) [
-      | true ↦ λ e. absurd (not_empty pair.1 (by 1 pairs) e)
-      | false ↦ λ e. (refl, e)
-    ] (sym (by-cons 1 pair pairs) ∙ none)
 
 -- One that is not the sender's adds behind what is left, or nothing.
 adds : (n : ℕ) (o : Outbox) (e : SendEntry) → may_send n e ≡ true → eqb 1 n ≡ false → (more : List Parcel) × ((sent_one o e).items ≡ o.items ++ more)
@@ -64,7 +42,7 @@ behind : (size : ℕ) (front : List (ℕ × SendEntry)) (o : Outbox) (rest : Lis
     (more : List Parcel) × ((sent_from o (entries_of rest)).items ≡ o.items ++ more)
 behind size front o [] legal none = ([], sym (append-nil o.items))
 behind size front o (pair ∷ rest) legal none =
-    let apart = first_apart pair rest none in
+    let apart = first_apart 1 pair rest none in
     let step = adds pair.0 o pair.1 (legal front rest pair refl).0 apart.0 in
     let more = behind size (front ++ pair ∷ []) (sent_one o pair.1) rest (subst (IsHistory (MaySendAs size)) (sym (append_assoc front (pair ∷ []) rest)) legal) apart.1 in
     (step.0 ++ more.0, more.1 ∙ ap (λ l. l ++ more.0) step.1 ∙ append_assoc o.items step.0 more.0)
@@ -124,14 +102,8 @@ head_taken (y ∷ items) x is = ap (λ i. head_of (i ∷ [])) (sym (same_Some y 
 -- ---- numbers of barriers
 
 first_number : (k m n : ℕ) (rest : List ℕ) → k ∷ rest ≡ range_with_len m n → (k ≡ m) × ((o : ℕ) × (rest ≡ range_with_len (m + 1) o))
-first_number k m zero rest e = absurd (not_empty k rest e)
+first_number k m zero rest e = absurd (no_cons k rest e)
 first_number k m (suc n) rest e = (head_same k m rest (range_with_len (m + 1) n) e, (n, tail_same k m rest (range_with_len (m + 1) n) e))
-  where
-    head_same : (x y : ℕ) (xs ys : List ℕ) → x ∷ xs ≡ y ∷ ys → x ≡ y
-    head_same x y xs ys e = cc
-
-    tail_same : (x y : ℕ) (xs ys : List ℕ) → x ∷ xs ≡ y ∷ ys → xs ≡ ys
-    tail_same x y xs ys e = cc
 
 above : (front : List Parcel) (k : ℕ) (kind : BarrierKind) (rest : List Parcel) (m n : ℕ) → numbers_of (barriers_of (front ++ Barrier k kind ∷ rest)) ≡ range_with_len m n → m ≤ k
 above [] k kind rest m n e = let f = first_number k m n (numbers_of (barriers_of rest)) e in omega (arith, f.0)
@@ -191,7 +163,7 @@ takes_none n o (Size size) may apart = refl
 none_behind : (size : ℕ) (front : List (ℕ × SendEntry)) (o : Outbox) (rest : List (ℕ × SendEntry)) → IsHistory (MaySendAs size) (front ++ rest) → by 1 rest ≡ [] → behind_from o (entries_of rest) ≡ []
 none_behind size front o [] legal none = refl
 none_behind size front o (pair ∷ rest) legal none =
-    let apart = first_apart pair rest none in
+    let apart = first_apart 1 pair rest none in
     ap (λ l. l ++ behind_from (sent_one o pair.1) (entries_of rest)) (takes_none pair.0 o pair.1 (legal front rest pair refl).0 apart.0)
     ∙ none_behind size (front ++ pair ∷ []) (sent_one o pair.1) rest (subst (IsHistory (MaySendAs size)) (sym (append_assoc front (pair ∷ []) rest)) legal) apart.1
 

@@ -4,6 +4,7 @@ use Rattle.std.specs.Prelude.{All, Option, Ok, Err}
 use Rattle.std.proofs.lemmas.Grind.{flat_map-append}
 use Rattle.std.proofs.lemmas.List.Elements.{All-nil, All-append, All-weaker}
 use Rattle.turn_cell.specs.History.{StartsWith}
+use Rattle.turn_cell.proofs.Lists.{starts_itself, starts_on}
 use Rattle.subpartition.specs.declared.entry.SendEntry.{SendEntry}
 use Rattle.std.proofs.lemmas.Bool.{cases_eq}
 use Rattle.std.proofs.lemmas.List.{map-append, length-map}
@@ -81,15 +82,9 @@ announcements-append c xs ys = flat_map-append (announced_in c) xs ys
 
 -- ---- histories that grow
 
-pub grows_then : {X : Type 0} (a b c : List X) → StartsWith b a → StartsWith c b → StartsWith c a
-grows_then a b c first second = (first.0 ++ second.0, second.1 ∙ ap (λ l. l ++ second.0) first.1 ∙ append_assoc a first.0 second.0)
-
-pub grows_not : {X : Type 0} (a : List X) → StartsWith a a
-grows_not a = ([], sym (append-nil a))
-
 -- What stood there at a turn did so in a longer history.
 pub stood_more : (a b : List (ℕ × SendEntry)) → StartsWith b a → (n : ℕ) → StoodIn a n → StoodIn b n
-stood_more a b grows n stood = (stood.0, grows_then stood.0 a b stood.1 grows, stood.2)
+stood_more a b grows n stood = (stood.0, starts_on b a stood.0 grows stood.1, stood.2)
 
 -- ---- ends
 
@@ -119,7 +114,7 @@ module _ (channels : List ChannelId) where
     told = λ c. told c ∙ sym (append-nil (sent_on c own));
     grows = λ k. elim (cases_eq k place) [
       | inl is ↦ subst (λ j. StartsWith (seen_at j after) (seen_at j before)) (sym is) here.grows
-      | inr ne ↦ subst (λ h. StartsWith h (seen_at k before)) (sym (others k ne)) (grows_not (seen_at k before))
+      | inr ne ↦ subst (λ h. StartsWith h (seen_at k before)) (sym (others k ne)) (starts_itself (seen_at k before))
     ];
     behind = λ k c at. elim (cases_eq k place) [
       | inl is ↦ ap (λ j. behind_in (seen_at j after)) is ∙ here.behind ∙ ap (λ j. behind_in (seen_at j before)) (sym is) ∙ sym (append-nil (behind_in (seen_at k before)))
@@ -135,7 +130,7 @@ module _ (channels : List ChannelId) where
     took = λ k c at. sym (append-nil (taken_in (seen_at k passes)));
     numbers = λ c. refl;
     told = λ c. told c ∙ sym (append-nil (sent_on c own));
-    grows = λ k. grows_not (seen_at k passes);
+    grows = λ k. starts_itself (seen_at k passes);
     behind = λ k c at. sym (append-nil (behind_in (seen_at k passes)));
     announced = λ c. announced c ∙ sym (append-nil (announced_on c own));
     stood = λ k c at. All-nil (StoodIn (seen_at k passes));
@@ -158,7 +153,7 @@ module _ (channels : List ChannelId) where
         ∙ ap (counted (length (sent_on d l))) (sym (length-append (items_on d xs) (items_on d ys)) ∙ ap length (sym (items-append d xs ys)));
     told = λ d. q.told d ∙ ap (λ z. z ++ map sent_kind (items_on d ys)) (p.told d) ∙ append_assoc (sent_on d l) (map sent_kind (items_on d xs)) (map sent_kind (items_on d ys))
         ∙ ap (λ z. sent_on d l ++ z) (sym (map-append sent_kind (items_on d xs) (items_on d ys)) ∙ ap (map sent_kind) (sym (items-append d xs ys)));
-    grows = λ k. grows_then (seen_at k a) (seen_at k b) (seen_at k c) (p.grows k) (q.grows k);
+    grows = λ k. starts_on (seen_at k c) (seen_at k b) (seen_at k a) (q.grows k) (p.grows k);
     behind = λ k d at. q.behind k d at ∙ ap (λ z. z ++ backlogs_on d ys) (p.behind k d at) ∙ append_assoc (behind_in (seen_at k a)) (backlogs_on d xs) (backlogs_on d ys)
         ∙ ap (λ z. behind_in (seen_at k a) ++ z) (sym (backlogs-append d xs ys));
     announced = λ d. q.announced d ∙ ap (λ z. z ++ announcements_on d ys) (p.announced d) ∙ append_assoc (announced_on d l) (announcements_on d xs) (announcements_on d ys)

@@ -20,6 +20,7 @@ use Rattle.reader_state.specs.declared.entry.ReaderEntry.{ReaderEntry}
 use Rattle.reader_state.specs.declared.entry.ReaderEntry.TheVariants.{Sent, Told}
 use Rattle.reader_state.specs.Standing.{sent_on, told_last, announced_from, announced_on}
 use Rattle.turn_cell.specs.History.{StartsWith}
+use Rattle.turn_cell.proofs.Lists.{starts_itself}
 use Rattle.std.proofs.lemmas.List.Elements.{All-nil, All-cons}
 use Rattle.conn_parts.specs.Shares.{seen_at}
 use Rattle.conn_parts.specs.Messages.{parcel_with, items_on, sequences_on, counted}
@@ -28,7 +29,7 @@ use Rattle.conn_send_items.specs.Items.{arrival_of, content_of, response, announ
 use Rattle.conn_send_items.specs.Sending.{sent_kind}
 use Rattle.conn_send_items.specs.Steps.{Sends, Ends, EndsWith, Lays}
 use Rattle.conn_send_items.proofs.Standing.{apart_at, one_at}
-use Rattle.conn_send_items.proofs.Saying.{sent_on-append, announced_more, grows_not}
+use Rattle.conn_send_items.proofs.Saying.{sent_on-append, announced_more}
 
 -- ---- what a response brings
 
@@ -89,7 +90,7 @@ module _ (channels : List ChannelId) (distinct : AreDistinct channels) (place : 
         ]) ∙ ap (map sent_kind) (sym (one_item d c s b item)));
     grows = λ k. elim (cases_eq k place) [
       | inl is ↦ subst (λ j. StartsWith (seen_at j after) (seen_at j before)) (sym is) took.grows
-      | inr ne ↦ subst (λ h. StartsWith h (seen_at k before)) (sym (others k ne)) (grows_not (seen_at k before))
+      | inr ne ↦ subst (λ h. StartsWith h (seen_at k before)) (sym (others k ne)) (starts_itself (seen_at k before))
     ];
     behind = λ k d at. elim (cases_eq k place) [
       | inl is ↦
@@ -158,12 +159,12 @@ lays_told channels passes own own_after flags out out_after c b told own_is told
       took = λ k d at. sym (append-nil (taken_in (seen_at k passes)));
       numbers = λ d. refl;
       told = λ d. told d ∙ sym (append-nil (sent_on d own));
-      grows = λ k. grows_not (seen_at k passes);
+      grows = λ k. starts_itself (seen_at k passes);
       behind = λ k d at. sym (append-nil (behind_in (seen_at k passes)));
       announced = λ d. announced_more d own own_after (Told c) own_is ∙ ap (λ l. announced_on d own ++ l) (tells d);
       stood = λ k d at. elim (is_same c d) as (λ q. is_same c d ≡ q → All (StoodIn (seen_at k passes)) (cond q (b ∷ []) [] ++ [])) [
         | true ↦ λ same. All-cons (StoodIn (seen_at k passes)) b []
-            (seen_at k passes, grows_not (seen_at k passes), sym (stands k d at) ∙ ap (λ e. told_last e own) (sym (same_channel c d same)) ∙ told_is) (All-nil (StoodIn (seen_at k passes)))
+            (seen_at k passes, starts_itself (seen_at k passes), sym (stands k d at) ∙ ap (λ e. told_last e own) (sym (same_channel c d same)) ∙ told_is) (All-nil (StoodIn (seen_at k passes)))
         | false ↦ λ other. All-nil (StoodIn (seen_at k passes))
       ] refl;
     };

@@ -14,9 +14,9 @@ use Rattle.flow_defs.specs.declared.parcel.Parcel.{Parcel}
 use Rattle.flow_defs.specs.declared.parcel.Parcel.TheVariants.{Data, Barrier, End}
 use Rattle.flow_defs.specs.Parcels.{data_of}
 use Rattle.flow_defs.specs.Records.{length_bytes, IsShort, encoded, all_encoded, first_record, spans_within, spans}
+use Rattle.flow_defs.proofs.Lists.{no_cons}
 use Rattle.exchange_world.specs.Lanes.{records_in, behind_records}
 use Rattle.exchange_world.specs.Steps.{pieces_within, pieces}
-use Rattle.exchange_world.proofs.QueueLemmas.{no_cons}
 use Rattle.exchange_world.proofs.PuttingLemmas.{length_bytes-length}
 
 -- ---- laid end to end

@@ -9,6 +9,7 @@ use Rattle.std.proofs.lemmas.Bool.{eq-eqb, ne_eqb, cond-true, cond-false}
 use Rattle.std.proofs.lemmas.List.{append-nil}
 use Rattle.std.proofs.lemmas.Option.{none-some, same_Some}
 use Rattle.flow_defs.specs.declared.parcel.Parcel.{Parcel}
+use Rattle.flow_defs.proofs.Lists.{no_cons}
 use Rattle.credit_reader.specs.declared.reader.Reader.{Reader}
 use Rattle.credit_reader.specs.Readers.{Happening, Granted, Resumed, Announced, is_due, reader_next}
 use Rattle.credit_reader.specs.Senders.{is_same, reader_of, happened}
@@ -20,7 +21,7 @@ use Rattle.exchange_world.specs.Worlds.{World, DataFrame, Announcement, ControlF
 use Rattle.exchange_world.specs.Steps.{step, obeys, announces, number_of}
 use Rattle.exchange_world.specs.Sound.{responses, credit_coming, resumptions_coming, AreOfChannels, ControlsAreOfChannels, IsSoundLane, IsSound}
 use Rattle.exchange_world.proofs.LaneLemmas.{other_channel, reader_here, reader_there, SoundOn, sound_on, is_sound_lane}
-use Rattle.exchange_world.proofs.QueueLemmas.{happened_holds, no_cons, same_cons}
+use Rattle.exchange_world.proofs.QueueLemmas.{happened_holds, same_cons}
 use Rattle.exchange_world.proofs.WorldLemmas.{keeps_sound, responses-append, of_channels-append}
 
 -- ---- a world in which something has happened to one reader, and nothing else but its frames changed

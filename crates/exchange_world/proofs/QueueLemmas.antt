@@ -9,6 +9,7 @@ use Rattle.std.proofs.lemmas.Option.{none-some, same_Some}
 use Rattle.flow_defs.specs.declared.task.ChannelId.{ChannelId}
 use Rattle.flow_defs.specs.declared.task.Head.{Head}
 use Rattle.flow_defs.specs.declared.task.Head.TheVariants.{Buffer}
+use Rattle.flow_defs.proofs.Lists.{no_cons}
 use Rattle.credit_reader.specs.declared.reader.Reader.{Reader}
 use Rattle.credit_reader.specs.declared.reader.SentKind.{SentKind}
 use Rattle.credit_reader.specs.Readers.{fresh, may_go, can_send, Happening, Asked, Announced, Sent}
@@ -150,9 +151,6 @@ pub has_first : (s : Sender) → HoldsEachOnce s → FirstCanSend s
 has_first s holds c first = has_first_at s c s.queue refl holds first
 
 -- ---- the channels of readers
-
-pub no_cons : {A : Type 0} (x : A) (xs : List A) → x ∷ xs ≡ [] → ⊥
-no_cons x xs e = cc
 
 pub same_cons : {A : Type 0} (x y : A) (xs ys : List A) → x ∷ xs ≡ y ∷ ys → (x ≡ y) × (xs ≡ ys)
 same_cons x y xs ys e = ((cc), (cc))

@@ -5,6 +5,7 @@ use Rattle.std.specs.List.{range_with_len}
 use Rattle.flow_defs.specs.declared.parcel.Parcel.{Parcel}
 use Rattle.flow_defs.specs.declared.parcel.Parcel.TheVariants.{Data, Barrier, End}
 use Rattle.flow_defs.specs.Parcels.{barriers_of, has_end}
+use Rattle.flow_defs.proofs.Lists.{no_cons, tail_same}
 use Rattle.credit_reader.specs.declared.reader.Reader.{Reader}
 use Rattle.input_channel.specs.declared.entry.Gave.TheVariants.{NoBuffer}
 use Rattle.input_channel.specs.declared.entry.ReceiveEntry.TheVariants.{Push, Poll, Backlog, Added, Credit, Ask, Resume}
@@ -21,12 +22,9 @@ use Rattle.exchange_world.proofs.ReceivingPolls.{TakesFirst, inbox_polled, inlin
 
 -- ---- the first that is on the way arrives
 
-not_empty : {A : Type 0} (x : A) (xs : List A) → x ∷ xs ≡ [] → ⊥
-not_empty x xs e = cc
-
 -- the end has not come where something is to come
 pub not_ended : (ended : Bool) (p : Parcel) (ps : List Parcel) → (ended ≡ true → p ∷ ps ≡ []) → ended ≡ false
-not_ended true p ps h = absurd (not_empty p ps (h refl))
+not_ended true p ps h = absurd (no_cons p ps (h refl))
 not_ended false p ps h = refl
 
 ended_last : (size : ℕ) (p : Parcel) (ps : List Parcel) → AreFit size (p ∷ ps) → has_end (p ∷ []) ≡ true → ps ≡ []
@@ -47,15 +45,12 @@ no_end_in End ps e = absurd (true≢false e)
 abbrev numbers_of : List Parcel → List ℕ
 numbers_of ps = map (λ b. b.0) (barriers_of ps)
 
-tails : (a b : ℕ) (xs ys : List ℕ) → a ∷ xs ≡ b ∷ ys → xs ≡ ys
-tails a b xs ys e = cc
-
 barriers_rest : (p : Parcel) (ps : List Parcel) (last : ℕ) → numbers_of (p ∷ ps) ≡ range_with_len (suc last) (length (barriers_of (p ∷ ps))) →
     numbers_of ps ≡ range_with_len (suc (last + length (barriers_of (p ∷ [])))) (length (barriers_of ps))
 barriers_rest (Data bytes) ps last e = subst (λ n. numbers_of ps ≡ range_with_len (suc n) (length (barriers_of ps))) (let z : last ≡ last + 0 = omega arith in z) e
 barriers_rest (Barrier k kind) ps last e =
     subst (λ n. numbers_of ps ≡ range_with_len n (length (barriers_of ps))) (let z : suc last + 1 ≡ suc (last + 1) = omega arith in z)
-    (tails k (suc last) (numbers_of ps) (range_with_len (suc last + 1) (length (barriers_of ps))) e)
+    (tail_same k (suc last) (numbers_of ps) (range_with_len (suc last + 1) (length (barriers_of ps))) e)
 barriers_rest End ps last e = subst (λ n. numbers_of ps ≡ range_with_len (suc n) (length (barriers_of ps))) (let z : last ≡ last + 0 = omega arith in z) e
 
 barriers_count : (p : Parcel) (ps : List Parcel) → length (barriers_of (p ∷ ps)) ≡ length (barriers_of (p ∷ [])) + length (barriers_of ps)

@@ -7,6 +7,7 @@ use Rattle.flow_defs.specs.declared.task.BarrierKind.TheVariants.{Inline, Front}
 use Rattle.flow_defs.specs.declared.parcel.Parcel.{Parcel}
 use Rattle.flow_defs.specs.declared.parcel.Parcel.TheVariants.{Data, Barrier, End}
 use Rattle.flow_defs.specs.Parcels.{barriers_of}
+use Rattle.flow_defs.proofs.Lists.{head_same}
 use Rattle.credit_reader.specs.declared.reader.Reader.{Reader}
 use Rattle.credit_reader.specs.declared.reader.TheConstants.{CREDIT_MAX}
 use Rattle.credit_reader.specs.declared.fault.CreditFault.TheVariants as credit_faults
@@ -28,16 +29,13 @@ use Rattle.exchange_world.proofs.ReceivingWays.{response_here}
 
 -- ---- data frames
 
-heads : (a b : ℕ) (xs ys : List ℕ) → a ∷ xs ≡ b ∷ ys → a ≡ b
-heads a b xs ys e = cc
-
 kind_taken : (size : ℕ) (inbox : ChannelState) (p : Parcel) (behind : List Parcel) → inbox.size ≡ size → AreFit size (p ∷ behind) → data_in p ≤ inbox.credit →
     map (λ b. b.0) (barriers_of (p ∷ behind)) ≡ range_with_len (suc inbox.last) (length (barriers_of (p ∷ behind))) → kind_refused inbox (kind_in p) (bytes_in (Some p)) ≡ None
 kind_taken size inbox (Data bytes) behind size_is fit paid barriers =
     ap (λ b. cond b (Some (OverCredit ((inbox.received + 1) % 2 ^ 64) inbox.announced)) (cond (ltb inbox.size (length bytes)) (Some (OverSize (length bytes) inbox.size)) None)) (ne_eqb inbox.credit 0 (λ none. omega (arith, paid, none)))
     ∙ ap (λ b. cond b (Some (OverSize (length bytes) inbox.size)) None) (le-ltb inbox.size (length bytes) (omega (arith, fit.1, size_is)))
 kind_taken size inbox (Barrier k Inline) behind size_is fit paid barriers =
-    ap (λ b. cond b None (Some (WrongBarrier (suc inbox.last % 2 ^ 64) k))) (eq-eqb k (suc inbox.last) (heads k (suc inbox.last) _ _ barriers))
+    ap (λ b. cond b None (Some (WrongBarrier (suc inbox.last % 2 ^ 64) k))) (eq-eqb k (suc inbox.last) (head_same k (suc inbox.last) _ _ barriers))
 kind_taken size inbox (Barrier k Front) behind size_is fit paid barriers = absurd fit
 kind_taken size inbox End behind size_is fit paid barriers = refl
 

@@ -7,6 +7,7 @@ use Rattle.std.proofs.lemmas.Bool.{false≢true}
 use Rattle.std.proofs.lemmas.Option.{none-some, same_Some}
 use Rattle.flow_defs.specs.declared.task.Head.{Head}
 use Rattle.flow_defs.specs.declared.parcel.Parcel.{Parcel}
+use Rattle.flow_defs.proofs.Lists.{no_cons}
 use Rattle.credit_reader.specs.declared.reader.Reader.{Reader}
 use Rattle.credit_reader.specs.Readers.{Sent, May, may_go, cost, is_due}
 use Rattle.credit_reader.specs.Senders.{reader_of}
@@ -14,7 +15,7 @@ use Rattle.exchange_world.specs.Lanes.{channel_id, head_in, backlog_in}
 use Rattle.exchange_world.specs.Worlds.{lane_of}
 use Rattle.exchange_world.specs.Steps.{number_of, sent_kind}
 use Rattle.exchange_world.specs.Laws.{SoundHasTurns, SoundNumbersReaders}
-use Rattle.exchange_world.proofs.QueueLemmas.{has_first, number_found, same_cons, no_cons}
+use Rattle.exchange_world.proofs.QueueLemmas.{has_first, number_found, same_cons}
 use Rattle.exchange_world.proofs.SendingLemmas.{can_send_parts, costs}
 
 -- where something may go there is an item

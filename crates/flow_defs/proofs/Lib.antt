@@ -1,3 +1,4 @@
+pub mod Lists
 pub mod JobLemmas
 pub mod LineLemmas
 pub mod PartLemmas

@@ -1,11 +1,18 @@
--- Numbers in digits, modulo 2^64.
-use Rattle.std.proofs.Common.{◌≡◌, ℕ, zero, suc, ◌+◌, ◌*◌, ◌-◌, ◌%◌, ◌^◌, ◌<◌, ◌≤◌, true, List, [], ◌∷◌, length, drop, get_or, refl, sym, ap, ◌∙◌, arith}
+-- Numbers that are compared, and numbers in digits, modulo 2^64.
+use Rattle.std.proofs.Common.{◌≡◌, ℕ, zero, suc, ◌+◌, ◌*◌, ◌-◌, ◌%◌, ◌^◌, ◌<◌, ◌≤◌, true, List, [], ◌∷◌, length, drop, get_or, refl, sym, ap, ◌∙◌, arith, eqb, eqb-true, eq-eqb, false}
 use Rattle.std.proofs.lemmas.Bool.Decides.{nat_tests}
+use Rattle.std.proofs.lemmas.Bool.{eqb-false, ne_eqb}
 use Rattle.std.specs.Prelude.{◌&&◌}
 use Rattle.std.specs.List.{list_all}
 use Rattle.std.specs.Str.Parse.{digits_value_after}
 use Rattle.std.specs.Char.{digit_value}
 use Rattle.flow_defs.specs.Aggregates.{is_digit}
+
+pub eqb_comm : (n m : ℕ) → eqb n m ≡ eqb m n
+eqb_comm n m = elim (eqb n m) as (λ b. eqb n m ≡ b → b ≡ eqb m n) [
+  | true ↦ λ h. sym (eq-eqb m n (sym (eqb-true n m h)))
+  | false ↦ λ h. sym (ne_eqb m n (λ e. eqb-false n m h (sym e)))
+] refl
 
 one_more : (m n d : ℕ) → m % 2 ^ 64 ≡ n % 2 ^ 64 → (m * 10 + d) % 2 ^ 64 ≡ (n * 10 + d) % 2 ^ 64
 one_more m n d same = omega (arith, same)

@@ -2,6 +2,7 @@
 use Rattle.std.proofs.Common.{◌≡◌, ℕ, Bool, true, false, true≢false, cond, List, [], ◌∷◌, ◌++◌, refl, sym, ap, subst, ◌∙◌, append-nil, ◌⊎◌, inl, inr}
 use Rattle.std.specs.Prelude.{◌&&◌, option_to_list, drop, None}
 use Rattle.turn_cell.specs.History.{IsHistory}
+use Rattle.turn_cell.proofs.Histories.{history_keeps}
 use Rattle.flow_defs.specs.declared.parcel.Parcel.{Parcel}
 use Rattle.flow_defs.specs.declared.parcel.Parcel.TheVariants.{Data, Barrier, End}
 use Rattle.flow_defs.specs.Parcels.{has_end}
@@ -10,7 +11,6 @@ use Rattle.input_channel.specs.declared.entry.ReceiveEntry.TheVariants.{Push, Po
 use Rattle.input_channel.specs.Inboxes.{front_waits, first_parcel, first_barrier, without_barrier, due, undue, is_barrier, poll_gives, poll_leaves, Waits, waiting, inbox, received_one, pushed}
 use Rattle.input_channel.specs.Legal.{MayReceive, MayPush}
 use Rattle.input_channel.specs.Theorems.{EndIsGivenLast}
-use Rattle.input_channel.proofs.HistoryLemmas.{history_keeps}
 use Rattle.input_channel.proofs.InboxLaws.{inbox-more, pushed-append, polled-given, polled-waiting, waiting-append}
 
 -- The end stands last, if at all.

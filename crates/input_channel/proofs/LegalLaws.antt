@@ -12,12 +12,13 @@ use Rattle.input_channel.specs.declared.entry.ReceiveEntry.TheVariants.{Push, Po
 use Rattle.input_channel.specs.Inboxes.{inbox, pushed, waiting, poll_gives}
 use Rattle.input_channel.specs.Counts.{Counts, free, with_data, with_exclusive, lets_go, told, exclusive_held, gave_by, Numbers, at_opening, numbers_one, numbers_from, numbers}
 use Rattle.turn_cell.specs.History.{IsHistory}
+use Rattle.turn_cell.proofs.Histories.{history_keeps}
 use Rattle.std.specs.List.{range_with_len}
 use Rattle.input_channel.specs.Legal.{MayReceive, polled_with, returned, gives_kind, returns_kind, credit_of, credit_told}
 use Rattle.input_channel.specs.Theorems.{CreditAgrees, ArrivalsAreNumbered, AnnouncedIsTold, ShutAnnouncesNothing}
 use Rattle.input_channel.proofs.CountLemmas.{count-cons, count-snoc}
 use Rattle.flow_defs.proofs.ParcelLemmas.{barriers_of-append}
-use Rattle.input_channel.proofs.HistoryLemmas.{history_keeps, count-next}
+use Rattle.flow_defs.proofs.Lists.{count-next}
 use Rattle.input_channel.proofs.InboxLaws.{pushed-append}
 
 -- ---- the numbers of barriers

@@ -3,7 +3,6 @@ pub mod EndLaws
 pub mod LineLemmas
 pub mod KeptLemmas
 pub mod PollLemmas
-pub mod HistoryLemmas
 pub mod InboxLaws
 pub mod LegalLaws
 pub mod StateLaws

@@ -1,21 +1,18 @@
 -- What the entries of each pass tell.
-use Rattle.std.proofs.Common.{◌≡◌, ℕ, ◌+◌, zero-add, Bool, true, false, cond, eqb, eqb-true, eq-eqb, List, [], ◌∷◌, map, refl, sym, ap, ◌∙◌, true≢false}
+use Rattle.std.proofs.Common.{◌≡◌, ℕ, ◌+◌, zero-add, Bool, true, false, cond, eqb, eqb-true, eq-eqb, List, [], ◌∷◌, refl, sym, ap, ◌∙◌, true≢false}
 use Rattle.turn_cell.specs.History.{by}
 use Rattle.input_channel.specs.declared.entry.ReceiveEntry.{ReceiveEntry}
 use Rattle.input_channel.specs.declared.entry.ReceiveEntry.TheVariants.{Push, Poll, Returned, Added, Backlog, Credit, Shut, Ask, Resume}
 use Rattle.input_channel.specs.Inboxes.{Inbox, inbox, empty_inbox, received_one, received_from, pushed}
 use Rattle.turn_cell.specs.History.{entries_of}
+use Rattle.turn_cell.proofs.Histories.{entries_of-append}
+use Rattle.turn_cell.proofs.Lists.{by-cons, first_apart}
 use Rattle.input_channel.specs.Legal.{may_receive, ReceivedByPasses, gives_kind, returns_kind, is_ask, credit_of, credit_told}
 use Rattle.std.specs.Prelude.{count_by}
 use Rattle.input_channel.proofs.CountLemmas.{count-cons}
 use Rattle.input_channel.specs.Theorems.{ReaderTellsPushed, GateTellsBuffers, GivenStays, WriterTellsCredit}
 use Rattle.std.proofs.lemmas.List.Sums.{sum_by-cons}
-use Rattle.input_channel.proofs.HistoryLemmas.{entries_of-append}
 use Rattle.input_channel.proofs.InboxLaws.{received_from-append}
-
--- the entries of a pass, one by one
-by-cons : (m n : ℕ) (e : ReceiveEntry) (pairs : List (ℕ × ReceiveEntry)) → by m ((n, e) ∷ pairs) ≡ cond (eqb m n) (e ∷ by m pairs) (by m pairs)
-by-cons m n e pairs = elim (eqb m n) as (λ b. map (λ (x : ℕ × ReceiveEntry). x.1) (cond b ((n, e) ∷ Rattle.std.specs.List.filter (λ (x : ℕ × ReceiveEntry). eqb m x.0) pairs) (Rattle.std.specs.List.filter (λ (x : ℕ × ReceiveEntry). eqb m x.0) pairs)) ≡ cond b (e ∷ by m pairs) (by m pairs)) [ true ↦ refl | false ↦ refl ]
 
 -- an entry that is no push adds nothing, whoever made it
 skips : (b : Bool) (e : ReceiveEntry) (es mine : List ReceiveEntry) → pushed (e ∷ []) ≡ [] → ((xs : List ReceiveEntry) → pushed (e ∷ xs) ≡ pushed xs) → pushed es ≡ pushed mine →
@@ -39,7 +36,7 @@ pub reader_tells_pushed : ReaderTellsPushed
 reader_tells_pushed [] passes = refl
 reader_tells_pushed (pair ∷ pairs) passes =
     pushed_one pair.0 pair.1 (entries_of pairs) (by 1 pairs) passes.0 (reader_tells_pushed pairs passes.1)
-    ∙ ap pushed (sym (by-cons 1 pair.0 pair.1 pairs))
+    ∙ ap pushed (sym (by-cons 1 pair pairs))
 
 -- ---- which buffers were given and came back
 
@@ -137,16 +134,6 @@ writer_tells_credit (pair ∷ pairs) passes =
 
 -- ---- what was given
 
-not_empty : (x : ReceiveEntry) (xs : List ReceiveEntry) → x ∷ xs ≡ [] → ⊥
-not_empty x xs e = cc
-
-first_apart : (m n : ℕ) (e : ReceiveEntry) (pairs : List (ℕ × ReceiveEntry)) → by m ((n, e) ∷ pairs) ≡ [] → (eqb m n ≡ false) × (by m pairs ≡ [])
-first_apart m n e pairs none =
-    elim (eqb m n) as (λ b. cond b (e ∷ by m pairs) (by m pairs) ≡ [] → (b ≡ false) × (by m pairs ≡ [])) [
-      | true ↦ λ h. absurd (not_empty e (by m pairs) h)
-      | false ↦ λ h. (refl, h)
-    ] (sym (by-cons m n e pairs) ∙ none)
-
 no_poll : (n : ℕ) (i : Inbox) (e : ReceiveEntry) → may_receive n e ≡ true → eqb 0 n ≡ false → (received_one i e).given ≡ i.given
 no_poll n i (Poll hold gave) may apart = absurd (true≢false (sym (eq-eqb 0 n (sym (eqb-true n 0 may))) ∙ apart))
 no_poll n i (Push p backlog) may apart = refl
@@ -161,7 +148,7 @@ no_poll n i Resume may apart = refl
 given_from : (i : Inbox) (more : List (ℕ × ReceiveEntry)) → ReceivedByPasses more → by 0 more ≡ [] → (received_from i (entries_of more)).given ≡ i.given
 given_from i [] passes none = refl
 given_from i (pair ∷ more) passes none =
-    let f = first_apart 0 pair.0 pair.1 more none in
+    let f = first_apart 0 pair more none in
     given_from (received_one i pair.1) more passes.1 f.1 ∙ no_poll pair.0 i pair.1 passes.0 f.0
 
 pub given_stays : GivenStays

@@ -10,14 +10,22 @@ use Rattle.input_channel.specs.declared.entry.ReceiveEntry.TheVariants.{Push, Po
 use Rattle.input_channel.specs.Inboxes.{Waits, waiting, Inbox, inbox, received_one, pushed, poll_gives, poll_leaves}
 use Rattle.input_channel.specs.Counts.{Counts, counts_one, told, wants, gave_by, data_in, exclusive_held, Numbers, numbers, numbers_one}
 use Rattle.turn_cell.specs.History.{IsHistory, entries_of}
+use Rattle.turn_cell.proofs.Histories.{history_nil, history_more, history_keeps, entries_of-append}
 use Rattle.input_channel.specs.Legal.{MayArrive, MayPush, MayReceive, MayReceiveAs, inline_in, is_ask, is_resume, asks, resumes, ReceivedByPasses}
 use Rattle.input_channel.specs.States.{ChannelState, channel_next, Keeps, AllowsPush, Allows}
 use Rattle.input_channel.specs.Theorems.{OpensEmpty, CallsAreLegal, CallsAddEntries, PollTells, ReturnFits, PassesAreKept, EntriesAreLegal}
 use Rattle.input_channel.proofs.CountLemmas.{count-snoc}
 use Rattle.flow_defs.proofs.ParcelLemmas.{barriers_of-append, end_behind}
-use Rattle.input_channel.proofs.HistoryLemmas.{history_nil, history_more, history_keeps, entries_of-append, mod_64, mod_32}
 use Rattle.input_channel.proofs.InboxLaws.{inbox-more, pushed-append, waiting-append, polled-waiting, polled-given, inline_in-append}
 use Rattle.input_channel.proofs.LegalLaws.{numbers-more, AreTwo, two_always}
+
+-- ---- sums that are reduced
+
+mod_64 : (a d : ℕ) → (a % 2 ^ 64 + d) % 2 ^ 64 ≡ (a + d) % 2 ^ 64
+mod_64 a d = omega arith
+
+mod_32 : (a d : ℕ) → (a % 2 ^ 32 + d) % 2 ^ 32 ≡ (a + d) % 2 ^ 32
+mod_32 a d = omega arith
 
 -- ---- what an entry adds
 

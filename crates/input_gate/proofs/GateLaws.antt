@@ -11,6 +11,7 @@ use Rattle.turn_cell.specs.Passes.{IsPassOf, opened_with, number, seen, mine}
 use Rattle.flow_defs.specs.Parcels.{data_of, has_end, barriers_of}
 use Rattle.flow_defs.specs.Records.{all_encoded, IsShort}
 use Rattle.flow_defs.specs.declared.cause.Cause.{Cause}
+use Rattle.flow_defs.proofs.Lists.{head_same, tail_same}
 use Rattle.conn_parts.specs.Shares.{AreOwn, AreNew, seen_at, mine_at}
 use Rattle.input_channel.specs.Legal.{polled_with, returned, asks, inline_in, adds}
 use Rattle.outside.specs.declared.stop.StopEntry.{StopEntry}
@@ -215,13 +216,7 @@ fresh_on (d ∷ cs) (q ∷ ps) (m ∷ ls) c p l fs f = (fs.0, fresh_on cs ps ls 
 next_taken : {T : Type 0} (xs left : List T) (i : ℕ) (x : T) → i < length xs → left ++ x ∷ [] ≡ reverse (drop i xs) → (get_or xs i x ≡ x) × (left ≡ reverse (drop (i + 1) xs))
 next_taken xs left i x low e =
     let is : get_or xs i x ∷ drop (i + 1) xs ≡ x ∷ reverse left = sym (drop_more xs i x low) ∙ sym (reverse-reverse (drop i xs)) ∙ ap reverse (sym e) ∙ reverse-append left (x ∷ []) in
-    (head (get_or xs i x) x (drop (i + 1) xs) (reverse left) is, sym (reverse-reverse left) ∙ ap reverse (sym (tail (get_or xs i x) x (drop (i + 1) xs) (reverse left) is)))
-  where
-    head : {T : Type 0} (x y : T) (xs ys : List T) → x ∷ xs ≡ y ∷ ys → x ≡ y
-    head x y xs ys e = cc
-
-    tail : {T : Type 0} (x y : T) (xs ys : List T) → x ∷ xs ≡ y ∷ ys → xs ≡ ys
-    tail x y xs ys e = cc
+    (head_same (get_or xs i x) x (drop (i + 1) xs) (reverse left) is, sym (reverse-reverse left) ∙ ap reverse (sym (tail_same (get_or xs i x) x (drop (i + 1) xs) (reverse left) is)))
 
 pub dealt : (cells : List InputCell) (passes left : List InputPass) (i : ℕ) (c : InputCell) (p : InputPass) (l : Lane) (ls : List Lane) → length passes ≡ length cells → i < length cells →
     left ++ p ∷ [] ≡ reverse (drop i passes) → IsFreshLane (get_or cells i c) p l → AreFreshLanes (take i cells) (take i passes) ls →

@@ -5,6 +5,7 @@ use Rattle.flow_defs.specs.Items.{Items}
 use mathlib.Core.Logic.{dite}
 use native.Mathlib.Decide.{ℕ_discrete}
 use Rattle.turn_cell.specs.History.{StartsWith}
+use Rattle.turn_cell.proofs.Lists.{starts_itself}
 use Rattle.flow_defs.specs.declared.task.BarrierKind.{BarrierKind}
 use Rattle.flow_defs.specs.declared.task.BarrierKind.TheVariants.{Inline, Front}
 use Rattle.flow_defs.specs.Records.{IsShort}
@@ -25,7 +26,6 @@ use Rattle.input_gate.specs.Lanes.{IsLane, IsQuiet, Gives, GivesBarrier, IsFault
 use Rattle.input_gate.specs.Channels.{AreLanes, AreQuiet, HaveNoSpare, account_of, at_of, cells_in, looks_in, IsMost, MayGive, CameAt, LookedAt, HasLooked, HaveNoSpareBelow, GaveUp, end_of}
 use Rattle.input_gate.proofs.Growing.{told-stops}
 use Rattle.input_gate.proofs.LaneLaws.{quiet_refl, quiet_then}
-use Rattle.input_gate.proofs.TurnLaws.{starts_refl}
 
 order : (m b : ℕ) → (m < b) ⊎ (b ≤ m)
 order zero zero = inr (omega arith)
@@ -351,7 +351,7 @@ pub most_on : (ls ms : List Lane) (most : ℕ) → AreQuiet ls ms → IsMost (ac
 most_on ls ms most q m = most_then (account_of ls) (account_of ms) most (same_of ls ms q) m
 
 pub looks_later : (ls ms : List Lane) → AreQuiet ls ms → (d : ℕ) → StartsWith (looks_in ms d).1 (looks_in ls d).1
-looks_later [] [] h d = starts_refl []
+looks_later [] [] h d = starts_itself []
 looks_later [] (m ∷ ms) h d = absurd h
 looks_later (l ∷ ls) [] h d = absurd h
 looks_later (l ∷ ls) (m ∷ ms) h zero = h.0.later.1

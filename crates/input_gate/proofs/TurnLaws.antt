@@ -1,10 +1,12 @@
 -- What a turn makes of the gate's pass.
 use Rattle.std.proofs.Common.{◌≡◌, ℕ, zero, suc, ◌+◌, ◌<◌, Bool, true, false, cond, eqb, eqb-true, eq-eqb, true≢false, drop, List, [], ◌∷◌, ◌++◌, map, length, Option, Some, None, refl, sym, ap, subst, ◌∙◌, append_assoc, append-nil, arith}
 use Rattle.std.specs.Prelude.{option_to_list, MatchBool, IsSome, ◌↔◌}
-use Rattle.std.specs.List.{filter, range_with_len}
+use Rattle.std.specs.List.{range_with_len}
 use Rattle.std.proofs.lemmas.List.{append_cancel_left}
 use Rattle.turn_cell.specs.History.{by, entries_of, StartsWith}
 use Rattle.turn_cell.specs.Passes.{IsSamePass, HasEntered, HasRested, HasSighted, number, seen, mine, sights}
+use Rattle.turn_cell.proofs.Histories.{entries_of-append}
+use Rattle.turn_cell.proofs.Lists.{by-append, first_apart, starts_on, starts_itself}
 use Rattle.flow_defs.specs.declared.parcel.Parcel.{Parcel}
 use Rattle.flow_defs.specs.declared.parcel.Parcel.TheVariants.{Data, Barrier, End}
 use Rattle.flow_defs.specs.declared.task.BarrierKind.{BarrierKind}
@@ -22,21 +24,12 @@ use Rattle.input_channel.specs.Inboxes.{inbox, Inbox, received_one, waiting, fro
 use Rattle.input_channel.specs.Legal.{may_receive, ReceivedByPasses, polled_with, returned, asks, inline_in}
 use Rattle.input_channel.specs.States.{ChannelState, ChannelStandsFor, Allows, channel_next}
 use Rattle.input_channel.specs.Theorems.{CallsAreLegal, CallsAddEntries, PassesAreKept, EntriesAreLegal, PollTells, GivenStays, GateTellsBuffers, BarriersComeInOrder, ArrivalsAreNumbered, AnswerIsGiven}
-use Rattle.input_channel.proofs.HistoryLemmas.{entries_of-append}
 use Rattle.input_channel.proofs.InboxLaws.{inbox-more}
 use Rattle.flow_defs.proofs.ParcelLemmas.{barriers_of-append}
 use Rattle.input_gate.specs.Segments.{freed_by}
 use Rattle.input_gate.specs.Turning.{InputPass, IsLater, given_in, given_to, looks_of, Fits, NoFront, Looked}
 
 -- ---- histories
-
-by-append : {E : Type 0} (k : ℕ) (xs ys : List (ℕ × E)) → by k (xs ++ ys) ≡ by k xs ++ by k ys
-by-append k [] ys = refl
-by-append k (x ∷ xs) ys =
-    elim (eqb k x.0) as (λ b. map (λ e. e.1) (cond b (x ∷ filter (λ e. eqb k e.0) (xs ++ ys)) (filter (λ e. eqb k e.0) (xs ++ ys))) ≡ map (λ e. e.1) (cond b (x ∷ filter (λ e. eqb k e.0) xs) (filter (λ e. eqb k e.0) xs)) ++ by k ys) [
-      | true ↦ ap (λ l. x.1 ∷ l) (by-append k xs ys)
-      | false ↦ by-append k xs ys
-    ]
 
 passes_behind : (xs ys : List (ℕ × ReceiveEntry)) → ReceivedByPasses (xs ++ ys) → ReceivedByPasses ys
 passes_behind [] ys h = h
@@ -48,17 +41,11 @@ starts_more before turn now x later is = (later.0 ++ x ∷ [], is ∙ ap (λ l. 
 pub starts_same : {A : Type 0} (before turn now : List A) → StartsWith turn before → now ≡ turn → StartsWith now before
 starts_same before turn now later is = (later.0, is ∙ later.1)
 
-pub starts_then : {A : Type 0} (xs ys zs : List A) → StartsWith ys xs → StartsWith zs ys → StartsWith zs xs
-starts_then xs ys zs h k = (h.0 ++ k.0, k.1 ∙ ap (λ l. l ++ k.0) h.1 ∙ append_assoc xs h.0 k.0)
-
-pub starts_refl : {A : Type 0} (xs : List A) → StartsWith xs xs
-starts_refl xs = ([], sym (append-nil xs))
-
 pub later_refl : (p : InputPass) → IsLater p p
-later_refl p = (starts_refl (seen p), starts_refl (sights p))
+later_refl p = (starts_itself (seen p), starts_itself (sights p))
 
 pub later_then : (p q r : InputPass) → IsLater p q → IsLater q r → IsLater p r
-later_then p q r h k = (starts_then (seen p) (seen q) (seen r) h.0 k.0, starts_then (sights p) (sights q) (sights r) h.1 k.1)
+later_then p q r h k = (starts_on (seen r) (seen q) (seen p) k.0 h.0, starts_on (sights r) (sights q) (sights p) k.1 h.1)
 
 -- What came since the pass saw the history is of others.
 of_others : (before turn : List (ℕ × ReceiveEntry)) (own : List ReceiveEntry) → by 0 before ≡ own → by 0 turn ≡ own → (later : StartsWith turn before) → by 0 later.0 ≡ []
@@ -71,16 +58,6 @@ same_given stays before turn own passes b t later =
     ap given_in later.1 ∙ stays before later.0 (passes_behind before later.0 (subst ReceivedByPasses later.1 passes)) (of_others before turn own b t later)
 
 -- And they set no segment free.
-not_empty : (x : ReceiveEntry) (xs : List ReceiveEntry) → x ∷ xs ≡ [] → ⊥
-not_empty x xs e = cc
-
-first_apart : (pair : ℕ × ReceiveEntry) (pairs : List (ℕ × ReceiveEntry)) → by 0 (pair ∷ pairs) ≡ [] → (eqb 0 pair.0 ≡ false) × (by 0 pairs ≡ [])
-first_apart pair pairs =
-    elim (eqb 0 pair.0) as (λ b. map (λ e. e.1) (cond b (pair ∷ filter (λ e. eqb 0 e.0) pairs) (filter (λ e. eqb 0 e.0) pairs)) ≡ [] → (b ≡ false) × (by 0 pairs ≡ [])) [
-      | true ↦ λ h. absurd (not_empty pair.1 (by 0 pairs) h)
-      | false ↦ λ h. (refl, h)
-    ]
-
 frees_none : (n : ℕ) (c : Counts) (e : ReceiveEntry) → may_receive n e ≡ true → eqb 0 n ≡ false → frees c e ≡ 0
 frees_none n c (Returned exclusive) may apart = absurd (true≢false (sym (eq-eqb 0 n (sym (eqb-true n 0 may))) ∙ apart))
 frees_none n c (Push p backlog) may apart = refl
@@ -95,7 +72,7 @@ frees_none n c Resume may apart = refl
 none_freed : (from : Numbers) (more : List (ℕ × ReceiveEntry)) → ReceivedByPasses more → by 0 more ≡ [] → freed_from from (entries_of more) ≡ 0
 none_freed from [] passes none = refl
 none_freed from (pair ∷ more) passes none =
-    let f = first_apart pair more none in
+    let f = first_apart 0 pair more none in
     let one = frees_none pair.0 from.counts pair.1 passes.0 f.0 in
     let rest = none_freed (numbers_one from pair.1) more passes.1 f.1 in
     omega (arith, one, rest)

@@ -2,10 +2,11 @@
 use Rattle.std.proofs.Common.{◌≡◌, ℕ, List, [], ◌∷◌, ◌++◌, sym, ap, subst, ◌∙◌, append-nil}
 use Rattle.std.proofs.lemmas.List.{append_cancel_left}
 use Rattle.turn_cell.specs.History.{StartsWith, by, entries_of}
+use Rattle.turn_cell.proofs.Lists.{by-append}
 use Rattle.flow_defs.specs.declared.parcel.Parcel.{Parcel}
 use Rattle.subpartition.specs.Sending.{parcels_put, taken}
 use Rattle.subpartition.specs.Theorems as sending
-use Rattle.subpartition.proofs.Telling.{by-append, parcels_told}
+use Rattle.subpartition.proofs.Telling.{parcels_told}
 use Rattle.input_channel.specs.declared.entry.ReceiveEntry.{ReceiveEntry}
 use Rattle.input_channel.specs.Inboxes.{pushed}
 use Rattle.input_channel.specs.Legal.{ReceivedByPasses}

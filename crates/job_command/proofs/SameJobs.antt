@@ -18,6 +18,7 @@ use Rattle.flow_defs.specs.Routes.{receiver}
 use Rattle.flow_defs.specs.Stages.{apply}
 use Rattle.flow_defs.specs.Tables.{add_all}
 use Rattle.flow_defs.specs.Jobs.{last_edge, tasks, exchange, is_channel, joins, width, sum_below}
+use Rattle.flow_defs.proofs.Lists.{head_same, tail_same}
 use Rattle.plain_machine.specs.Cuts.{Cut, SameCut}
 use Rattle.plain_machine.specs.Emitting.{apply_behind, emit, count_after}
 use Rattle.plain_machine.specs.Images.{items_at, saved, cut_of, AreSpans, Fits, IsStart}
@@ -105,12 +106,6 @@ does : (s t : Stage) → s.kind ≡ t.kind → s.arg.items ≡ t.arg.items → (
 unfolding apply
 does s t kind arg r = cc
 
-head_is : {A : Type 0} (x y : A) (xs ys : List A) → x ∷ xs ≡ y ∷ ys → x ≡ y
-head_is x y xs ys same = cc
-
-tail_is : {A : Type 0} (x y : A) (xs ys : List A) → x ∷ xs ≡ y ∷ ys → xs ≡ ys
-tail_is x y xs ys same = cc
-
 abbrev kinds_of : List Stage → List StageKind
 kinds_of stages = map (λ (s : Stage). s.kind) stages
 
@@ -122,8 +117,8 @@ same_stages : (xs ys : List Stage) → kinds_of xs ≡ kinds_of ys → arguments
 same_stages [] [] kinds arguments e r = refl
 same_stages [] (y ∷ ys) kinds arguments e r = cc
 same_stages (x ∷ xs) [] kinds arguments e r = cc
-same_stages (x ∷ xs) (y ∷ ys) kinds arguments zero r = does x y (head_is x.kind y.kind (kinds_of xs) (kinds_of ys) kinds) (head_is x.arg.items y.arg.items (arguments_of xs) (arguments_of ys) arguments) r
-same_stages (x ∷ xs) (y ∷ ys) kinds arguments (suc e) r = same_stages xs ys (tail_is x.kind y.kind (kinds_of xs) (kinds_of ys) kinds) (tail_is x.arg.items y.arg.items (arguments_of xs) (arguments_of ys) arguments) e r
+same_stages (x ∷ xs) (y ∷ ys) kinds arguments zero r = does x y (head_same x.kind y.kind (kinds_of xs) (kinds_of ys) kinds) (head_same x.arg.items y.arg.items (arguments_of xs) (arguments_of ys) arguments) r
+same_stages (x ∷ xs) (y ∷ ys) kinds arguments (suc e) r = same_stages xs ys (tail_same x.kind y.kind (kinds_of xs) (kinds_of ys) kinds) (tail_same x.arg.items y.arg.items (arguments_of xs) (arguments_of ys) arguments) e r
 
 -- the same tasks, exchanges, stages, aggregate and text make the same work
 pub same_work : (job other : Job) → last_edge job ≡ last_edge other → ((i : ℕ) → tasks job i ≡ tasks other i) → ((e : ℕ) → exchange job e ≡ exchange other e) →

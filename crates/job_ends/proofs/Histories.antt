@@ -1,15 +1,8 @@
 -- Histories that begin with others.
-use Rattle.std.proofs.Common.{◌≡◌, ℕ, List, [], ◌∷◌, ◌++◌, map, ◌==◌, refl, sym, ap, ◌∙◌, append_assoc, append-nil}
-use Rattle.std.specs.List.{filter}
-use Rattle.std.proofs.lemmas.List.{map-append, append_cancel_left}
-use Rattle.std.proofs.lemmas.List.Elements.{filter-append}
+use Rattle.std.proofs.Common.{◌≡◌, ℕ, List, [], ◌∷◌, ◌++◌, refl, sym, ap, ◌∙◌, append_assoc, append-nil}
+use Rattle.std.proofs.lemmas.List.{append_cancel_left}
 use Rattle.turn_cell.specs.History.{StartsWith, by}
-
-pub starts_again : {A : Type 0} (xs ys zs : List A) → StartsWith zs ys → StartsWith ys xs → StartsWith zs xs
-starts_again xs ys zs s t = (t.0 ++ s.0, s.1 ∙ ap (λ l. l ++ s.0) t.1 ∙ append_assoc xs t.0 s.0)
-
-pub by-append : {E : Type 0} (n : ℕ) (xs ys : List (ℕ × E)) → by n (xs ++ ys) ≡ by n xs ++ by n ys
-by-append n xs ys = ap (map (λ e. e.1)) (filter-append (λ e. n == e.0) xs ys) ∙ map-append (λ e. e.1) (filter (λ e. n == e.0) xs) (filter (λ e. n == e.0) ys)
+use Rattle.turn_cell.proofs.Lists.{by-append}
 
 none_first : {A : Type 0} (xs ys : List A) → xs ++ ys ≡ [] → xs ≡ []
 none_first [] ys e = refl

@@ -6,6 +6,7 @@ use Rattle.std.proofs.Math.Nat.{mul-le-mul}
 use Rattle.std.proofs.lemmas.List.FromFn.{length-map-range_with_len}
 use Rattle.std.proofs.lemmas.Option.{same_Some}
 use Rattle.turn_cell.specs.declared.pass.Pass.{Pass}
+use Rattle.turn_cell.proofs.Lists.{starts_on}
 use Rattle.flow_defs.specs.Items.{Items}
 use Rattle.flow_defs.specs.declared.job.Job.{Job}
 use Rattle.flow_defs.specs.declared.job.Exchange.{Exchange}
@@ -27,7 +28,6 @@ use Rattle.job_ends.specs.Settling.{AllSettled, AreTaskAt, GoOn}
 use Rattle.job_ends.specs.Edges.{IsSettled}
 use Rattle.job_ends.specs.Ended.{TaskPlace, left_in, place_at, own_at, gate_at}
 use Rattle.job_ends.specs.Leaving.{HasArrived, HasEdge, HasPartition, HasGate, SentAt, TookAt, TookPartition, TookGate, sent_in, taken_in}
-use Rattle.job_ends.proofs.Histories.{starts_again}
 use Rattle.job_ends.proofs.Loops.{place_low}
 use Rattle.job_ends.proofs.Rows.{stands, place_is}
 
@@ -42,7 +42,7 @@ settled_back stands first stride own before now go settled c low = let s = settl
   of_task = s.of_task;
   later_task = s.later_task;
   of_loop = s.of_loop ∙ go.same p;
-  later_loop = starts_again (seen_at p before) (seen_at p now) s.history s.later_loop (go.seen_more p);
+  later_loop = starts_on s.history (seen_at p now) (seen_at p before) s.later_loop (go.seen_more p);
 }
 
 -- ---- the passes that were taken out

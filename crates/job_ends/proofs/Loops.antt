@@ -9,11 +9,11 @@ use Rattle.turn_cell.specs.declared.cell.TurnCell.{TurnCell}
 use Rattle.turn_cell.specs.declared.pass.Pass.{Pass}
 use Rattle.turn_cell.specs.History.{StartsWith, by}
 use Rattle.turn_cell.specs.Passes.{IsPassOf, IsSamePass, number, seen, mine}
+use Rattle.turn_cell.proofs.Lists.{starts_on}
 use Rattle.conn_parts.specs.Shares.{AreOwn, mine_at, seen_at}
 use Rattle.conn_parts.proofs.Lists.{refilled_set, get_is}
 use Rattle.conn_parts.proofs.Passes.{pass_at, number_at, are_own_lent, mine_here, seen_here, mine_same, seen_more}
 use Rattle.job_ends.specs.Settling.{HaveSettled, GoOn, IsTaskAt, AreTaskAt, SettledAt}
-use Rattle.job_ends.proofs.Histories.{starts_again}
 
 module _ {S E F : Type 0} (cells : List (TurnCell S E F)) (passes list : List (Pass S E F)) (k : ℕ) (cell : TurnCell S E F) (pass : Pass S E F)
     (own : AreOwn 1 cells passes) (same : list ≡ passes) (within : k < length cells) (is_cell : cell ≡ get_or cells k cell) (is_pass : pass ≡ get_or list k pass) where
@@ -67,7 +67,7 @@ go_on_nothing passes = record { seen_more = λ k. ([], sym (append-nil (seen_at 
 
 pub go_on_again : {S E F : Type 0} (a b c : List (Pass S E F)) → GoOn a b → GoOn b c → GoOn a c
 go_on_again a b c s t = record {
-  seen_more = λ k. starts_again (seen_at k a) (seen_at k b) (seen_at k c) (t.seen_more k) (s.seen_more k);
+  seen_more = λ k. starts_on (seen_at k c) (seen_at k b) (seen_at k a) (t.seen_more k) (s.seen_more k);
   same = λ k. t.same k ∙ s.same k;
 }
 
@@ -110,7 +110,7 @@ module _ {S E F : Type 0} (cells : List (TurnCell S E F)) (first stride : ℕ) (
           of_task = settled.of_task ∙ sym (ap (λ (o : Option (Pass S E F)). option_map_or (λ (q : Pass S E F). mine q) o []) stands_there);
           later_task = subst (StartsWith settled.history) (sym (ap (λ (o : Option (Pass S E F)). option_map_or (λ (q : Pass S E F). seen q) o []) stands_there)) settled.later_task;
           of_loop = settled.of_loop ∙ go.same p;
-          later_loop = starts_again (seen_at p before) (seen_at p now) settled.history settled.later_loop (go.seen_more p);
+          later_loop = starts_on settled.history (seen_at p now) (seen_at p before) settled.later_loop (go.seen_more p);
         })
   ]
 

@@ -4,6 +4,7 @@ use Rattle.flow_defs.specs.Items.{Items}
 use Rattle.flow_defs.specs.declared.job.Job.{Job}
 use Rattle.flow_defs.specs.declared.job.Stage.{Stage}
 use Rattle.flow_defs.specs.declared.job.AggKind.{AggKind}
+use Rattle.flow_defs.proofs.Lists.{head_same, tail_same}
 use Rattle.stage_fns.specs.Functions.{Functions}
 use Rattle.job_text.specs.JobText.{IsJobText, source_line, stage_line, aggregate_line}
 use Rattle.job_text.specs.Laws.{source_files}
@@ -32,20 +33,14 @@ rest_begins (stage ∷ stages) kind n = no_stage stage
 same_file : (a b : List ℕ) → source_line a ≡ source_line b → a ≡ b
 same_file a b same = ap (drop 7) same
 
-pub head_is : {A : Type 0} (x y : A) (xs ys : List A) → x ∷ xs ≡ y ∷ ys → x ≡ y
-head_is x y xs ys same = cc
-
-pub tail_is : {A : Type 0} (x y : A) (xs ys : List A) → x ∷ xs ≡ y ∷ ys → xs ≡ ys
-tail_is x y xs ys same = cc
-
 pub same_files : (files others : List (Items ℕ)) (rest more : List (List ℕ)) → BeginsOtherwise rest → BeginsOtherwise more
     → map line_for files ++ rest ≡ map line_for others ++ more → map file_of files ≡ map file_of others
 same_files [] [] rest more first second same = refl
 same_files [] (o ∷ others) rest more first second same = absurd (subst BeginsOtherwise same first o.items refl)
 same_files (f ∷ files) [] rest more first second same = absurd (subst BeginsOtherwise (sym same) second f.items refl)
 same_files (f ∷ files) (o ∷ others) rest more first second same =
-    let here : f.items ≡ o.items = same_file f.items o.items (head_is (line_for f) (line_for o) _ _ same) in
-    ap (λ l. l ∷ map file_of files) here ∙ ap (λ l. o.items ∷ l) (same_files files others rest more first second (tail_is (line_for f) (line_for o) _ _ same))
+    let here : f.items ≡ o.items = same_file f.items o.items (head_same (line_for f) (line_for o) _ _ same) in
+    ap (λ l. l ∷ map file_of files) here ∙ ap (λ l. o.items ∷ l) (same_files files others rest more first second (tail_same (line_for f) (line_for o) _ _ same))
 
 pub names_its_files : (functions : Functions) (text : List ℕ) (job other : Job) → IsJobText functions text job → IsJobText functions text other → source_files job ≡ source_files other
 names_its_files functions text job other is is_other =

@@ -11,6 +11,7 @@ use Rattle.flow_defs.specs.declared.job.Job.{Job}
 use Rattle.flow_defs.specs.declared.job.Stage.{Stage}
 use Rattle.flow_defs.specs.declared.job.AggKind.{AggKind}
 use Rattle.flow_defs.specs.declared.job.Exchange.{Exchange}
+use Rattle.flow_defs.proofs.Lists.{head_same, tail_same}
 use Rattle.stage_fns.specs.Functions.{Functions}
 use Rattle.job_text.specs.JobText.{IsJobText, source_line, kind_word, exchange_word, agg_word, stage_line, aggregate_line}
 use Rattle.job_text.specs.JobFaults.{number_of, exchange_of}
@@ -18,7 +19,7 @@ use Rattle.job_text.specs.Laws.{JobTextSaysTasks}
 use Rattle.job_text.proofs.Lists.{tasks_in, exchange_in}
 use Rattle.job_text.proofs.SpellingLemmas.{decimal_number, exchange_spelled}
 use Rattle.job_text.proofs.AcceptLemmas.{words_of_line, kind_no_space, decimal_no_space, exchange_no_space, agg_no_space}
-use Rattle.job_text.proofs.FileLemmas.{file_of, line_for, head_is, tail_is, rest_begins, same_files}
+use Rattle.job_text.proofs.FileLemmas.{file_of, line_for, rest_begins, same_files}
 use Rattle.std.proofs.lemmas.List.{append_cancel_left}
 use Rattle.std.proofs.lemmas.Option.{slice_get_past, same_Some}
 
@@ -79,14 +80,14 @@ one_more s t stages others m n widths ways rest = record { count = ap suc rest.c
 same_stages : (stages others : List Stage) (kind other : AggKind) (m n : ℕ) → AllByRecursion IsGood stages → AllByRecursion IsGood others → (1 ≤ m) × (m ≤ TASKS_MAX) → (1 ≤ n) × (n ≤ TASKS_MAX)
     → map stage_line stages ++ aggregate_line kind m ∷ [] ≡ map stage_line others ++ aggregate_line other n ∷ [] → SameStages stages others m n
 same_stages [] [] kind other m n good better low high same =
-    let agg : m ≡ n = same_agg kind other m n low high (head_is (aggregate_line kind m) (aggregate_line other n) [] [] same) in
+    let agg : m ≡ n = same_agg kind other m n low high (head_same (aggregate_line kind m) (aggregate_line other n) [] [] same) in
     record { count = refl; widths = λ i. agg; ways = λ i. refl }
-same_stages [] (t ∷ others) kind other m n good better low high same = absurd (no_agg t kind m (sym (head_is (aggregate_line kind m) (stage_line t) _ _ same)))
-same_stages (s ∷ stages) [] kind other m n good better low high same = absurd (no_agg s other n (head_is (stage_line s) (aggregate_line other n) _ _ same))
+same_stages [] (t ∷ others) kind other m n good better low high same = absurd (no_agg t kind m (sym (head_same (aggregate_line kind m) (stage_line t) _ _ same)))
+same_stages (s ∷ stages) [] kind other m n good better low high same = absurd (no_agg s other n (head_same (stage_line s) (aggregate_line other n) _ _ same))
 same_stages (s ∷ stages) (t ∷ others) kind other m n good better low high same =
-    let here = head_is (stage_line s) (stage_line t) _ _ same in
+    let here = head_same (stage_line s) (stage_line t) _ _ same in
     one_more s t stages others m n (same_tasks s t good.0 better.0 here) (same_way s t good.0 better.0 here)
-    (same_stages stages others kind other m n good.1 better.1 low high (tail_is (stage_line s) (stage_line t) _ _ same))
+    (same_stages stages others kind other m n good.1 better.1 low high (tail_same (stage_line s) (stage_line t) _ _ same))
 
 good_stages : (agg : ℕ) (stages : List Stage) → AllByRecursion (λ (s : Stage). IsArgument s.kind s.arg.items) stages → ((i : ℕ) → i < length stages → (1 ≤ tasks_in stages agg i) × (tasks_in stages agg i ≤ TASKS_MAX)) → AllByRecursion IsGood stages
 good_stages agg [] arguments counts = tt

@@ -9,9 +9,10 @@ use Rattle.flow_defs.specs.declared.job.StageKind.{StageKind}
 use Rattle.flow_defs.specs.declared.job.StageKind.TheVariants.{Words, Upper, Keep, Field}
 use Rattle.flow_defs.specs.declared.job.AggKind.{AggKind}
 use Rattle.flow_defs.specs.declared.job.AggKind.TheVariants.{Count, Sum, Max}
+use Rattle.flow_defs.proofs.Lists.{head_same, tail_same}
 use Rattle.job_text.specs.JobText.{source_line, kind_word, agg_word, stage_line, aggregate_line}
 use Rattle.job_text.specs.Laws.{JobTextSaysWork}
-use Rattle.job_text.proofs.FileLemmas.{line_for, head_is, tail_is, rest_begins, same_files}
+use Rattle.job_text.proofs.FileLemmas.{line_for, rest_begins, same_files}
 use Rattle.job_text.proofs.TaskLemmas.{IsGood, stage_words, agg_words, good_job, good_agg, no_agg, lines_of_files}
 
 -- kinds that are spelled alike are one, with one argument
@@ -75,12 +76,12 @@ one_more s t stages others kind other here rest = record {
 same_stages : (stages others : List Stage) (kind other : AggKind) (m n : ℕ) → AllByRecursion IsGood stages → AllByRecursion IsGood others → (1 ≤ m) × (m ≤ TASKS_MAX) → (1 ≤ n) × (n ≤ TASKS_MAX)
     → map stage_line stages ++ aggregate_line kind m ∷ [] ≡ map stage_line others ++ aggregate_line other n ∷ [] → DoTheSame stages others kind other
 same_stages [] [] kind other m n good better low high same =
-    record { kinds = refl; arguments = refl; aggregate = same_aggregate kind other m n low high (head_is (aggregate_line kind m) (aggregate_line other n) [] [] same) }
-same_stages [] (t ∷ others) kind other m n good better low high same = absurd (no_agg t kind m (sym (head_is (aggregate_line kind m) (stage_line t) _ _ same)))
-same_stages (s ∷ stages) [] kind other m n good better low high same = absurd (no_agg s other n (head_is (stage_line s) (aggregate_line other n) _ _ same))
+    record { kinds = refl; arguments = refl; aggregate = same_aggregate kind other m n low high (head_same (aggregate_line kind m) (aggregate_line other n) [] [] same) }
+same_stages [] (t ∷ others) kind other m n good better low high same = absurd (no_agg t kind m (sym (head_same (aggregate_line kind m) (stage_line t) _ _ same)))
+same_stages (s ∷ stages) [] kind other m n good better low high same = absurd (no_agg s other n (head_same (stage_line s) (aggregate_line other n) _ _ same))
 same_stages (s ∷ stages) (t ∷ others) kind other m n good better low high same =
-    one_more s t stages others kind other (same_stage s t good.0 better.0 (head_is (stage_line s) (stage_line t) _ _ same))
-    (same_stages stages others kind other m n good.1 better.1 low high (tail_is (stage_line s) (stage_line t) _ _ same))
+    one_more s t stages others kind other (same_stage s t good.0 better.0 (head_same (stage_line s) (stage_line t) _ _ same))
+    (same_stages stages others kind other m n good.1 better.1 low high (tail_same (stage_line s) (stage_line t) _ _ same))
 
 pub says_work : JobTextSaysWork
 says_work functions text job other is is_other =

@@ -1,7 +1,8 @@
 -- What a pass has done after one turn more.
 use Rattle.std.proofs.Common.{◌≡◌, ℕ, ◌+◌, List, [], ◌∷◌, ◌++◌, map, replicate, refl, sym, ap, subst, ◌∙◌, append_assoc}
 use Rattle.std.proofs.lemmas.List.{append-nil, replicate-append-replicate}
-use Rattle.turn_cell.specs.History.{StartsWith, by}
+use Rattle.turn_cell.specs.History.{by}
+use Rattle.turn_cell.proofs.Lists.{starts_itself, starts_on}
 use Rattle.segment_pool.specs.declared.pool.Pool.{Pool}
 use Rattle.segment_pool.specs.declared.pass.PoolPass.{PoolPass}
 use Rattle.segment_pool.specs.declared.stock.Dealing.{Dealing}
@@ -12,21 +13,15 @@ use Rattle.segment_pool.specs.Pools.{IsPassOf, total_of}
 use Rattle.segment_pool.specs.Turns.{TookTurn}
 use Rattle.local_pool.specs.Moves.{FoundNone, HasDone}
 
-pub starts_refl : {A : Type 0} (xs : List A) → StartsWith xs xs
-starts_refl xs = ([], sym (append-nil xs))
-
-pub starts_trans : {A : Type 0} (xs ys zs : List A) → StartsWith xs ys → StartsWith ys zs → StartsWith xs zs
-starts_trans xs ys zs (r, e) (s, f) = (s ++ r, e ∙ (ap (λ y. y ++ r) f ∙ append_assoc zs s r))
-
 -- nothing is done yet
 pub HasDone-none : (pass : PoolPass) → HasDone [] pass pass
-HasDone-none pass = record { same_number = refl; later = starts_refl (seen pass); then_mine = sym (append-nil (mine pass)) }
+HasDone-none pass = record { same_number = refl; later = starts_itself (seen pass); then_mine = sym (append-nil (mine pass)) }
 
 -- one turn more
 pub HasDone-more : (before between after : PoolPass) (entries more : List Dealing) (P : List (ℕ × Dealing) → Type 0) → HasDone entries before between → TookTurn more between after P → HasDone (entries ++ more) before after
 HasDone-more before between after entries more P done turn = record {
   same_number = turn.same_number ∙ done.same_number;
-  later = starts_trans (seen after) turn.history (seen before) (map (λ e. (number between, e)) more, turn.then_seen) (starts_trans turn.history (seen between) (seen before) turn.later done.later);
+  later = starts_on (seen after) turn.history (seen before) (map (λ e. (number between, e)) more, turn.then_seen) (starts_on turn.history (seen between) (seen before) turn.later done.later);
   then_mine = turn.then_mine ∙ (ap (λ es. es ++ more) done.then_mine ∙ append_assoc (mine before) entries more);
 }
 
@@ -34,7 +29,7 @@ HasDone-more before between after entries more P done turn = record {
 pub HasDone-then : (before between after : PoolPass) (entries more : List Dealing) → HasDone entries before between → HasDone more between after → HasDone (entries ++ more) before after
 HasDone-then before between after entries more done then = record {
   same_number = then.same_number ∙ done.same_number;
-  later = starts_trans (seen after) (seen between) (seen before) then.later done.later;
+  later = starts_on (seen after) (seen between) (seen before) then.later done.later;
   then_mine = then.then_mine ∙ (ap (λ es. es ++ more) done.then_mine ∙ append_assoc (mine before) entries more);
 }
 
@@ -55,7 +50,7 @@ FoundNone-now pool before between after count done is_pass turn =
     let all = turn.then_seen ∙ append-nil turn.history in
     record {
       history = turn.history;
-      later = starts_trans turn.history (seen between) (seen before) turn.later done.later;
+      later = starts_on turn.history (seen between) (seen before) turn.later done.later;
       earlier = ([], turn.then_seen);
       claimed = ap (λ k. by k turn.history) (sym (turn.same_number ∙ done.same_number)) ∙ (ap (by (number after)) (sym all) ∙ (is_pass.0.0.5 ∙ (turn.then_mine ∙ (append-nil (mine between) ∙ done.then_mine))));
       none_free = turn.fact;
@@ -66,7 +61,7 @@ pub FoundNone-later : (pool : Pool) (count : ℕ) (before between after : PoolPa
 FoundNone-later pool count before between after entries found then = record {
   history = found.history;
   later = found.later;
-  earlier = starts_trans (seen after) (seen between) found.history then.later found.earlier;
+  earlier = starts_on (seen after) (seen between) found.history then.later found.earlier;
   claimed = found.claimed;
   none_free = found.none_free;
 }

@@ -1,23 +1,19 @@
 -- What one more turn makes of a link in memory, and what its two ends tell together.
-use Rattle.std.proofs.Common.{◌≡◌, ◌<◌, ◌≤◌, ℕ, zero, suc, eqb, Bool, true, false, List, [], ◌∷◌, ◌++◌, Some, length, take, drop, map, refl, sym, ap, ◌∙◌, subst, append_assoc, append-nil, arith, take-append-drop}
+use Rattle.std.proofs.Common.{◌≡◌, ◌<◌, ◌≤◌, ℕ, zero, suc, Bool, true, false, List, [], ◌∷◌, ◌++◌, Some, length, take, drop, refl, sym, ap, ◌∙◌, subst, append_assoc, append-nil, arith, take-append-drop}
 use Rattle.std.specs.Prelude.{min}
-use Rattle.std.specs.List.{filter}
-use Rattle.std.proofs.lemmas.List.{map-append, take-append-le, length-take-le, nil_from_length}
+use Rattle.std.proofs.lemmas.List.{take-append-le, length-take-le, nil_from_length}
 use Rattle.std.proofs.Math.Nat.{min-le_right}
-use Rattle.std.proofs.lemmas.List.Elements.{filter-append}
 use Rattle.std.proofs.lemmas.Option.{same_Some}
 use Rattle.turn_cell.specs.declared.pass.Pass.{Pass}
 use Rattle.turn_cell.specs.Passes.{IsPassOf, mine, number, seen}
 use Rattle.outside.specs.MemoryLinks.{LinkCell}
 use Rattle.turn_cell.specs.History.{by, StartsWith}
+use Rattle.turn_cell.proofs.Lists.{by-append}
 use Rattle.outside.specs.declared.ring.LinkEntry.{LinkEntry}
 use Rattle.outside.specs.declared.ring.LinkEntry.TheVariants.{Wrote, Read, Finished}
 use Rattle.outside.specs.declared.ring.Ring.{Ring}
 use Rattle.outside.specs.Links.{HasMet}
 use Rattle.outside.specs.Rings.{bytes_written, bytes_read, has_finished, EndsThere, Carries, IsFront, IsAll}
-
-pub by-append : {E : Type 0} (k : ℕ) (xs ys : List (ℕ × E)) → by k (xs ++ ys) ≡ by k xs ++ by k ys
-by-append {E} k xs ys = ap (map (λ (y : ℕ × E). y.1)) (filter-append (λ (y : ℕ × E). eqb k y.0) xs ys) ∙ map-append (λ (y : ℕ × E). y.1) (filter (λ y. eqb k y.0) xs) (filter (λ y. eqb k y.0) ys)
 
 pub written-append : (xs ys : List LinkEntry) → bytes_written (xs ++ ys) ≡ bytes_written xs ++ bytes_written ys
 written-append [] ys = refl

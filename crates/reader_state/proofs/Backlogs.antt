@@ -4,6 +4,7 @@ use Rattle.std.specs.Prelude.{IfSome}
 use Rattle.std.specs.Option.{option_map}
 use Rattle.std.proofs.lemmas.Option.{none-some, same_Some}
 use Rattle.flow_defs.specs.declared.task.ChannelId.{ChannelId}
+use Rattle.flow_defs.proofs.NumberLemmas.{eqb_comm}
 use Rattle.turn_cell.specs.History.{entries_of}
 use Rattle.turn_cell.specs.Passes.{HasEntered, HasRested, number, seen, mine}
 use Rattle.credit_reader.specs.declared.reader.Reader.{Reader}
@@ -18,7 +19,6 @@ use Rattle.reader_state.specs.Ledgers as ledgers
 use Rattle.reader_state.specs.Ledgers.{Ledger, opened, after_all, replayed, settled}
 use Rattle.reader_state.specs.Standing.{told_last_from, told_last}
 use Rattle.reader_state.specs.Turning.{ReaderCell, ReaderPass, channels_in, ledger_after, IsOneOf, AnnouncedFirst, AnnouncesDue}
-use Rattle.reader_state.proofs.Histories.{eqb_comm}
 use Rattle.reader_state.proofs.Channels.{find_there, found_here}
 use Rattle.reader_state.proofs.Ledgers.{told, told_stays, settled_keeps}
 use Rattle.reader_state.proofs.Numbering.{fresh_there}

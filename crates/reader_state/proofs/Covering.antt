@@ -7,6 +7,7 @@ use Rattle.std.proofs.lemmas.Bool.{and_parts, false≢true, cond-true}
 use Rattle.std.proofs.lemmas.List.Sums.{sum_by-cons}
 use Rattle.std.proofs.lemmas.Option.{none-some, same_Some}
 use Rattle.turn_cell.specs.History.{entries_of}
+use Rattle.turn_cell.proofs.Histories.{history_keeps, entries_of-append}
 use Rattle.flow_defs.specs.declared.task.ChannelId.{ChannelId}
 use Rattle.flow_defs.specs.declared.task.Head.{Head}
 use Rattle.credit_reader.specs.declared.reader.Reader.{Reader}
@@ -23,7 +24,6 @@ use Rattle.reader_state.specs.Ledgers.{Ledger, KEPT_MAX, MayEnter, early_of, non
 use Rattle.reader_state.specs.Standing.{MayEnterAs, sent_on, credit_on, resumptions_on}
 use Rattle.reader_state.specs.Theorems.{IsLegal, HasParts, is_data}
 use Rattle.reader_state.specs.Turning.{IsOneOf, ledger_after}
-use Rattle.reader_state.proofs.Histories.{history_keeps, entries_of-append}
 use Rattle.reader_state.proofs.Ledgers.{channels_stay}
 use Rattle.reader_state.proofs.Waiting.{ledger_more}
 use Rattle.reader_state.proofs.Numbering.{fresh_there}

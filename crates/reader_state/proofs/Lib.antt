@@ -1,4 +1,3 @@
-mod Histories
 mod Channels
 mod Ledgers
 mod Waiting

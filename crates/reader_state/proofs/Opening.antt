@@ -6,7 +6,7 @@ use Rattle.credit_reader.specs.Readers.{fresh}
 use Rattle.reader_state.specs.declared.state.Early.{Early}
 use Rattle.reader_state.specs.Ledgers.{none_early, opened}
 use Rattle.reader_state.specs.Standing.{LedgerStandsFor, MayEnterAs}
-use Rattle.reader_state.proofs.Histories.{history_nil}
+use Rattle.turn_cell.proofs.Histories.{history_nil}
 
 pub fresh_names : (channels : List ChannelId) → map (λ (r : Reader). r.channel) (map fresh channels) ≡ channels
 fresh_names [] = refl

@@ -9,6 +9,7 @@ use Rattle.flow_defs.specs.declared.task.Head.{Head}
 use Rattle.flow_defs.specs.declared.task.Head.TheVariants.{Nothing, Buffer}
 use Rattle.turn_cell.specs.History.{by, entries_of, IsHistory, StartsWith}
 use Rattle.turn_cell.specs.Passes.{IsTurnOf, IsSamePass, HasEntered, HasRested, number, seen, mine}
+use Rattle.turn_cell.proofs.Histories.{history_more}
 use Rattle.credit_reader.specs.declared.reader.Reader.{Reader}
 use Rattle.credit_reader.specs.declared.reader.SentKind.{SentKind}
 use Rattle.credit_reader.specs.declared.reader.SentKind.TheVariants as kinds
@@ -24,7 +25,6 @@ use Rattle.reader_state.specs.Ledgers as ledgers
 use Rattle.reader_state.specs.Ledgers.{Ledger, MayEnter, channels_of, replayed}
 use Rattle.reader_state.specs.Standing.{LedgerStandsFor, may_make, MayEnterAs}
 use Rattle.reader_state.specs.Turning.{ReaderCell, ReaderPass, channels_in, IsOneOf, IsReaderPass, StandsIn, ledger_after, head_told, CanSend, HeadsStay, HeadsChange}
-use Rattle.reader_state.proofs.Histories.{history_more}
 use Rattle.reader_state.proofs.Channels.{find_there, found_of_key, key_of_found}
 use Rattle.reader_state.proofs.Ledgers.{channels_stay, told, told_stays, told_other, settled_keeps}
 use Rattle.reader_state.proofs.Waiting.{Waited, waited, ledger_more, head_of_told}

@@ -2,13 +2,15 @@
 use Rattle.std.proofs.Common.{◌≡◌, ℕ, ◌+◌, Bool, true, false, cond, eqb, List, [], ◌∷◌, ◌++◌, refl, sym, ap, ◌∙◌, arith, append-nil}
 use Rattle.std.proofs.lemmas.Bool.{false≢true}
 use Rattle.flow_defs.specs.declared.task.ChannelId.{ChannelId}
+use Rattle.flow_defs.proofs.NumberLemmas.{eqb_comm}
 use Rattle.turn_cell.specs.History.{by, entries_of, IsHistory}
+use Rattle.turn_cell.proofs.Histories.{entries_of-append, history_keeps}
+use Rattle.turn_cell.proofs.Lists.{by-cons, by-append}
 use Rattle.credit_reader.specs.declared.reader.SentKind.{SentKind}
 use Rattle.credit_reader.specs.Senders.{is_same}
 use Rattle.reader_state.specs.declared.entry.ReaderEntry.{ReaderEntry}
 use Rattle.reader_state.specs.declared.entry.ReaderEntry.TheVariants.{Ready, Sent, Told, Asked, Granted, Resumed}
 use Rattle.reader_state.specs.Standing.{may_make, MayEnterAs, sent_on, credit_on, resumptions_on, told_last_from, told_last}
-use Rattle.reader_state.proofs.Histories.{eqb_comm, entries_of-append, by-cons, by-append, history_keeps}
 
 -- ---- what lists of entries tell, one after another
 

@@ -9,7 +9,11 @@ use Rattle.std.proofs.lemmas.Option.{none-some}
 use Rattle.flow_defs.specs.declared.task.ChannelId.{ChannelId}
 use Rattle.flow_defs.specs.declared.task.Head.{Head}
 use Rattle.flow_defs.specs.declared.task.Head.TheVariants as heads
+use Rattle.flow_defs.proofs.NumberLemmas.{eqb_comm}
+use Rattle.flow_defs.proofs.Lists.{cancel_nil}
 use Rattle.turn_cell.specs.History.{by, entries_of, IsHistory, StartsWith}
+use Rattle.turn_cell.proofs.Histories.{entries_of-append}
+use Rattle.turn_cell.proofs.Lists.{by-append, first_apart}
 use Rattle.credit_reader.specs.declared.reader.Reader.{Reader}
 use Rattle.credit_reader.specs.Readers.{Happening, Asked, Granted, Resumed, reader_next, can_send, may_go}
 use Rattle.credit_reader.specs.Senders.{Sender, is_same, is_able, reader_of, after_at, happened, queue_after}
@@ -20,7 +24,6 @@ use Rattle.reader_state.specs.Ledgers as ledgers
 use Rattle.reader_state.specs.Ledgers.{Ledger, MayEnter, opened, after_all, replayed, with_early, with_reader, fitting, credit_given, may_resume, resumption_given, settled}
 use Rattle.reader_state.specs.Standing.{may_make, MayEnterAs}
 use Rattle.reader_state.specs.Turning.{ledger_after, head_told, CanSend, HeadsStay}
-use Rattle.reader_state.proofs.Histories.{eqb_comm, no_cons, entries_of-append, cancel_nil, by-cons, by-append}
 use Rattle.reader_state.proofs.Ledgers.{told, told_stays}
 
 -- ---- senders that take nothing back
@@ -135,17 +138,10 @@ module _ (channels : List ChannelId) where
   history_stays done (x ∷ rest) legal none =
       let same : (done ++ x ∷ []) ++ rest ≡ done ++ x ∷ rest = append_assoc done (x ∷ []) rest in
       let may = legal done rest x refl in
-      let first : (eqb 0 x.0 ≡ false) × (by 0 rest ≡ []) = other_first x rest none in
+      let first : (eqb 0 x.0 ≡ false) × (by 0 rest ≡ []) = first_apart 0 x rest none in
       stays_then _ _ _ (subst (λ (l : Ledger). Stays (ledger_after channels done).sender l.sender) (sym (ledger_more channels done x.0 x.1)) (entry_stays x.0 (ledger_after channels done) x.1 may.0 first.0 may.1))
       (subst (λ h. Stays (ledger_after channels (done ++ x ∷ [])).sender (ledger_after channels h).sender) same
       (history_stays (done ++ x ∷ []) rest (subst (IsHistory (MayEnterAs channels)) (sym same) legal) first.1))
-    where
-      other_first : (x : ℕ × ReaderEntry) (rest : List (ℕ × ReaderEntry)) → by 0 (x ∷ rest) ≡ [] → (eqb 0 x.0 ≡ false) × (by 0 rest ≡ [])
-      other_first x rest none =
-          elim (eqb 0 x.0) as (λ b. cond b (x.1 ∷ by 0 rest) (by 0 rest) ≡ [] → (b ≡ false) × (by 0 rest ≡ [])) [
-            | true ↦ λ h. absurd (no_cons x.1 (by 0 rest) h)
-            | false ↦ λ h. (refl, h)
-          ] (sym (by-cons 0 x rest) ∙ none)
 
   -- what pass 0 knew before its turn it knows in its turn
   pub record Waited (before now : List (ℕ × ReaderEntry)) : Type 0 where

@@ -2,4 +2,3 @@ mod Counting
 mod Dealings
 mod Dealt
 mod Sums
-mod Own

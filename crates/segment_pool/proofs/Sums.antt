@@ -3,7 +3,7 @@ use Rattle.std.proofs.Common.{◌≡◌, ℕ, zero, suc, ◌+◌, ◌<◌, ◌�
 use Rattle.std.specs.List.{sum, sum_by}
 use Rattle.std.proofs.lemmas.List.{get_or_past, take_all}
 use Rattle.std.proofs.lemmas.List.Sums.{sum_by-cons, sum_by_more, sum_by-take-le}
-use Rattle.segment_pool.proofs.Own.{by-hit, by-miss}
+use Rattle.turn_cell.proofs.Lists.{by-hit, by-miss}
 use Rattle.turn_cell.specs.History.{by}
 use Rattle.std.proofs.Math.Decide.{dec_lt}
 use mathlib.Core.Logic.{dite}

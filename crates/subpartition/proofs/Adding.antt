@@ -12,12 +12,12 @@ use Rattle.subpartition.specs.declared.entry.SendEntry.TheVariants.{Put, PutInli
 use Rattle.subpartition.specs.declared.item.Item.{Item}
 use Rattle.subpartition.specs.declared.item.Item.TheVariants.{Buffer, Barrier, End}
 use Rattle.turn_cell.specs.History.{IsHistory, entries_of}
+use Rattle.turn_cell.proofs.Histories.{history_nil, history_more, entries_of-append}
 use Rattle.subpartition.specs.Sending.{Outbox, take_first, sent_one, outbox, barriers_put, is_finished, filled_to, MaySend, may_send, MaySendAs}
 use Rattle.subpartition.specs.Queues.{Queue, HasLength, bytes_of, parcel_of, with_buffer, with_barrier, with_end, without_first, filling_to}
 use Rattle.subpartition.specs.Standing.{QueueStandsFor}
 use Rattle.subpartition.specs.Theorems.{NewStandsForNone, PutAdds, PutInlineAdds, FinishAdds, TakeAdds, SizeAdds, LastIsPut, TakeTells, TaskTellsQueue}
 use Rattle.subpartition.proofs.Items.{last_bytes-buffer}
-use Rattle.subpartition.proofs.Growing.{history_nil, history_more, entries_of-append}
 use Rattle.subpartition.proofs.Travelling.{barriers_put-append, is_finished-append, sent_from-append}
 use Rattle.subpartition.proofs.Telling.{task_tells_puts}
 

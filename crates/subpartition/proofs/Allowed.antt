@@ -6,13 +6,14 @@ use Rattle.flow_defs.specs.declared.task.BarrierKind.TheVariants.{Inline}
 use Rattle.flow_defs.specs.declared.parcel.Parcel.{Parcel}
 use Rattle.flow_defs.specs.declared.parcel.Parcel.TheVariants.{Data, Barrier, End}
 use Rattle.flow_defs.specs.Parcels.{has_end}
+use Rattle.flow_defs.proofs.Lists.{count-next}
 use Rattle.subpartition.specs.declared.entry.SendEntry.{SendEntry}
 use Rattle.subpartition.specs.declared.entry.SendEntry.TheVariants.{Put, PutInline, Finish, Take, Size}
 use Rattle.turn_cell.specs.History.{IsHistory, entries_of}
+use Rattle.turn_cell.proofs.Histories.{split_last, history_nil, history_more, history_keeps, entries_of-append}
 use Rattle.std.specs.List.{range_with_len}
 use Rattle.subpartition.specs.Sending.{parcels_put, barriers_put, MaySend, MaySendAs, numbers_of}
 use Rattle.subpartition.specs.Theorems.{BarriersAreNumbered, EndIsLast, EntriesAreHistory}
-use Rattle.subpartition.proofs.Growing.{split_last, history_nil, history_more, history_keeps, count-next, entries_of-append}
 use Rattle.subpartition.proofs.Travelling.{parcels_put-append, barriers_put-append, travelled_is}
 
 abbrev IsNumbered : List (ℕ × BarrierKind) → Type 0

@@ -1,5 +1,4 @@
 pub mod Items
-pub mod Growing
 pub mod Travelling
 pub mod Allowed
 pub mod Telling

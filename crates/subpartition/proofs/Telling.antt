@@ -1,40 +1,20 @@
 -- What a pass's own entries tell of a cell.
-use Rattle.std.proofs.Common.{◌≡◌, ℕ, true, false, cond, eqb, true≢false, List, [], ◌∷◌, ◌++◌, map, refl, sym, ap, subst, ◌∙◌, eqb-true, eq-eqb}
+use Rattle.std.proofs.Common.{◌≡◌, ℕ, true, false, cond, eqb, true≢false, List, [], ◌∷◌, ◌++◌, refl, sym, ap, subst, ◌∙◌}
 use Rattle.std.specs.Prelude.{⊤}
-use Rattle.std.specs.List.{filter}
-use Rattle.std.proofs.lemmas.Bool.{eqb-false, ne_eqb}
-use Rattle.std.proofs.lemmas.List.{map-append}
-use Rattle.std.proofs.lemmas.List.Elements.{filter-append}
 use Rattle.flow_defs.specs.declared.task.BarrierKind.TheVariants.{Inline}
 use Rattle.flow_defs.specs.declared.parcel.Parcel.TheVariants.{Data, Barrier, End}
 use Rattle.flow_defs.specs.Parcels.{data_of, barriers_of, has_end}
+use Rattle.flow_defs.proofs.Lists.{cancel_nil}
+use Rattle.flow_defs.proofs.NumberLemmas.{eqb_comm}
 use Rattle.turn_cell.specs.History.{by}
 use Rattle.subpartition.specs.declared.entry.SendEntry.{SendEntry}
 use Rattle.subpartition.specs.declared.entry.SendEntry.TheVariants.{Put, PutInline, Finish, Take, Size}
 use Rattle.turn_cell.specs.History.{IsHistory, entries_of}
+use Rattle.turn_cell.proofs.Histories.{history_keeps, entries_of-append}
+use Rattle.turn_cell.proofs.Lists.{by-cons, by-append, first_apart}
 use Rattle.subpartition.specs.Sending.{Outbox, sent_one, sent_from, outbox, taken, parcels_put, may_send, MaySendAs}
 use Rattle.subpartition.specs.Theorems.{TaskTellsPuts, TakenStays}
-use Rattle.subpartition.proofs.Growing.{history_keeps, entries_of-append, cancel_nil}
 use Rattle.subpartition.proofs.Travelling.{sent_from-append}
-
-eqb_comm : (n m : ℕ) → eqb n m ≡ eqb m n
-eqb_comm n m = elim (eqb n m) as (λ b. eqb n m ≡ b → b ≡ eqb m n) [
-  | true ↦ λ h. sym (eq-eqb m n (sym (eqb-true n m h)))
-  | false ↦ λ h. sym (ne_eqb m n (λ e. eqb-false n m h (sym e)))
-] refl
-
-module _ {E : Type 0} where
-  by-cons : (m : ℕ) (pair : ℕ × E) (pairs : List (ℕ × E)) → by m (pair ∷ pairs) ≡ cond (eqb m pair.0) (pair.1 ∷ by m pairs) (by m pairs)
-  by-cons m pair pairs =
-      elim (eqb m pair.0) as (λ b. map (λ (e : ℕ × E). e.1) (cond b (pair ∷ filter (λ e. eqb m e.0) pairs) (filter (λ e. eqb m e.0) pairs)) ≡ cond b (pair.1 ∷ by m pairs) (by m pairs)) [
-        | true ↦ refl
-        | false ↦ refl
-      ]
-
-  pub by-append : (m : ℕ) (xs ys : List (ℕ × E)) → by m (xs ++ ys) ≡ by m xs ++ by m ys
-  by-append m xs ys =
-      ap (map (λ (e : ℕ × E). e.1)) (filter-append (λ (e : ℕ × E). eqb m e.0) xs ys)
-      ∙ map-append (λ (e : ℕ × E). e.1) (filter (λ e. eqb m e.0) xs) (filter (λ e. eqb m e.0) ys)
 
 -- each entry is one that its pass makes
 abbrev pub AreByPasses : List (ℕ × SendEntry) → Type 0
@@ -97,17 +77,6 @@ task_tells_puts size history legal =
       finished = ap has_end same;
     }
 
-not_empty : {E : Type 0} (x : E) (xs : List E) → x ∷ xs ≡ [] → ⊥
-not_empty x xs e = cc
-
--- none of these entries is one of the sender's
-first_apart : (pair : ℕ × SendEntry) (pairs : List (ℕ × SendEntry)) → by 1 (pair ∷ pairs) ≡ [] → (eqb 1 pair.0 ≡ false) × (by 1 pairs ≡ [])
-first_apart pair pairs none =
-    elim (eqb 1 pair.0) as (λ b. cond b (pair.1 ∷ by 1 pairs) (by 1 pairs) ≡ [] → (b ≡ false) × (by 1 pairs ≡ [])) [
-      | true ↦ λ e. absurd (not_empty pair.1 (by 1 pairs) e)
-      | false ↦ λ e. (refl, e)
-    ] (sym (by-cons 1 pair pairs) ∙ none)
-
 no_take : (n : ℕ) (o : Outbox) (e : SendEntry) → may_send n e ≡ true → eqb 1 n ≡ false → (sent_one o e).taken ≡ o.taken
 no_take n o (Put bytes) h apart = refl
 no_take n o (PutInline k) h apart = refl
@@ -118,7 +87,7 @@ no_take n o (Size size) h apart = refl
 taken_from : (o : Outbox) (more : List (ℕ × SendEntry)) → AreByPasses more → by 1 more ≡ [] → (sent_from o (entries_of more)).taken ≡ o.taken
 taken_from o [] are none = refl
 taken_from o (pair ∷ more) are none =
-    let apart = first_apart pair more none in
+    let apart = first_apart 1 pair more none in
     taken_from (sent_one o pair.1) more are.1 apart.1 ∙ no_take pair.0 o pair.1 are.0 apart.0
 
 pub taken_stays : TakenStays

@@ -6,6 +6,7 @@ use Rattle.flow_defs.specs.declared.parcel.Parcel.{Parcel}
 use Rattle.flow_defs.specs.declared.parcel.Parcel.TheVariants.{Data, Barrier, End}
 use Rattle.flow_defs.specs.Parcels.{data_of, barriers_of, has_end}
 use Rattle.turn_cell.specs.History.{StartsWith}
+use Rattle.turn_cell.proofs.Lists.{starts_on}
 use Rattle.subpartition.specs.declared.entry.SendEntry.{SendEntry}
 use Rattle.subpartition.specs.declared.entry.SendEntry.TheVariants.{Put, PutInline, Finish, Take, Size}
 use Rattle.subpartition.specs.Sending.{Outbox, take_first, sent_one, sent_from, outbox, taken, travelled, parcels_put, put, barriers_put, is_finished}
@@ -70,9 +71,6 @@ sent_from-append o (x ∷ xs) ys = sent_from-append (sent_one o x) xs ys
 taken_first : (taken items : List Parcel) → StartsWith (take_first taken items).taken taken
 taken_first taken [] = ([], sym (append-nil taken))
 taken_first taken (p ∷ ps) = (p ∷ [], refl)
-
-starts_on : (xs ys zs : List Parcel) → StartsWith xs ys → StartsWith ys zs → StartsWith xs zs
-starts_on xs ys zs first second = (second.0 ++ first.0, first.1 ∙ ap (λ z. z ++ first.0) second.1 ∙ append_assoc zs second.0 first.0)
 
 taken_from : (o : Outbox) (es : List SendEntry) → StartsWith (sent_from o es).taken o.taken
 taken_from o [] = ([], sym (append-nil o.taken))

@@ -1,7 +1,7 @@
 -- By what a task acknowledges checkpoints, in turn after turn.
 use Rattle.std.proofs.Common.{◌∙◌, refl}
 use Rattle.turn_cell.specs.Passes.{seen}
-use Rattle.conn_parts.proofs.Appends.{starts_itself, starts_on}
+use Rattle.turn_cell.proofs.Lists.{starts_itself, starts_on}
 use Rattle.task_output.specs.declared.acks.Acks.{Acks}
 use Rattle.task_output.specs.Acking.{IsSameTask}
 

@@ -1,10 +1,11 @@
 -- What a task has seen of the images that were stored.
-use Rattle.std.proofs.Common.{◌≡◌, ◌+◌, ◌-◌, ℕ, zero, suc, List, [], ◌∷◌, ◌++◌, Option, Some, None, ◌⊎◌, inl, inr, refl, sym, ap, subst, ◌∙◌, arith}
+use Rattle.std.proofs.Common.{◌≡◌, ◌+◌, ◌-◌, ℕ, zero, suc, List, [], ◌∷◌, Option, Some, None, ◌⊎◌, inl, inr, sym, ap, subst, ◌∙◌, arith}
 use Rattle.std.specs.Prelude.{Bool, Contains}
 use Rattle.std.specs.List.{last_or}
 use Rattle.std.proofs.lemmas.List.Elements.{Contains-append_left, Contains-append_right}
 use Rattle.std.proofs.lemmas.Option.{same_Some}
 use Rattle.turn_cell.specs.History.{entries_of}
+use Rattle.turn_cell.proofs.Histories.{entries_of-append}
 use Rattle.outside.specs.declared.last_image.Stored.{Stored}
 use Rattle.task_output.specs.declared.acks.Acks.{Acks}
 use Rattle.task_output.specs.Waiting.{HasSeenStored, HasWaited, SeenIsWaited, WaitedStays}
@@ -23,16 +24,12 @@ pub seen_is_waited : SeenIsWaited
 seen_is_waited base history zero all_ended seen = tt
 seen_is_waited base history (suc sent) all_ended seen = (seen.stored, contained history seen.stored seen.last, seen.reached)
 
-entries-append : (xs ys : List (ℕ × Stored)) → entries_of (xs ++ ys) ≡ entries_of xs ++ entries_of ys
-entries-append [] ys = refl
-entries-append (x ∷ xs) ys = ap (λ l. x.1 ∷ l) (entries-append xs ys)
-
 pub waited_stays : WaitedStays
 waited_stays base zero history later starts waited = tt
 waited_stays base (suc zero) history later starts waited = tt
 waited_stays base (suc (suc before)) history later starts waited = (
   waited.0,
-  subst (λ l. Contains l waited.0) (sym (entries-append history starts.0) ∙ ap entries_of (sym starts.1)) (Contains-append_left (entries_of history) (entries_of starts.0) waited.0 waited.1),
+  subst (λ l. Contains l waited.0) (sym (entries_of-append history starts.0) ∙ ap entries_of (sym starts.1)) (Contains-append_left (entries_of history) (entries_of starts.0) waited.0 waited.1),
   waited.2,
 )
 

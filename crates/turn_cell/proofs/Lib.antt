@@ -1,4 +1,5 @@
 pub mod Lists
+pub mod Histories
 pub mod Keeps
 pub mod Turning
 pub mod Gathering

@@ -1,5 +1,5 @@
 -- Lists of entries, beginnings of lists, and sums over lists.
-use Rattle.std.proofs.Common.{◌≡◌, ◌≢◌, ℕ, zero, suc, ◌+◌, ◌≤◌, ◌⊎◌, inl, inr, ⊎_elim, eqb, cond, List, [], ◌∷◌, ◌++◌, map, length, set, sym, refl, ap, ◌∙◌, arith, eq-eqb, ne_eqb, append_assoc, append-nil, length-append, Option, None, Some}
+use Rattle.std.proofs.Common.{◌≡◌, ◌≢◌, ℕ, zero, suc, ◌+◌, ◌≤◌, ◌⊎◌, inl, inr, ⊎_elim, eqb, cond, List, [], ◌∷◌, ◌++◌, map, length, set, sym, refl, ap, ◌∙◌, arith, eq-eqb, ne_eqb, append_assoc, append-nil, length-append, Option, None, Some, true, false}
 use mathlib.Core.Option.{some, some-injective, some-ne-none}
 use Rattle.std.specs.List.{filter, sum_by}
 use Rattle.std.proofs.lemmas.List.{map-append}
@@ -10,6 +10,7 @@ use native.Mathlib.Decide.{ℕ_discrete}
 use lib.ListN.{get_elem?}
 use Rattle.turn_cell.specs.History.{by, StartsWith, told, with_sight, seen_by}
 use Rattle.turn_cell.specs.Rule.{Has, total, is_number, one_if}
+use Rattle.flow_defs.proofs.Lists.{no_cons}
 
 module _ {E : Type 0} where
   pub by-hit : (k : ℕ) (x : ℕ × E) (xs : List (ℕ × E)) → k ≡ x.0 → by k (x ∷ xs) ≡ x.1 ∷ by k xs
@@ -18,7 +19,17 @@ module _ {E : Type 0} where
   pub by-miss : (k : ℕ) (x : ℕ × E) (xs : List (ℕ × E)) → k ≢ x.0 → by k (x ∷ xs) ≡ by k xs
   by-miss k x xs ne = ap (λ b. map (λ (y : ℕ × E). y.1) (cond b (x ∷ filter (λ y. eqb k y.0) xs) (filter (λ y. eqb k y.0) xs))) (ne_eqb k x.0 ne)
 
-  by-append : (k : ℕ) (xs ys : List (ℕ × E)) → by k (xs ++ ys) ≡ by k xs ++ by k ys
+  pub by-cons : (k : ℕ) (x : ℕ × E) (xs : List (ℕ × E)) → by k (x ∷ xs) ≡ cond (eqb k x.0) (x.1 ∷ by k xs) (by k xs)
+  by-cons k x xs = elim (eqb k x.0) as (λ b. map (λ (y : ℕ × E). y.1) (cond b (x ∷ filter (λ y. eqb k y.0) xs) (filter (λ y. eqb k y.0) xs)) ≡ cond b (x.1 ∷ by k xs) (by k xs)) [ true ↦ refl | false ↦ refl ]
+
+  -- none of these entries is one of the pass's
+  pub first_apart : (k : ℕ) (x : ℕ × E) (xs : List (ℕ × E)) → by k (x ∷ xs) ≡ [] → (eqb k x.0 ≡ false) × (by k xs ≡ [])
+  first_apart k x xs none = elim (eqb k x.0) as (λ b. cond b (x.1 ∷ by k xs) (by k xs) ≡ [] → (b ≡ false) × (by k xs ≡ [])) [
+    | true ↦ λ e. absurd (no_cons x.1 (by k xs) e)
+    | false ↦ λ e. (refl, e)
+  ] (sym (by-cons k x xs) ∙ none)
+
+  pub by-append : (k : ℕ) (xs ys : List (ℕ × E)) → by k (xs ++ ys) ≡ by k xs ++ by k ys
   by-append k xs ys = ap (map (λ (y : ℕ × E). y.1)) (filter-append (λ (y : ℕ × E). eqb k y.0) xs ys) ∙ map-append (λ (y : ℕ × E). y.1) (filter (λ y. eqb k y.0) xs) (filter (λ y. eqb k y.0) ys)
 
   by-own : (n : ℕ) (es : List E) → by n (map (λ e. (n, e)) es) ≡ es
@@ -39,6 +50,9 @@ module _ {E : Type 0} where
 module _ {A : Type 0} where
   pub starts_itself : (xs : List A) → StartsWith xs xs
   starts_itself xs = ([], sym (append-nil xs))
+
+  pub starts_on : (xs ys zs : List A) → StartsWith xs ys → StartsWith ys zs → StartsWith xs zs
+  starts_on xs ys zs first second = (second.0 ++ first.0, first.1 ∙ ap (λ l. l ++ first.0) second.1 ∙ append_assoc zs second.0 first.0)
 
   pub starts_longer : (xs ys zs : List A) → StartsWith xs ys → StartsWith (xs ++ zs) ys
   starts_longer xs ys zs h = (h.0 ++ zs, ap (λ l. l ++ zs) h.1 ∙ append_assoc ys h.0 zs)

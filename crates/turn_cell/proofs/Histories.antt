@@ -1,21 +1,13 @@
 -- Histories that grow by an entry.
-use Rattle.std.proofs.Common.{◌≡◌, ℕ, zero, suc, ◌+◌, length, length-append, arith, List, [], ◌∷◌, ◌++◌, refl, sym, ap, subst, ◌∙◌, append_assoc, append-nil, ◌⊎◌, inl, inr}
+use Rattle.std.proofs.Common.{◌≡◌, ℕ, List, [], ◌∷◌, ◌++◌, refl, sym, ap, subst, ◌∙◌, append_assoc, append-nil, ◌⊎◌, inl, inr}
+use Rattle.std.proofs.lemmas.List.{map-append}
+use Rattle.flow_defs.proofs.Lists.{head_same, tail_same, no_cons}
 use Rattle.turn_cell.specs.History.{entries_of, IsHistory}
-use Rattle.std.specs.List.{range_with_len}
 
 module _ {E : Type 0} where
-  head_same : (x y : E) (xs ys : List E) → x ∷ xs ≡ y ∷ ys → x ≡ y
-  head_same x y xs ys e = cc
-
-  tail_same : (x y : E) (xs ys : List E) → x ∷ xs ≡ y ∷ ys → xs ≡ ys
-  tail_same x y xs ys e = cc
-
-  no_cons : (x : E) (xs : List E) → [] ≡ x ∷ xs → ⊥
-  no_cons x xs e = cc
-
   no_end : (before after : List E) (e : E) → [] ≡ before ++ e ∷ after → ⊥
-  no_end [] after e h = no_cons e after h
-  no_end (b ∷ before) after e h = no_cons b (before ++ e ∷ after) h
+  no_end [] after e h = no_cons e after (sym h)
+  no_end (b ∷ before) after e h = no_cons b (before ++ e ∷ after) (sym h)
 
   -- an entry of a longer list is the last one, or stands before it
   pub record IsLast (es : List E) (x : E) (before after : List E) (e : E) : Type 0 where
@@ -36,12 +28,7 @@ module _ {E : Type 0} where
       ]
 
   pub entries_of-append : (xs ys : List (ℕ × E)) → entries_of (xs ++ ys) ≡ entries_of xs ++ entries_of ys
-  entries_of-append [] ys = refl
-  entries_of-append (x ∷ xs) ys = ap (λ z. x.1 ∷ z) (entries_of-append xs ys)
-
-  pub cancel_nil : (xs ys : List E) → xs ++ ys ≡ xs → ys ≡ []
-  cancel_nil [] ys e = e
-  cancel_nil (x ∷ xs) ys e = cancel_nil xs ys (tail_same x x (xs ++ ys) xs e)
+  entries_of-append xs ys = map-append (λ e. e.1) xs ys
 
 module _ {E : Type 0} (MayAdd : List E → E → Type 0) where
   pub history_nil : IsHistory MayAdd []
@@ -63,15 +50,3 @@ module _ {E : Type 0} (MayAdd : List E → E → Type 0) where
       go seen (x ∷ rest) h p =
           let same : (seen ++ x ∷ []) ++ rest ≡ seen ++ x ∷ rest = append_assoc seen (x ∷ []) rest in
           subst P same (go (seen ++ x ∷ []) rest (subst (IsHistory MayAdd) (sym same) h) (step seen x p (h seen rest x refl)))
-
--- One number more is the next one at the end.
-count_more : (a n : ℕ) → range_with_len a (suc n) ≡ range_with_len a n ++ (a + n) ∷ []
-count_more a zero = ap (λ k. k ∷ []) (let e : a ≡ a + 0 = omega arith in e)
-count_more a (suc n) = ap (λ z. a ∷ z) (count_more (a + 1) n) ∙ ap (λ k. a ∷ (range_with_len (a + 1) n ++ k ∷ [])) (let e : (a + 1) + n ≡ a + suc n = omega arith in e)
-
--- the next number makes the list one longer
-pub count-next : (xs : List ℕ) (k : ℕ) → xs ≡ range_with_len 1 (length xs) → k ≡ suc (length xs) → xs ++ k ∷ [] ≡ range_with_len 1 (length (xs ++ k ∷ []))
-count-next xs k e next =
-    ap (λ z. z ++ k ∷ []) e ∙ ap (λ j. range_with_len 1 (length xs) ++ j ∷ []) (let same : k ≡ 1 + length xs = omega (arith, next) in same)
-    ∙ sym (count_more 1 (length xs))
-    ∙ ap (range_with_len 1) (let l : suc (length xs) ≡ length (xs ++ k ∷ []) = omega (arith, length-append xs (k ∷ [])) in l)

@@ -1,22 +1,13 @@
 -- Lists in which one element is replaced, and their elements by place.
-use Rattle.std.proofs.Common.{◌≡◌, ◌≢◌, ◌⊎◌, inl, inr, ℕ, zero, suc, ◌-◌, ◌<◌, List, [], ◌∷◌, ◌++◌, length, map, take, get_or, set, refl, sym, ap, ◌∙◌, arith}
+use Rattle.std.proofs.Common.{◌≡◌, ◌≢◌, ◌⊎◌, inl, inr, ℕ, zero, suc, ◌-◌, ◌<◌, List, [], ◌∷◌, ◌++◌, length, map, get_or, set, refl, sym, ap, ◌∙◌, arith}
 use Rattle.std.specs.Prelude.{slice_get, Some}
 use Rattle.std.specs.List.{refill, swap}
 use Rattle.std.proofs.Math.ListN.{get_or-append}
 use Rattle.std.proofs.Math.Seq.{get_or-append_seam}
-use Rattle.std.proofs.lemmas.List.{append-nil, drop_all, take_all, length-set, length-append, get_or-set_same, get_or-set_other, same_lists}
+use Rattle.std.proofs.lemmas.List.{length-set, length-append, get_or-set_same, get_or-set_other, same_lists}
 use Rattle.std.proofs.lemmas.List.Edits.{Swapped, swapped_from_swap, length-swap}
 use Rattle.conn_parts.specs.Places.{IsWithout}
-
--- A list that was lent as it is, and comes back with one element replaced.
-pub refilled : {X : Type 0} (xs ws : List X) → length ws ≡ length xs → refill (length xs) xs ws ≡ ws
-refilled xs ws same =
-    ap (λ t. take (length xs) (ws ++ t)) (drop_all (length ws) xs (omega (arith, same)))
-    ∙ ap (take (length xs)) (append-nil ws)
-    ∙ take_all (length xs) ws (omega (arith, same))
-
-pub refilled_set : {X : Type 0} (xs ys : List X) (k : ℕ) (y : X) → ys ≡ xs → refill (length xs) xs (set ys k y) ≡ set xs k y
-refilled_set xs ys k y is = refilled xs (set ys k y) (length-set ys k y ∙ ap length is) ∙ ap (λ zs. set zs k y) is
+use Rattle.flow_defs.proofs.Lists.{refilled}
 
 -- What was read at a place stands there.
 pub get_is : {X : Type 0} (xs : List X) (k : ℕ) (x : X) → k < length xs → x ≡ get_or xs k x → slice_get xs k ≡ Some x

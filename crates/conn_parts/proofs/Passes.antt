@@ -16,7 +16,8 @@ use Rattle.local_pool.specs.Lending.{PoolCell}
 use Rattle.segment_pool.specs.Pools.{size_of}
 use Rattle.conn_parts.specs.Shares.{AreOf, AreOwn, AreNew, GrewAt, HavePoolSize, numbers_of, seen_at, mine_at}
 use Rattle.conn_parts.specs.Places.{IsWithout}
-use Rattle.conn_parts.proofs.Lists.{refilled_set, get_is, get_set, get_set_else, set_cases, map_set}
+use Rattle.conn_parts.proofs.Lists.{get_is, get_set, get_set_else, set_cases, map_set}
+use Rattle.flow_defs.proofs.Lists.{refilled_set}
 
 module _ {S E F : Type 0} where
   -- ---- the pass at a place

@@ -6,13 +6,13 @@ use Rattle.std.proofs.lemmas.Bool.{cases_order}
 use Rattle.std.proofs.lemmas.Option.{slice_get_within, get_or_from_slice_get, same_Some}
 use Rattle.turn_cell.specs.Passes.{mine}
 use Rattle.flow_defs.specs.declared.task.ChannelId.{ChannelId}
+use Rattle.flow_defs.proofs.Lists.{refilled_set}
 use Rattle.credit_reader.specs.Senders.{AreDistinct}
 use Rattle.credit_reader.proofs.Channels.{is_same_self, is_other}
 use Rattle.net_frames.specs.declared.frame.Frame.TheVariants.{NewBufferSize}
 use Rattle.subpartition.specs.declared.entry.SendEntry.TheVariants.{Size}
 use Rattle.conn_parts.specs.Shares.{mine_at}
 use Rattle.conn_parts.specs.Messages.{sizes_on}
-use Rattle.conn_parts.proofs.Lists.{refilled_set}
 use Rattle.conn_parts.proofs.Passes.{mine_more, mine_set_else}
 use Rattle.conn_read_control.specs.Rounds.{SendPass, HasDesired, HeardSizes}
 

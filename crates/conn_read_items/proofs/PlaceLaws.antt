@@ -10,12 +10,12 @@ use Rattle.input_channel.specs.declared.fault.AcceptFault.{AcceptFault}
 use Rattle.input_channel.specs.States.{ChannelState}
 use Rattle.conn_parts.specs.declared.share.SharePasses.{SharePasses}
 use Rattle.conn_parts.specs.Shares.{AreOf, AreOwn, mine_at, seen_at}
-use Rattle.conn_parts.proofs.Lists.{refilled_set}
 use Rattle.conn_parts.proofs.Passes.{pass_at, number_at, are_own_lent, mine_here, mine_set, mine_set_else, seen_set}
 use Rattle.conn_read_items.specs.declared.cells.Cells.{Cells}
 use Rattle.conn_read_items.specs.Turning.{InputPass, WasRefusedWith}
 use Rattle.conn_read_items.specs.Asking.{Asked, AskedAt}
 use Rattle.conn_read_items.specs.Taking.{AreLent, NotedMore, GaveAt, RefusedAt}
+use Rattle.flow_defs.proofs.Lists.{refilled_set}
 
 abbrev pub InputCell : Type 0
 InputCell = TurnCell ChannelState ReceiveEntry ℕ

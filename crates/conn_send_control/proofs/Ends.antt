@@ -8,9 +8,10 @@ use Rattle.std.proofs.lemmas.Bool.{true≢false}
 use Rattle.std.proofs.lemmas.Option.{slice_get_within, slice_get-get_or, same_Some}
 use Rattle.turn_cell.specs.declared.pass.Pass.{Pass}
 use Rattle.flow_defs.specs.declared.task.ChannelId.{ChannelId}
+use Rattle.flow_defs.proofs.Lists.{refilled_set}
 use Rattle.input_channel.specs.declared.entry.ReceiveEntry.{ReceiveEntry}
 use Rattle.conn_parts.specs.Shares.{seen_at}
-use Rattle.conn_parts.proofs.Lists.{refilled_set, set_cases}
+use Rattle.conn_parts.proofs.Lists.{set_cases}
 use Rattle.conn_send_control.specs.Taking.{HasSeenEnd, HaveSeenMore, HaveEnded, NoneEnded}
 use Rattle.conn_send_control.specs.Going.{AllEnded}
 use Rattle.conn_send_control.proofs.Takings.{still_ended}

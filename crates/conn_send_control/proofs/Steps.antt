@@ -9,13 +9,13 @@ use Rattle.turn_cell.specs.Passes.{seen}
 use Rattle.flow_defs.specs.declared.task.ChannelId.{ChannelId}
 use Rattle.flow_defs.specs.declared.cause.Cause.{Cause}
 use Rattle.flow_defs.specs.declared.cause.Cause.TheVariants as causes
+use Rattle.flow_defs.proofs.Lists.{refilled_set}
 use Rattle.net_frames.specs.Frames.{AreFrames, all_spelled}
 use Rattle.outside.specs.Links.{Appended}
 use Rattle.input_channel.specs.declared.entry.ReceiveEntry.{ReceiveEntry}
 use Rattle.conn_parts.specs.Messages.{Message, is_request, requests_of}
 use Rattle.conn_parts.specs.Shares.{seen_at}
 use Rattle.conn_parts.proofs.Appends.{spelled-append}
-use Rattle.conn_parts.proofs.Lists.{refilled_set}
 use Rattle.conn_parts.proofs.Passes.{seen_set, seen_more}
 use Rattle.conn_parts.proofs.Telling.{appended_none, appended_more}
 use Rattle.conn_send_control.specs.Taking.{HasSeenEnd, HaveSeenMore}

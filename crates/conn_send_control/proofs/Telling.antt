@@ -8,6 +8,7 @@ use Rattle.std.proofs.lemmas.List.Elements.{All-nil, All-cons}
 use Rattle.turn_cell.specs.declared.pass.Pass.{Pass}
 use Rattle.turn_cell.specs.Passes.{mine}
 use Rattle.flow_defs.specs.declared.task.ChannelId.{ChannelId}
+use Rattle.flow_defs.proofs.Lists.{refilled_set}
 use Rattle.net_frames.specs.Frames.{AreFrames}
 use Rattle.net_frames.specs.declared.frame.Frame.TheVariants.{AddCredit, ResumeConsumption}
 use Rattle.credit_reader.specs.Senders.{AreDistinct, is_same}
@@ -17,7 +18,6 @@ use Rattle.input_channel.specs.Legal.{credit_told, resumes}
 use Rattle.conn_parts.specs.Messages.{Message, AreFrom, is_from_receiver, is_request, requests_of, credit_on, resumptions_on}
 use Rattle.conn_parts.specs.Shares.{mine_at}
 use Rattle.conn_parts.proofs.Appends.{frames-append, from-append, credit-append, resumptions-append, credit-more, resumptions-more}
-use Rattle.conn_parts.proofs.Lists.{refilled_set}
 use Rattle.conn_parts.proofs.Passes.{mine_here, mine_set, mine_set_else}
 use Rattle.conn_send_control.specs.Taking.{Took, one_if, credit_message, resumption_message}
 use Rattle.conn_send_control.specs.Going.{Told}

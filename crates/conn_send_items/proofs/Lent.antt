@@ -1,11 +1,11 @@
 -- The sender's pass at a place, lent for a turn.
 use Rattle.std.proofs.Common.{◌≡◌, ℕ, ◌<◌, List, length, get_or, set, sym, ap, subst, ◌∙◌, arith}
 use Rattle.flow_defs.specs.declared.parcel.Parcel.{Parcel}
+use Rattle.flow_defs.proofs.Lists.{refilled_set}
 use Rattle.subpartition.specs.declared.entry.SendEntry.{SendEntry}
 use Rattle.std.specs.List.{refill}
 use Rattle.turn_cell.specs.Passes.{seen}
 use Rattle.conn_parts.specs.Shares.{AreOwn, seen_at}
-use Rattle.conn_parts.proofs.Lists.{refilled_set}
 use Rattle.conn_parts.proofs.Passes.{pass_at, number_at, are_own_lent, seen_here, seen_set, seen_set_else}
 use Rattle.conn_send_items.specs.Fronts.{SendCell, SendPass, IsSender, NoneTaken, OneTaken, OthersStay}
 

@@ -1,10 +1,11 @@
 -- A connection once one of its channels was changed, and what that is in its world.
-use Rattle.std.proofs.Common.{◌≡◌, ℕ, ◌-◌, ◌*◌, ◌≤◌, List, ◌++◌, length, map, set, get_or, take, drop, refl, sym, ap, subst, ◌∙◌, arith}
+use Rattle.std.proofs.Common.{◌≡◌, ℕ, ◌-◌, ◌*◌, ◌≤◌, List, length, map, set, get_or, refl, sym, ap, subst, ◌∙◌, arith}
 use Rattle.std.specs.Prelude.{IsSome}
 use Rattle.std.specs.List.{All, refill}
-use Rattle.std.proofs.lemmas.List.{get_or-set_same, length-set, set-get_or, take_at}
+use Rattle.std.proofs.lemmas.List.{get_or-set_same, length-set, set-get_or}
 use Rattle.std.proofs.lemmas.List.Sums.{sum_by-set}
 use Rattle.flow_defs.specs.Items.{Items}
+use Rattle.flow_defs.proofs.Lists.{refilled}
 use Rattle.credit_reader.specs.Readers.{Ready}
 use Rattle.credit_reader.specs.Senders.{Sender, reader_of, happened}
 use Rattle.local_pool.specs.Shares.{share_of}
@@ -24,16 +25,9 @@ use Rattle.exchange_core.proofs.LaneLists.{lanes_set, lanes_count, lanes_with, l
 
 -- ---- a list that was lent and written through
 
-refill_same : {X : Type 0} (xs ws : List X) → length ws ≡ length xs → refill (length xs) xs ws ≡ ws
-refill_same xs ws same = ap (λ n. take n (ws ++ drop (length ws) xs)) (sym same) ∙ take_at ws (drop (length ws) xs) (length ws) refl
-
--- one item was set in it
-pub set_back : {X : Type 0} (xs ms : List X) (i : ℕ) (y : X) → ms ≡ xs → refill (length xs) xs (set ms i y) ≡ set xs i y
-set_back xs ms i y is = ap (λ zs. refill (length xs) xs (set zs i y)) is ∙ refill_same xs (set xs i y) (length-set xs i y)
-
--- or none was
+-- nothing was changed in it
 pub put_back : {X : Type 0} (xs ms : List X) (i : ℕ) (d : X) → ms ≡ xs → refill (length xs) xs (set ms i (get_or ms i d)) ≡ xs
-put_back xs ms i d is = ap (λ zs. refill (length xs) xs zs) (set-get_or ms i d ∙ is) ∙ refill_same xs xs refl
+put_back xs ms i d is = ap (λ zs. refill (length xs) xs zs) (set-get_or ms i d ∙ is) ∙ refilled xs xs refl
 
 -- ---- a connection that did nothing
 

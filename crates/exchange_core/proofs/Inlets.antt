@@ -1,7 +1,7 @@
 -- A connection of which the receiving end of one channel has changed.
-use Rattle.std.proofs.Common.{◌≡◌, ℕ, Bool, true, false, cond, ◌+◌, ◌-◌, ◌*◌, ◌<◌, ◌≤◌, List, ◌++◌, All, length, map, set, take, get_or, refl, sym, ap, subst, ◌∙◌, arith}
-use Rattle.std.specs.List.{refill, sum_by}
-use Rattle.std.proofs.lemmas.List.{append-nil, drop_all, take_all, length-set, length-map, get_or_default, set-get_or}
+use Rattle.std.proofs.Common.{◌≡◌, ℕ, Bool, true, false, cond, ◌+◌, ◌-◌, ◌*◌, ◌<◌, ◌≤◌, List, All, length, map, set, get_or, refl, sym, ap, subst, ◌∙◌, arith}
+use Rattle.std.specs.List.{sum_by}
+use Rattle.std.proofs.lemmas.List.{length-set, length-map, get_or_default, set-get_or}
 use Rattle.std.proofs.lemmas.List.Sums.{sum_by-set, get_or-le-sum_by}
 use Rattle.credit_reader.specs.Senders.{Sender}
 use Rattle.segment_pool.specs.declared.pool.Pool.{Pool}
@@ -28,15 +28,6 @@ use Rattle.exchange_core.specs.Inlets.{GateFollows, with_inbox}
 use Rattle.exchange_core.proofs.LaneLists.{lanes_set, lane_at, lane_is, lanes_with, whole_lane}
 
 -- ---- lists
-
-refilled : {X : Type 0} (xs ws : List X) → length ws ≡ length xs → refill (length xs) xs ws ≡ ws
-refilled xs ws same =
-    ap (λ t. take (length xs) (ws ++ t)) (drop_all (length ws) xs (omega (arith, same)))
-    ∙ ap (take (length xs)) (append-nil ws)
-    ∙ take_all (length xs) ws (omega (arith, same))
-
-pub refilled_set : {X : Type 0} (xs ys : List X) (i : ℕ) (y : X) → ys ≡ xs → refill (length xs) xs (set ys i y) ≡ set xs i y
-refilled_set xs ys i y is = refilled xs (set ys i y) (length-set ys i y ∙ ap length is) ∙ ap (λ zs. set zs i y) is
 
 -- what was read there is there
 pub old_is : {X : Type 0} (xs ys : List X) (i : ℕ) (d : X) → ys ≡ xs → i < length xs → get_or xs i (get_or ys i d) ≡ get_or ys i d

@@ -10,6 +10,7 @@ use Rattle.flow_defs.specs.declared.task.BarrierKind.TheVariants.{Inline}
 use Rattle.flow_defs.specs.declared.parcel.Parcel.{Parcel}
 use Rattle.flow_defs.specs.declared.parcel.Parcel.TheVariants as parcels
 use Rattle.flow_defs.specs.Parcels.{is_data}
+use Rattle.flow_defs.proofs.Lists.{refilled}
 use Rattle.segment_pool.specs.declared.pool.Pool.{Pool}
 use Rattle.segment_pool.specs.Pools.{size_of}
 use Rattle.subpartition.specs.declared.item.Filled.{Filled}
@@ -160,11 +161,8 @@ module _ (segment bytes room : List ℕ) (n : ℕ) (count : n ≡ min (length se
   pub room_long : length room ≡ length segment
   room_long = ap length copied ∙ length-append (take n bytes) (drop n segment) ∙ omega (arith, count, length-take n bytes, length-drop n segment)
 
-  pub refilled : refill (length segment) segment room ≡ room
-  refilled = ap (λ k. take k (room ++ drop (length room) segment)) (sym room_long) ∙ take_at room (drop (length room) segment) (length room) refl
-
   pub front_is : take n (refill (length segment) segment room) ≡ take n bytes
-  front_is = ap (take n) (refilled ∙ copied) ∙ take_at (take n bytes) (drop n segment) n (length-take n bytes ∙ omega (arith, count))
+  front_is = ap (take n) (refilled segment room room_long ∙ copied) ∙ take_at (take n bytes) (drop n segment) n (length-take n bytes ∙ omega (arith, count))
 
 -- ---- counts
 

@@ -1,7 +1,8 @@
 -- Lists that are equal, a list that was lent and came back, and the numbers from one on.
-use Rattle.std.proofs.Common.{◌≡◌, ℕ, zero, suc, ◌+◌, List, [], ◌∷◌, ◌++◌, length, take, set, refl, sym, ap, ◌∙◌, arith, append-nil, length-append}
+use Rattle.std.proofs.Common.{◌≡◌, ℕ, zero, suc, ◌+◌, List, [], ◌∷◌, ◌++◌, length, take, drop, set, sym, ap, ◌∙◌, arith, append-nil, length-append}
 use Rattle.std.specs.List.{refill, range_with_len}
-use Rattle.std.proofs.lemmas.List.{append_cancel_left, drop_all, take_all, length-set}
+use Rattle.std.proofs.Math.Seq.{take-append_seam}
+use Rattle.std.proofs.lemmas.List.{append_cancel_left, length-set}
 
 -- ---- equal lists
 
@@ -21,10 +22,7 @@ cancel_nil xs ys same = append_cancel_left xs ys [] (same ∙ sym (append-nil xs
 -- ---- a list that was lent and comes back
 
 pub refilled : {A : Type 0} (xs ws : List A) → length ws ≡ length xs → refill (length xs) xs ws ≡ ws
-refilled xs ws same =
-    ap (λ t. take (length xs) (ws ++ t)) (drop_all (length ws) xs (omega (arith, same)))
-    ∙ ap (take (length xs)) (append-nil ws)
-    ∙ take_all (length xs) ws (omega (arith, same))
+refilled xs ws same = ap (λ n. take n (ws ++ drop (length ws) xs)) (sym same) ∙ take-append_seam ws (drop (length ws) xs)
 
 -- with one element set in it
 pub refilled_set : {A : Type 0} (xs ys : List A) (i : ℕ) (y : A) → ys ≡ xs → refill (length xs) xs (set ys i y) ≡ set xs i y

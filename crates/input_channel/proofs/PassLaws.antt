@@ -56,7 +56,7 @@ module _ (p : ReceiveEntry → Bool) (own : (n : ℕ) (e : ReceiveEntry) → may
   pub counted : (pairs : List (ℕ × ReceiveEntry)) → ReceivedByPasses pairs → count_by p (entries_of pairs) ≡ count_by p (by 0 pairs)
   counted [] passes = refl
   counted (pair ∷ pairs) passes =
-      counted_one pair.0 pair.1 (entries_of pairs) (by 0 pairs) passes.0 (counted pairs passes.1) ∙ ap (count_by p) (sym (by-cons 0 pair.0 pair.1 pairs))
+      counted_one pair.0 pair.1 (entries_of pairs) (by 0 pairs) passes.0 (counted pairs passes.1) ∙ ap (count_by p) (sym (by-cons 0 pair pairs))
 
 polls_own : (x : Bool) (n : ℕ) (e : ReceiveEntry) → may_receive n e ≡ true → gives_kind x e ≡ true → n ≡ 0
 polls_own x n (Poll hold gave) may is = eqb-true n 0 may
@@ -130,7 +130,7 @@ credit_one n Resume es mine may rest = no_credit (eqb 2 n) Resume es mine refl r
 pub writer_tells_credit : WriterTellsCredit
 writer_tells_credit [] passes = refl
 writer_tells_credit (pair ∷ pairs) passes =
-    credit_one pair.0 pair.1 (entries_of pairs) (by 2 pairs) passes.0 (writer_tells_credit pairs passes.1) ∙ ap credit_told (sym (by-cons 2 pair.0 pair.1 pairs))
+    credit_one pair.0 pair.1 (entries_of pairs) (by 2 pairs) passes.0 (writer_tells_credit pairs passes.1) ∙ ap credit_told (sym (by-cons 2 pair pairs))
 
 -- ---- what was given
 

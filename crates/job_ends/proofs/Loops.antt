@@ -11,9 +11,10 @@ use Rattle.turn_cell.specs.History.{StartsWith, by}
 use Rattle.turn_cell.specs.Passes.{IsPassOf, IsSamePass, number, seen, mine}
 use Rattle.turn_cell.proofs.Lists.{starts_on}
 use Rattle.conn_parts.specs.Shares.{AreOwn, mine_at, seen_at}
-use Rattle.conn_parts.proofs.Lists.{refilled_set, get_is}
+use Rattle.conn_parts.proofs.Lists.{get_is}
 use Rattle.conn_parts.proofs.Passes.{pass_at, number_at, are_own_lent, mine_here, seen_here, mine_same, seen_more}
 use Rattle.job_ends.specs.Settling.{HaveSettled, GoOn, IsTaskAt, AreTaskAt, SettledAt}
+use Rattle.flow_defs.proofs.Lists.{refilled_set}
 
 module _ {S E F : Type 0} (cells : List (TurnCell S E F)) (passes list : List (Pass S E F)) (k : ℕ) (cell : TurnCell S E F) (pass : Pass S E F)
     (own : AreOwn 1 cells passes) (same : list ≡ passes) (within : k < length cells) (is_cell : cell ≡ get_or cells k cell) (is_pass : pass ≡ get_or list k pass) where

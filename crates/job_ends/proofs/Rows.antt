@@ -7,7 +7,8 @@ use Rattle.std.proofs.lemmas.Bool.{cases_lt}
 use Rattle.std.proofs.lemmas.List.{length-set}
 use Rattle.std.proofs.lemmas.Option.{same_Some}
 use Rattle.flow_defs.specs.Items.{Items}
-use Rattle.conn_parts.proofs.Lists.{get_is, get_set, get_set_else, refilled_set, set_cases}
+use Rattle.flow_defs.proofs.Lists.{refilled_set}
+use Rattle.conn_parts.proofs.Lists.{get_is, get_set, get_set_else, set_cases}
 use Rattle.job_workers.specs.declared.place.Place.TheVariants.{Vacant}
 use Rattle.job_workers.specs.declared.task.TaskLeft.{TaskLeft}
 use Rattle.job_workers.specs.Places.{Pairs}

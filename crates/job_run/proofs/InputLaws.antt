@@ -6,7 +6,8 @@ use Rattle.std.specs.Option.{option_map_or}
 use Rattle.flow_defs.specs.Items.{Items}
 use Rattle.flow_defs.specs.declared.job.Job.{Job}
 use Rattle.flow_defs.specs.Jobs.{tasks}
-use Rattle.conn_parts.proofs.Lists.{get_is, refilled}
+use Rattle.flow_defs.proofs.Lists.{refilled}
+use Rattle.conn_parts.proofs.Lists.{get_is}
 use Rattle.job_cells.specs.declared.edge.Edge.{Edge}
 use Rattle.job_workers.specs.declared.place.Place.TheVariants.{Vacant}
 use Rattle.job_workers.specs.declared.task.TaskLeft.{TaskLeft}

@@ -8,7 +8,7 @@ use Rattle.std.proofs.lemmas.List.{get_or-map, get_or-set_same, get_or-set_other
 use Rattle.std.proofs.lemmas.Option.{none-some, slice_get-map}
 use Rattle.flow_defs.specs.declared.task.ChannelId.{ChannelId}
 use Rattle.credit_reader.specs.Senders.{is_same}
-use Rattle.credit_reader.proofs.Channels.{same_channel, is_other}
+use Rattle.credit_reader.proofs.Channels.{is_same_of, same_channel, is_other}
 
 -- what is found is there
 pub find_there : {X : Type 0} (p : X → Bool) (xs : List X) (x : X) → find p xs ≡ Some x → (k : ℕ) × (slice_get xs k ≡ Some x)

@@ -9,7 +9,7 @@ use Rattle.credit_reader.specs.declared.reader.Reader.{Reader}
 use Rattle.credit_reader.specs.declared.reader.SentKind.{SentKind}
 use Rattle.credit_reader.specs.Readers.{fresh, Happening, Asked, Granted, Resumed, Ready, Sent, Announced, reader_next}
 use Rattle.credit_reader.specs.Senders.{is_same, reader_of, after_at}
-use Rattle.credit_reader.proofs.Channels.{is_same_self, is_same_of, same_channel, is_other, reader_after}
+use Rattle.credit_reader.proofs.Channels.{is_same_of, same_channel, is_other, reader_after}
 use Rattle.reader_state.specs.declared.entry.ReaderEntry.{ReaderEntry}
 use Rattle.reader_state.specs.declared.entry.ReaderEntry.TheVariants as entry
 use Rattle.reader_state.specs.Ledgers as ledgers

@@ -1,10 +1,10 @@
 -- The early part of a channel at its place among those of all channels.
-use Rattle.std.proofs.Common.{◌≡◌, ℕ, ◌+◌, ◌-◌, ◌<◌, ◌≤◌, Bool, true, false, cond, eqb, eq-eqb, List, [], ◌∷◌, ◌++◌, length, take, drop, map, get_or, set, Option, Some, None, refl, sym, ap, subst, ◌∙◌, arith, inl, inr, append-nil, ◌&&◌}
+use Rattle.std.proofs.Common.{◌≡◌, ℕ, ◌-◌, ◌<◌, ◌≤◌, Bool, true, false, cond, eqb, eq-eqb, List, [], ◌∷◌, length, map, get_or, set, Option, Some, None, refl, sym, ap, subst, ◌∙◌, arith, inl, inr, ◌&&◌}
 use Rattle.std.specs.Prelude.{find, position, slice_get, IsSome, min, nat_lt, ◌≢◌, Result, Ok, Err, OnOk, OnErr, IfErr}
-use Rattle.std.specs.List.{AllPairs, refill}
+use Rattle.std.specs.List.{AllPairs}
 use Rattle.std.specs.Option.{option_map, option_map_or}
 use Rattle.std.proofs.lemmas.Bool.{cases_eq, cases_order, cases_Bool, cond-true, cond-false, ltb-false, false≢true}
-use Rattle.std.proofs.lemmas.List.{get_or-map, get_or-set_same, get_or-set_other, get_or_default, length-map, length-set, ext_get_or, drop_all, take_all}
+use Rattle.std.proofs.lemmas.List.{get_or-map, get_or-set_same, get_or-set_other, get_or_default, length-map, length-set, ext_get_or}
 use Rattle.std.proofs.lemmas.List.Recursion.{found_at, found_nowhere}
 use Rattle.std.proofs.lemmas.List.Quantifiers.{position-Some}
 use Rattle.std.proofs.lemmas.List.Sums.{fails_before_first}
@@ -26,16 +26,6 @@ no_early = none_early (record { edge = 0; from = 0; to = 0 })
 
 abbrev pub channel_of : Early → ChannelId
 channel_of e = e.channel
-
--- ---- lists
-
-pub refilled_set : {X : Type 0} (xs ys : List X) (i : ℕ) (y : X) → ys ≡ xs → refill (length xs) xs (set ys i y) ≡ set xs i y
-refilled_set xs ys i y is = refilled xs (set ys i y) (length-set ys i y ∙ ap length is) ∙ ap (λ zs. set zs i y) is
-  where
-    refilled : {X : Type 0} (xs ws : List X) → length ws ≡ length xs → refill (length xs) xs ws ≡ ws
-    refilled xs ws same =
-        ap (λ k. take (length xs) (ws ++ drop k xs)) same ∙ ap (λ zs. take (length xs) (ws ++ zs)) (drop_all (length xs) xs (omega arith))
-        ∙ ap (take (length xs)) (append-nil ws) ∙ take_all (length xs) ws (omega (arith, same))
 
 -- where a channel's early part stands alone among these
 pub record OnlyAt (es : List Early) (i : ℕ) (c : ChannelId) : Type 0 where

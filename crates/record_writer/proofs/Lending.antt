@@ -10,11 +10,12 @@ use Rattle.turn_cell.specs.Passes.{IsPassOf, mine, number}
 use Rattle.subpartition.specs.declared.entry.SendEntry.{SendEntry}
 use Rattle.subpartition.specs.Sending.{put}
 use Rattle.conn_parts.specs.Shares.{mine_at}
-use Rattle.conn_parts.proofs.Lists.{refilled_set, get_set, get_set_else, set_cases}
+use Rattle.conn_parts.proofs.Lists.{get_set, get_set_else, set_cases}
 use Rattle.conn_parts.proofs.Passes.{mine_here, mine_set, mine_set_else}
 use Rattle.record_writer.specs.declared.part.Part.{Part}
 use Rattle.record_writer.specs.Writers.{SendCell, SendPass, AreOwnAt, place_of, bytes_in}
 use Rattle.record_writer.specs.Channels.{IsTaskPass, IsPart, LaidSome, laid}
+use Rattle.flow_defs.proofs.Lists.{refilled_set}
 
 -- What is in the buffer of a place.
 abbrev pub held_in : List Part → ℕ → List ℕ

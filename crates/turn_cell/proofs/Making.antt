@@ -1,7 +1,5 @@
 -- A further pass beside those that are made.
-use Rattle.std.proofs.Common.{◌≡◌, ℕ, zero, suc, ◌+◌, ◌<◌, ⊎_elim, List, [], ◌∷◌, ◌++◌, length, get_or, set, sym, refl, ap, ◌∙◌, subst, arith, length-append, take, drop}
-use Rattle.std.specs.List.{refill}
-use Rattle.std.proofs.Math.Seq.{take-append_seam}
+use Rattle.std.proofs.Common.{◌≡◌, ℕ, zero, suc, ◌+◌, ◌<◌, ⊎_elim, List, [], ◌∷◌, ◌++◌, length, get_or, set, refl, subst, arith, length-append}
 use mathlib.Core.Option.{some, some-injective}
 use lib.ListN.{get_elem?}
 use Rattle.turn_cell.specs.declared.cell.TurnCell.{TurnCell}
@@ -33,7 +31,3 @@ module _ {S E F : Type 0} (cell : TurnCell S E F) where
             (at_end xs q a j e)
       ]) at in
       ((all, (let l = h.1 in let m = length-append xs (q ∷ []) in omega arith), λ a at. subst (IsFirst cell (n + 1)) (some-injective p a at) first), refl)
-
-module _ {A : Type 0} where
-  pub refill_same : (xs ws : List A) → length ws ≡ length xs → refill (length xs) xs ws ≡ ws
-  refill_same xs ws e = ap (λ n. take n (ws ++ drop (length ws) xs)) (sym e) ∙ take-append_seam ws (drop (length ws) xs)

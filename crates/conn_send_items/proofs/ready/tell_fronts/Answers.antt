@@ -2,12 +2,12 @@ use Rattle.std.proofs.Common.{inl, inr, suc, [], length, length-set, sym, ap, su
 use Rattle.std.specs.Prelude.{slice_get}
 use Rattle.std.proofs.lemmas.Bool.{cases_eq}
 use Rattle.turn_cell.specs.Passes.{mine, seen}
-use Rattle.conn_parts.proofs.Lists.{refilled_set}
 use Rattle.conn_send_items.specs.Fronts.{StandsAt}
 use Rattle.conn_send_items.proofs.Standing.{there}
 use Rattle.conn_send_items.proofs.Saying.{sends_more}
 use Rattle.conn_send_items.proofs.Noting.{noted_first}
 use Rattle.conn_send_items.proofs.ready.tell_fronts.Goals as goal
+use Rattle.flow_defs.proofs.Lists.{refilled_set}
 
 pub loop-place-preserved : goal.loop-place-preserved
 loop-place-preserved g c = let i = c.loop-place.invariant in let channels = c.args.cells.now.channels.now in let now = c.tell_front.new.passes in record {

@@ -1,10 +1,10 @@
 use Rattle.std.proofs.Common.{◌<◌, [], length, sym, subst, ◌∙◌, arith}
 use Rattle.turn_cell.specs.Passes.{mine}
-use Rattle.conn_parts.proofs.Lists.{refilled_set}
 use Rattle.conn_send_items.specs.Steps.{AreNoted}
 use Rattle.conn_send_items.proofs.Saying.{sends_more}
 use Rattle.conn_send_items.proofs.Noting.{noted_at, noted_set}
 use Rattle.conn_send_items.proofs.ready.tell_new_fronts.Goals as goal
+use Rattle.flow_defs.proofs.Lists.{refilled_set}
 
 pub tell_new_front-requires-clause-last : goal.tell_new_front-requires-clause-last
 tell_new_front-requires-clause-last g c = let told = c.loop-place.told.items in

@@ -1,9 +1,9 @@
 use Rattle.std.proofs.Common.{List, length, refl, sym, ap, subst, ◌∙◌}
 use Rattle.flow_defs.specs.Items.{Items}
+use Rattle.flow_defs.proofs.Lists.{refilled}
 use Rattle.job_start.specs.declared.start.Start.{Start}
 use Rattle.job_start.specs.Starts.{IsBase}
 use Rattle.snapshot_channel.specs.declared.views.Opening.{Opening}
-use Rattle.conn_parts.proofs.Lists.{refilled}
 use Rattle.job_workers.specs.Loops.{MayRunLoop}
 use Rattle.job_workers.specs.Places.{Each, MayRun}
 use Rattle.job_workers.specs.Tasks.{MayRunTask}

@@ -10,9 +10,10 @@ use Rattle.exchange_world.specs.Lanes as lanes
 use Rattle.exchange_core.specs.declared.lane.Lane.{Lane}
 use Rattle.exchange_core.specs.declared.frames.ControlFrame.TheVariants as control_frames
 use Rattle.exchange_core.specs.Exchanges.{world_of, world_lane, world_control}
-use Rattle.exchange_core.proofs.Inlets.{refilled_set, old_is, old_lane, lane_now, lane_in, gate_same, put_as, kept_as, acts}
+use Rattle.exchange_core.proofs.Inlets.{old_is, old_lane, lane_now, lane_in, gate_same, put_as, kept_as, acts}
 use Rattle.exchange_core.proofs.InletSteps.{credits_some, credits_none}
 use Rattle.exchange_core.proofs.connection.Connection.announce_credit.Goals as goal
+use Rattle.flow_defs.proofs.Lists.{refilled_set}
 
 pub returns : goal.returns
 returns c =

@@ -1,6 +1,7 @@
 use Rattle.std.proofs.Common.{rules, ◌≡◌, ◌-◌, ◌<◌, ◌∷◌, map, length, get_or, refl, sym, ap, subst, ◌∙◌, arith}
 use Rattle.std.proofs.lemmas.List.{length-map}
 use Rattle.flow_defs.specs.declared.parcel.Parcel.{Parcel}
+use Rattle.flow_defs.proofs.Lists.{refilled_set}
 use Rattle.local_pool.specs.Locals.{lent_of, limit_of}
 use Rattle.input_channel.specs.declared.entry.ReceiveEntry.TheVariants as entries
 use Rattle.input_channel.specs.Answers.{parcel_in, refused}
@@ -18,7 +19,7 @@ use Rattle.exchange_core.specs.Exchanges.{brought, world_of, world_lane, world_f
 use Rattle.exchange_core.specs.Inlets.{GateFollows, with_floats}
 use Rattle.exchange_core.proofs.Floats.{owed_with}
 use Rattle.exchange_core.proofs.Arriving.{parcel_same, floating_pushed, response_first, announcement_first, response_channel, announcement_channel, response_accepted}
-use Rattle.exchange_core.proofs.Inlets.{refilled_set, old_is, old_lane, lane_now, lane_in, put_as, acts, inbox_size}
+use Rattle.exchange_core.proofs.Inlets.{old_is, old_lane, lane_now, lane_in, put_as, acts, inbox_size}
 use Rattle.exchange_core.proofs.InletSteps.{asks_received}
 use Rattle.exchange_core.proofs.connection.Connection.deliver.Goals as goal
 

@@ -3,13 +3,14 @@ use Rattle.std.proofs.lemmas.Bool.{le-ltb, lt-ltb, or_left, or_right, or_from}
 use Rattle.std.proofs.lemmas.List.{length-map}
 use Rattle.flow_defs.specs.declared.parcel.Parcel.TheVariants as parcels
 use Rattle.flow_defs.specs.Records.{encoded}
+use Rattle.flow_defs.proofs.Lists.{refilled_set}
 use Rattle.script_text.specs.declared.reply.Reply.TheVariants as replies
 use Rattle.exchange_world.specs.Lanes.{Lane, ITEMS_MAX}
 use Rattle.exchange_world.specs.Steps.{puts, emits, pieces, buffers_of, with_items}
 use Rattle.exchange_world.specs.Worlds.{partition_limit, partition_lent}
 use Rattle.exchange_core.specs.Exchanges.{world_of, world_lane}
 use Rattle.exchange_core.specs.Lanes.{buffers}
-use Rattle.exchange_core.proofs.Connections.{has_stayed, lent_is, lent_whole, lent_stays, set_back, put_acted, is_known}
+use Rattle.exchange_core.proofs.Connections.{has_stayed, lent_is, lent_whole, lent_stays, put_acted, is_known}
 use Rattle.exchange_core.proofs.Emitting.{emits_refused, emits_full, emits_queued}
 use Rattle.exchange_core.proofs.LaneSteps.{items_count, backlog_is, backlog_few}
 use Rattle.exchange_core.specs.declared.connection.Connection.{Connection}
@@ -126,7 +127,7 @@ returns g c =
     let number : partition_lent (world_lane lane) + length (buffers_of w text) ≡ c.lent.result + c.count_buffers-buffers.result = omega (arith, count, backlog, c.lent.ensures, here.lent) in
     let done = emits_queued w n text (world_lane lane) is c.if-lane.false fits in
     put_acted self _ c.tell.new.readers n after (replies.Queued n (c.lent.result + c.count_buffers-buffers.result)) (emits w n text) c.requires.whole channel.0 channel.1
-    (set_back self.lanes.items ms (n - 1) after lent) c.put_record.ensures.lane
+    (refilled_set self.lanes.items ms (n - 1) after lent) c.put_record.ensures.lane
     (ap (λ (l : Lane). l.inbox) put ∙ sym (ap (λ (l : Lane). l.inbox) is)) c.tell.ensures
     (done ∙ ap (λ l. (puts w n l, replies.Queued n (partition_lent (world_lane lane) + length (buffers_of w text)))) (sym put) ∙ ap (λ k. (puts w n (world_lane after), replies.Queued n k)) number)
     c.requires.sound

@@ -5,10 +5,11 @@ use Rattle.script_text.specs.declared.reply.Reply.TheVariants as replies
 use Rattle.exchange_world.specs.Lanes.{Lane, ITEMS_MAX}
 use Rattle.exchange_world.specs.Steps.{puts, finishes}
 use Rattle.exchange_core.specs.Exchanges.{world_of, world_lane}
-use Rattle.exchange_core.proofs.Connections.{has_stayed, lent_is, lent_whole, lent_stays, set_back, put_acted, is_known}
+use Rattle.exchange_core.proofs.Connections.{has_stayed, lent_is, lent_whole, lent_stays, put_acted, is_known}
 use Rattle.exchange_core.proofs.Emitting.{finishes_refused, finishes_full, finishes_done}
 use Rattle.exchange_core.proofs.LaneSteps.{end_at, end_put, items_count}
 use Rattle.exchange_core.proofs.connection.Connection.finish.Goals as goal
+use Rattle.flow_defs.proofs.Lists.{refilled_set}
 
 pub returns-then-lane : goal.returns-then-lane
 returns-then-lane c =
@@ -53,6 +54,6 @@ returns c =
     let few : length (world_lane lane).items < ITEMS_MAX = omega (arith, c.spare.ensures, c.if-spare-eq0.false, here.room, items_count lane) in
     let done = finishes_done (world_of self) n (world_lane lane) is c.if-lane.false (lt-ltb _ _ few) in
     put_acted self _ c.tell.new.readers n (record lane { queue = c.finish.new.self; finished = true }) replies.Done (finishes (world_of self) n) c.requires.whole channel.0 channel.1
-    (set_back self.lanes.items ms (n - 1) _ lent) (end_at self.pool self.partition_limit lane here c.finish.new.self c.finish.ensures)
+    (refilled_set self.lanes.items ms (n - 1) _ lent) (end_at self.pool self.partition_limit lane here c.finish.new.self c.finish.ensures)
     (sym (ap (λ (l : Lane). l.inbox) is)) c.tell.ensures (done ∙ ap (λ l. (puts (world_of self) n l, replies.Done)) (sym put))
     (c.connections_stay_sound.ensures.steps (length self.lanes.items) (world_of self) (events.Finish n) c.requires.whole.sound channel)

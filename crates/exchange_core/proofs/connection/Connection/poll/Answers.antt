@@ -1,6 +1,7 @@
 use Rattle.std.proofs.Common.{◌-◌, ◌<◌, Option, Result, Ok, Err, IfOk, length, get_or, refl, sym, ap, subst, ◌∙◌, arith}
 use Rattle.std.proofs.lemmas.List.{length-map}
 use Rattle.flow_defs.specs.declared.parcel.Parcel.{Parcel}
+use Rattle.flow_defs.proofs.Lists.{refilled_set}
 use Rattle.local_pool.specs.Locals.{lent_of, limit_of}
 use Rattle.input_channel.specs.Inboxes.{poll_gives}
 use Rattle.script_text.specs.declared.reply.Reply.{Reply}
@@ -11,7 +12,7 @@ use Rattle.exchange_world.specs.Steps.{polls, polls_item}
 use Rattle.exchange_core.specs.declared.lane.Lane.{Lane}
 use Rattle.exchange_core.specs.Exchanges.{world_of, world_lane, IsLaneOf}
 use Rattle.exchange_core.specs.Inlets.{with_inbox, polled_inbox, polled_rest, polled_reply}
-use Rattle.exchange_core.proofs.Inlets.{refilled_set, old_is, old_lane, lane_now, lane_with, put_as, put_world, acts_as, inbox_size, owed_few, lent_enough}
+use Rattle.exchange_core.proofs.Inlets.{old_is, old_lane, lane_now, lane_with, put_as, put_world, acts_as, inbox_size, owed_few, lent_enough}
 use Rattle.exchange_core.proofs.InletSteps.{polls_is, polls_sound}
 use Rattle.exchange_core.proofs.connection.Connection.poll.Goals as goal
 

@@ -5,11 +5,12 @@ use Rattle.script_text.specs.declared.reply.Reply.TheVariants as replies
 use Rattle.exchange_world.specs.Lanes.{Lane, ITEMS_MAX}
 use Rattle.exchange_world.specs.Steps.{puts, bars}
 use Rattle.exchange_core.specs.Exchanges.{world_of, world_lane}
-use Rattle.exchange_core.proofs.Connections.{has_stayed, lent_is, lent_whole, lent_stays, set_back, put_acted, is_known}
+use Rattle.exchange_core.proofs.Connections.{has_stayed, lent_is, lent_whole, lent_stays, put_acted, is_known}
 use Rattle.exchange_core.proofs.Emitting.{is_wrong, bars_refused, bars_full, bars_done, next_is}
 use Rattle.exchange_core.proofs.LaneSteps.{barrier_at, barrier_put, items_count}
 use Rattle.exchange_core.proofs.connection.Connection.put_barrier.Goals as goal
 use Rattle.exchange_core.proofs.connection.Connection.put_barrier.Goals.{then-lane-via-then-lane, then-lane-via-else-lane+then-ne}
+use Rattle.flow_defs.proofs.Lists.{refilled_set}
 
 pub returns-then-lane : goal.returns-then-lane
 returns-then-lane c =
@@ -75,6 +76,6 @@ returns c =
     let few : length (world_lane lane).items < ITEMS_MAX = omega (arith, c.spare.ensures, c.if-spare-eq0.false, here.room, items_count lane) in
     let done = bars_done (world_of self) n k (world_lane lane) is right (lt-ltb _ _ few) in
     put_acted self _ c.tell.new.readers n (record lane { queue = c.put_inline.new.self; barriers = k }) replies.Done (bars (world_of self) n k) c.requires.whole channel.0 channel.1
-    (set_back self.lanes.items ms (n - 1) _ lent) (barrier_at self.pool self.partition_limit lane here k c.put_inline.new.self c.put_inline.ensures)
+    (refilled_set self.lanes.items ms (n - 1) _ lent) (barrier_at self.pool self.partition_limit lane here k c.put_inline.new.self c.put_inline.ensures)
     (sym (ap (λ (l : Lane). l.inbox) is)) c.tell.ensures (done ∙ ap (λ l. (puts (world_of self) n l, replies.Done)) (sym put))
     (c.connections_stay_sound.ensures.steps (length self.lanes.items) (world_of self) (events.Barrier n k) c.requires.whole.sound (channel, some, low))

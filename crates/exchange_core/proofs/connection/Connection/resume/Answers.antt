@@ -9,9 +9,10 @@ use Rattle.exchange_core.specs.declared.lane.Lane.{Lane}
 use Rattle.exchange_core.specs.declared.frames.ControlFrame.TheVariants as control_frames
 use Rattle.exchange_core.specs.Exchanges.{world_of, world_lane, world_control, IsLaneOf}
 use Rattle.exchange_core.specs.Inlets.{with_inbox}
-use Rattle.exchange_core.proofs.Inlets.{refilled_set, old_is, old_lane, lane_now, lane_with, gate_same, put_as, kept_as, acts}
+use Rattle.exchange_core.proofs.Inlets.{old_is, old_lane, lane_now, lane_with, gate_same, put_as, kept_as, acts}
 use Rattle.exchange_core.proofs.InletSteps.{resumes_some, resumes_none}
 use Rattle.exchange_core.proofs.connection.Connection.resume.Goals as goal
+use Rattle.flow_defs.proofs.Lists.{refilled_set}
 
 pub returns : goal.returns
 returns c =

@@ -3,10 +3,11 @@ use Rattle.script_text.specs.declared.event.Event.TheVariants as events
 use Rattle.exchange_world.specs.Worlds.{lane_of}
 use Rattle.exchange_world.specs.Steps.{number_of}
 use Rattle.exchange_core.specs.Exchanges.{world_of, world_lane, IsLaneOf}
-use Rattle.exchange_core.proofs.Connections.{lent_is, lent_whole, set_back}
+use Rattle.exchange_core.proofs.Connections.{lent_is, lent_whole}
 use Rattle.exchange_core.proofs.LaneSteps.{backlog_is, head_is, items_count}
 use Rattle.exchange_core.proofs.SentItems.{may_send, send_acted}
 use Rattle.exchange_core.proofs.connection.Connection.send.Goals as goal
+use Rattle.flow_defs.proofs.Lists.{refilled_set}
 
 pub overflow_add-c : goal.overflow_add-c
 overflow_add-c g c =
@@ -71,5 +72,5 @@ returns g c =
     send_acted self id turn lane after c.in_ok-sent.sent is c.in_ok-sent.ensures.taken c.head-head.result c.backlog-backlog.result
     (c.head-head.ensures ∙ sym (head_is after.queue.items)) (c.backlog-backlog.ensures.backlog ∙ sym (backlog_is after.queue.items))
     _ (id.from + 1) c.sent-sequence.result c.requires (record { pool = refl; gate = refl; size = refl; total = refl; limit = refl }) (sym c.next.ensures.first ∙ c.in-Some.is) (omega arith)
-    (set_back self.lanes.items ms id.from after c.as_mut_slice.ensures.value ∙ ap (λ i. set self.lanes.items i after) (sym at)) c.in_ok-sent.ensures.lane
+    (refilled_set self.lanes.items ms id.from after c.as_mut_slice.ensures.value ∙ ap (λ i. set self.lanes.items i after) (sym at)) c.in_ok-sent.ensures.lane
     c.sent-sequence.ensures.sent c.sent-sequence.ensures.number c.in_ok-push_back.ensures.items refl (c.connections_stay_sound.ensures.steps (length self.lanes.items) (world_of self) events.Send c.requires.sound tt)

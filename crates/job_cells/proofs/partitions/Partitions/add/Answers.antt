@@ -3,8 +3,8 @@ use Rattle.std.proofs.lemmas.Option.{slice_get-get_or}
 use Rattle.subpartition.specs.Queues.{Queue}
 use Rattle.subpartition.specs.Standing.{QueueStandsFor}
 use Rattle.flow_defs.specs.Items.{Items}
+use Rattle.flow_defs.proofs.Lists.{refilled_set}
 use Rattle.record_writer.specs.Writers.{SendPass}
-use Rattle.conn_parts.proofs.Lists.{refilled_set}
 use Rattle.job_cells.specs.Edges.{items_room}
 use Rattle.job_cells.specs.Groups.{HasMore}
 use Rattle.job_cells.proofs.partitions.Partitions.add.Goals as goal

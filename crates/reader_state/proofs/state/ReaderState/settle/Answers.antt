@@ -2,8 +2,9 @@ use Rattle.std.proofs.Common.{◌≡◌, map, refl, ap, subst, sym, ◌∙◌}
 use Rattle.reader_state.specs.Ledgers.{Ledger, settled}
 use Rattle.reader_state.specs.Settling.{alone, put_at, IsEarlyKept}
 use Rattle.reader_state.proofs.Ledgers.{names_settled}
-use Rattle.reader_state.proofs.Placing.{channel_of, only_at, channels_set, refilled_set, settled_place}
+use Rattle.reader_state.proofs.Placing.{channel_of, only_at, channels_set, settled_place}
 use Rattle.reader_state.proofs.state.ReaderState.settle.Goals as goal
+use Rattle.flow_defs.proofs.Lists.{refilled_set}
 
 pub invariant_of-self-2 : goal.invariant_of-self-2
 invariant_of-self-2 c =

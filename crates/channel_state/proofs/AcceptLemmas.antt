@@ -23,6 +23,7 @@ use Rattle.plain_machine.specs.Places.{sending_tasks, channels, receiver_place, 
 use Rattle.plain_machine.specs.Images.{items_at, saved, takes_of, AreRuns, AreSpans, HasShortKeys, Fits}
 use Rattle.plain_machine.specs.Spelling.{flag_part, sized, counted, source_part, row_part, run_part, channel_part, spelling, CanSpell}
 use Rattle.plain_machine.proofs.Channels.{ends_of}
+use Rattle.plain_machine.proofs.PlaceLemmas.{sum_below-within}
 use Rattle.job_text.specs.KnownKinds.{every_kind}
 use Rattle.job_text.specs.Shapes.{shape_of, said, job_of}
 use Rattle.job_text.proofs.Law.{accepted}
@@ -33,7 +34,7 @@ use Rattle.channel_state.specs.ImageFaults.{is_text, source, emitted, is_key, ro
 use Rattle.channel_state.specs.Building.{ArePieces, table_part, takes_part}
 use Rattle.channel_state.proofs.FieldLemmas.{tested_again, number_again, number_passed, wide32, wide64, piece_again, flag_again, mark_again}
 use Rattle.channel_state.proofs.RecordLemmas.{records_spelled}
-use Rattle.channel_state.proofs.FitsLemmas.{many_receive, same_fits, OfChannel, of_channel, sum_below-within}
+use Rattle.channel_state.proofs.FitsLemmas.{many_receive, same_fits, OfChannel, of_channel}
 
 -- ---- parts
 

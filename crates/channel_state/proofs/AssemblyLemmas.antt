@@ -15,7 +15,7 @@ use Rattle.flow_defs.specs.Tables.{Values}
 use Rattle.plain_machine.specs.Places.{sending_tasks, channels, receiver_place, channel_place}
 use Rattle.plain_machine.specs.Images.{items_at, saved, AreSpans, HasShortKeys, Fits}
 use Rattle.plain_machine.specs.Spelling.{flag_part, sized, source_part, channel_part, spelling, CanSpell}
-use Rattle.plain_machine.proofs.PlaceLemmas.{channels_stand}
+use Rattle.plain_machine.proofs.PlaceLemmas.{channels_stand, sum_below-within}
 use Rattle.job_text.specs.Laws.{HaveSameTasks}
 use Rattle.job_text.specs.Shapes.{Shape, shape_of, job_of, IsShapeOf}
 use Rattle.job_text.proofs.ShapeLemmas.{same_shape, shaped_job}
@@ -24,7 +24,7 @@ use Rattle.channel_state.specs.Reading.{byte, flag, number, piece, mark, tested,
 use Rattle.channel_state.specs.ImageFaults.{is_text}
 use Rattle.channel_state.specs.Building.{IsBytes, TakesText, IsRead, IsSource, IsTable, IsCount, ArePieces, table_part, takes_part, AreSources, AreSaved, AreTakes, IsSpelledBy}
 use Rattle.channel_state.proofs.FieldLemmas.{tested_ok, number_takes, wide64, piece_takes, flag_takes, byte_takes, mark_takes, nothing_takes}
-use Rattle.channel_state.proofs.FitsLemmas.{many_receive, same_fits, turned_tasks, sum_below-within}
+use Rattle.channel_state.proofs.FitsLemmas.{many_receive, same_fits, turned_tasks}
 
 -- ---- lists side by side
 

@@ -1,5 +1,5 @@
 -- An image fits a job where it fits another one of the same tasks and edges.
-use Rattle.std.proofs.Common.{◌≡◌, ◌≢◌, ℕ, zero, suc, ◌+◌, ◌-◌, ◌*◌, ◌<◌, ◌≤◌, Bool, true, ◌&&◌, leb, ltb, List, [], ◌∷◌, ◌++◌, length, refl, sym, ap, subst, ◌∙◌, arith, inl, inr}
+use Rattle.std.proofs.Common.{◌≡◌, ◌≢◌, ℕ, zero, suc, ◌+◌, ◌-◌, ◌<◌, ◌≤◌, Bool, true, ◌&&◌, leb, ltb, List, [], ◌∷◌, ◌++◌, length, refl, sym, ap, subst, ◌∙◌, arith, inl, inr}
 use Rattle.std.proofs.lemmas.Bool.{cases_lt, eq-eqb}
 use Rattle.std.specs.Prelude.{slice_get, IsTrue}
 use Rattle.flow_defs.specs.declared.job.Job.{Job}
@@ -12,19 +12,12 @@ use Rattle.plain_machine.specs.Worth.{concat_below}
 use Rattle.plain_machine.specs.Places.{sending_tasks, receiving_tasks, channels, receiver_place, place_on_edge, channel_place}
 use Rattle.plain_machine.specs.Images.{items_at, saved, takes_of, AreRuns, AreSpans, Fits}
 use Rattle.plain_machine.proofs.Channels.{Ends, ends_of, channel_of}
-use Rattle.plain_machine.proofs.PlaceLemmas.{length-concat_below, channels_fill}
+use Rattle.plain_machine.proofs.PlaceLemmas.{length-concat_below, channels_fill, length-each, sum_same}
 use Rattle.job_text.specs.Laws.{HaveSameTasks}
 
 same_sum : (n : ℕ) (f g : ℕ → ℕ) → ((i : ℕ) → f i ≡ g i) → sum_below n f ≡ sum_below n g
 same_sum zero f g same = refl
 same_sum (suc n) f g same = ap (λ k. k + f n) (same_sum n f g same) ∙ ap (λ k. sum_below n g + k) (same n)
-
-sum_ones : (n : ℕ) → sum_below n (λ i. 1) ≡ n
-sum_ones zero = refl
-sum_ones (suc n) = let deep = sum_ones n in omega (arith, deep)
-
-length-each : {X : Type 0} (n : ℕ) (f : ℕ → X) → length (concat_below n (λ a. f a ∷ [])) ≡ n
-length-each n f = length-concat_below n (λ a. f a ∷ []) (λ i. 1) (λ _ _. refl) ∙ sum_ones n
 
 pub many_send : (job : Job) → length (sending_tasks job) ≡ sum_below (suc (last_edge job)) (tasks job)
 many_send job = length-concat_below (suc (last_edge job)) (λ i. concat_below (tasks job i) (λ a. (i, a) ∷ [])) (tasks job) (λ i _. length-each (tasks job i) (λ a. (i, a)))
@@ -87,11 +80,6 @@ module _ (job other : Job) (same : HaveSameTasks job other) where
         last_is_empty = λ last e a b on. sym (same_saved image e a b) ∙ fits.last_is_empty last e a b (same_channel e a b ∙ on);
       }
 
-pub sum_below-within : (n : ℕ) (g : ℕ → ℕ) (i : ℕ) → i < n → sum_below i g + g i ≤ sum_below n g
-sum_below-within zero g i low = absurd (omega (arith, low))
-sum_below-within (suc n) g i low = elim (cases_lt i n) [
-  | inl below ↦ let deep = sum_below-within n g i below in omega (arith, deep)
-  | inr above ↦ let same : i ≡ n = omega (arith, low, above) in subst (λ k. sum_below k g + g k ≤ sum_below n g + g n) (sym same) (omega arith)
 ]
 
 -- ---- each place is one of a channel
@@ -118,17 +106,13 @@ record OnEdge (x : Exchange) (m n q : ℕ) : Type 0 where
   pub joined : joins x a b ≡ true
   pub is : place_on_edge x n a b ≡ q
 
-sum_rows : (m n : ℕ) → sum_below m (λ i. n) ≡ m * n
-sum_rows zero n = omega arith
-sum_rows (suc m) n = let deep = sum_rows m n in omega (arith, deep)
-
 on_edge : (x : Exchange) (m n q : ℕ) → (x ≡ Forward → m ≡ n) → q < width x m n → OnEdge x m n q
 on_edge Hash m n q wide low =
-    let at = at_place (λ i. n) m q (subst (λ k. q < k) (sym (sum_rows m n)) low) in
-    record { a = at.i; b = at.a; sender = at.low; receiver = at.here; joined = refl; is = ap (λ k. k + at.a) (sym (sum_rows at.i n)) ∙ sym at.is }
+    let at = at_place (λ i. n) m q (subst (λ k. q < k) (sym (sum_same m n)) low) in
+    record { a = at.i; b = at.a; sender = at.low; receiver = at.here; joined = refl; is = ap (λ k. k + at.a) (sym (sum_same at.i n)) ∙ sym at.is }
 on_edge Rebalance m n q wide low =
-    let at = at_place (λ i. n) m q (subst (λ k. q < k) (sym (sum_rows m n)) low) in
-    record { a = at.i; b = at.a; sender = at.low; receiver = at.here; joined = refl; is = ap (λ k. k + at.a) (sym (sum_rows at.i n)) ∙ sym at.is }
+    let at = at_place (λ i. n) m q (subst (λ k. q < k) (sym (sum_same m n)) low) in
+    record { a = at.i; b = at.a; sender = at.low; receiver = at.here; joined = refl; is = ap (λ k. k + at.a) (sym (sum_same at.i n)) ∙ sym at.is }
 on_edge Forward m n q wide low =
     record { a = q; b = q; sender = low; receiver = subst (λ k. q < k) (wide refl) low; joined = eq-eqb q q refl; is = refl }
 

@@ -5,6 +5,7 @@ use Rattle.std.proofs.Common.{length, ◌≡◌, ℕ, zero, suc, ◌<◌, ◌≤
 use Rattle.std.specs.Prelude.{All, Contains, codes}
 use Rattle.std.specs.FinMap.{empty, entries, len-entries, len-empty}
 use Rattle.std.proofs.lemmas.List.Elements.{All-from_recursion, recursion_from_All}
+use Rattle.std.proofs.lemmas.List.{nil_from_length}
 use Rattle.std.proofs.lemmas.Option.{same_Some}
 use Rattle.flow_defs.specs.Items.{Items}
 use Rattle.flow_defs.specs.declared.parcel.Parcel.{Parcel}
@@ -284,13 +285,9 @@ told = record { workers = record { accounts = accounts; acknowledged = acknowled
 
 -- ---- its base is the start
 
-nothing_of_length : {X : Type 0} (xs : List X) → length xs ≡ 0 → xs ≡ []
-nothing_of_length [] is = refl
-nothing_of_length (x ∷ xs) is = absurd (omega arith)
-
 no_keys : HasShortKeys empty
 no_keys =
-    subst (All (λ (row : List ℕ × ℕ). IsShort row.0)) (sym (nothing_of_length (entries (empty {X = ℕ} {R = key_cmp})) (sym (len-entries empty) ∙ len-empty key_cmp ℕ)))
+    subst (All (λ (row : List ℕ × ℕ). IsShort row.0)) (sym (nil_from_length (entries (empty {X = ℕ} {R = key_cmp})) (sym (len-entries empty) ∙ len-empty key_cmp ℕ)))
     (All-from_recursion (λ (row : List ℕ × ℕ). IsShort row.0) [] tt)
 
 one : {X : Type 0} (P : X → Type 0) (x : X) → P x → All P (x ∷ [])

@@ -1,5 +1,5 @@
 -- Which channel a place is of, and what stands there.
-use Rattle.std.proofs.Common.{◌≡◌, ℕ, zero, suc, ◌+◌, ◌*◌, ◌<◌, ◌≤◌, true, List, [], ◌∷◌, ◌++◌, length, get_or, refl, sym, ap, ◌∙◌, subst, arith}
+use Rattle.std.proofs.Common.{◌≡◌, ℕ, suc, ◌+◌, ◌<◌, ◌≤◌, true, List, [], ◌∷◌, ◌++◌, length, get_or, refl, sym, ap, ◌∙◌, subst, arith}
 use Rattle.std.specs.Option.{option_map_or}
 use Rattle.std.proofs.lemmas.Option.{slice_get_read, slice_get_within}
 use Rattle.std.proofs.lemmas.Bool.{eq-eqb}
@@ -12,6 +12,7 @@ use Rattle.plain_machine.specs.Places.{place_on_edge, channels, channel_place}
 use Rattle.plain_machine.specs.Images.{items_at}
 use Rattle.plain_machine.specs.Theorems.{ChannelsStandInOrder, ChannelsFillEdges}
 use Rattle.plain_machine.proofs.Channels.{channel_of}
+use Rattle.plain_machine.proofs.PlaceLemmas.{sum_same}
 use Rattle.collector.proofs.TaskPlaces.{at_place}
 
 pub record OnEdge (x : Exchange) (m n q : ℕ) : Type 0 where
@@ -22,17 +23,13 @@ pub record OnEdge (x : Exchange) (m n q : ℕ) : Type 0 where
   pub joined : joins x a b ≡ true
   pub is : place_on_edge x n a b ≡ q
 
-sum_rows : (m n : ℕ) → sum_below m (λ i. n) ≡ m * n
-sum_rows zero n = omega arith
-sum_rows (suc m) n = let deep = sum_rows m n in omega (arith, deep)
-
 on_edge : (x : Exchange) (m n q : ℕ) → (x ≡ Forward → m ≡ n) → q < width x m n → OnEdge x m n q
 on_edge Hash m n q wide low =
-    let at = at_place (λ i. n) m q (subst (λ k. q < k) (sym (sum_rows m n)) low) in
-    record { a = at.i; b = at.a; sender = at.low; receiver = at.here; joined = refl; is = ap (λ k. k + at.a) (sym (sum_rows at.i n)) ∙ sym at.is }
+    let at = at_place (λ i. n) m q (subst (λ k. q < k) (sym (sum_same m n)) low) in
+    record { a = at.i; b = at.a; sender = at.low; receiver = at.here; joined = refl; is = ap (λ k. k + at.a) (sym (sum_same at.i n)) ∙ sym at.is }
 on_edge Rebalance m n q wide low =
-    let at = at_place (λ i. n) m q (subst (λ k. q < k) (sym (sum_rows m n)) low) in
-    record { a = at.i; b = at.a; sender = at.low; receiver = at.here; joined = refl; is = ap (λ k. k + at.a) (sym (sum_rows at.i n)) ∙ sym at.is }
+    let at = at_place (λ i. n) m q (subst (λ k. q < k) (sym (sum_same m n)) low) in
+    record { a = at.i; b = at.a; sender = at.low; receiver = at.here; joined = refl; is = ap (λ k. k + at.a) (sym (sum_same at.i n)) ∙ sym at.is }
 on_edge Forward m n q wide low =
     record { a = q; b = q; sender = low; receiver = subst (λ k. q < k) (wide refl) low; joined = eq-eqb q q refl; is = refl }
 

@@ -7,7 +7,7 @@ use Rattle.flow_defs.specs.declared.job.Exchange.TheVariants.{Hash, Rebalance, F
 use Rattle.flow_defs.specs.Jobs.{last_edge, tasks, sum_below}
 use Rattle.plain_machine.specs.Places.{sending_tasks, receiving_tasks, sender_place, receiver_place, place_on_edge}
 use Rattle.plain_machine.specs.Worth.{concat_below}
-use Rattle.plain_machine.proofs.PlaceLemmas.{length-concat_below}
+use Rattle.plain_machine.proofs.PlaceLemmas.{length-concat_below, length-each}
 use Rattle.collector.specs.Fitting.{IsTask}
 use Rattle.collector.specs.Collecting.{task_count}
 
@@ -53,13 +53,6 @@ sum_shift (suc n) g = let deep = sum_shift n g in omega (arith, deep)
 -- a task that takes stands behind the sources, at its place among those that take
 pub taker_stands : (job : Job) (e b : ℕ) → sender_place job (suc e) b ≡ tasks job 0 + receiver_place job e b
 taker_stands job e b = let shift = sum_shift e (tasks job) in omega (arith, shift)
-
-sum_ones : (n : ℕ) → sum_below n (λ i. 1) ≡ n
-sum_ones zero = refl
-sum_ones (suc n) = let deep = sum_ones n in omega (arith, deep)
-
-length-each : {X : Type 0} (n : ℕ) (f : ℕ → X) → length (concat_below n (λ a. f a ∷ [])) ≡ n
-length-each n f = length-concat_below n (λ a. f a ∷ []) (λ i. 1) (λ _ _. refl) ∙ sum_ones n
 
 pub many_send : (job : Job) → length (sending_tasks job) ≡ sum_below (suc (last_edge job)) (tasks job)
 many_send job = length-concat_below (suc (last_edge job)) (λ i. concat_below (tasks job i) (λ a. (i, a) ∷ [])) (tasks job) (λ i _. length-each (tasks job i) (λ a. (i, a)))

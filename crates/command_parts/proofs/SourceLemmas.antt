@@ -1,5 +1,5 @@
 -- The sources of a job, one after another.
-use Rattle.std.proofs.Common.{◌≡◌, ℕ, zero, suc, ◌<◌, ◌≤◌, List, [], ◌∷◌, ◌++◌, length, get_or, Option, Some, None, sym, ap, subst, arith, inl, inr, ◌⊎◌}
+use Rattle.std.proofs.Common.{◌≡◌, ℕ, zero, suc, ◌<◌, List, [], ◌∷◌, ◌++◌, length, get_or, Option, Some, None, sym, ap, subst, arith, inl, inr, ◌⊎◌}
 use Rattle.std.specs.Prelude.{IsSome, slice_get}
 use Rattle.std.proofs.lemmas.Bool.{false≢true}
 use Rattle.std.proofs.lemmas.Option.{slice_get_within, same_Some}
@@ -7,7 +7,6 @@ use Rattle.std.specs.Option.{option_map_or}
 use Rattle.flow_defs.specs.Items.{Items}
 use Rattle.flow_defs.specs.declared.job.Job.{Job}
 use Rattle.command_parts.specs.Sources.{source_name, AreInputsOf, HasFaulty}
-use Rattle.outside.specs.Faults.{HasRisen}
 
 found : {A : Type 0} (xs : List A) (i : ℕ) (x : A) → i < length xs → x ≡ get_or xs i x → slice_get xs i ≡ Some x
 found [] i x within is = absurd (omega (arith, within))
@@ -32,13 +31,6 @@ pub one_input_more : {S : Type 0} (left : S → Option (List ℕ)) (faults : S �
     → AreInputsOf left faults job contents inputs → left input ≡ contents (source_name job (length inputs)) → faults input ≡ 0 → AreInputsOf left faults job contents (inputs ++ input ∷ [])
 one_input_more left faults job contents inputs input told tells fresh =
     one_more (λ a (s : _). (left s ≡ contents (source_name job a)) × (faults s ≡ 0)) inputs input told (tells, fresh)
-
--- a count that has risen has risen since before, and later
-pub risen_since : (a b c : ℕ) → a ≤ b → HasRisen b c → HasRisen a c
-risen_since a b c before risen = elim risen [ inl more ↦ inl (omega arith) | inr full ↦ inr full ]
-
-pub risen_still : (a b c : ℕ) → HasRisen a b → b ≤ c → HasRisen a c
-risen_still a b c risen later = elim risen [ inl more ↦ inl (omega arith) | inr full ↦ inr (omega arith) ]
 
 -- the faulty one of a list and one more is among the list, or is that one
 pub faulty_parts : {S : Type 0} (faults : S → ℕ) (xs : List S) (x : S) → HasFaulty faults (xs ++ x ∷ []) → HasFaulty faults xs ⊎ (0 < faults x)

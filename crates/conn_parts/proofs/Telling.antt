@@ -1,9 +1,8 @@
 -- What ends of links tell, over several calls.
-use Rattle.std.proofs.Common.{◌≡◌, ℕ, ◌+◌, ◌-◌, ◌≤◌, inl, inr, List, [], ◌++◌, take, drop, length, sym, ap, subst, ◌∙◌, arith, append_assoc, append-nil}
+use Rattle.std.proofs.Common.{◌≡◌, ℕ, ◌+◌, ◌-◌, List, [], ◌++◌, take, drop, length, sym, ap, subst, ◌∙◌, append_assoc, append-nil}
 use Rattle.std.specs.Prelude.{IfSome, Option, Some, None, Result, Ok, Err, OnErr}
 use Rattle.std.proofs.Math.Seq.{take-add}
 use Rattle.std.proofs.lemmas.List.{take_rest}
-use Rattle.outside.specs.Faults.{HasRisen}
 use Rattle.outside.specs.Links.{Appended}
 use Rattle.conn_parts.specs.Coming.{Came}
 
@@ -20,16 +19,6 @@ appended_same a b c xs p e = subst (λ o. Appended a o xs) (sym e) p
 
 pub came_more : (a b c : Option (List ℕ)) (ys : List ℕ) → Came a b → Appended b c ys → Came a c
 came_more a b c ys came told = (came.0 ++ ys, appended_more a b c came.0 ys came.1 told)
-
--- ---- counts of faults
-
-pub risen_before : (a b c : ℕ) → a ≤ b → HasRisen b c → HasRisen a c
-risen_before a b c le (inl h) = inl (omega arith)
-risen_before a b c le (inr h) = inr h
-
-pub risen_after : (a b c : ℕ) → HasRisen a b → b ≤ c → HasRisen a c
-risen_after a b c (inl h) le = inl (omega arith)
-risen_after a b c (inr h) le = inr (omega arith)
 
 -- ---- bytes that are sent piece by piece
 

@@ -12,13 +12,14 @@ use Rattle.net_frames.specs.Faults.{CannotBegin}
 use Rattle.reader_state.specs.Turning.{ReaderPass}
 use Rattle.outside.specs.Stops.{first_met}
 use Rattle.outside.specs.Links.{Appended}
+use Rattle.outside.proofs.Faults.{risen_after}
 use Rattle.conn_parts.specs.declared.share.ConnShare.{ConnShare}
 use Rattle.conn_parts.specs.declared.share.SharePasses.{SharePasses}
 use Rattle.conn_parts.specs.Coming.{Came}
 use Rattle.conn_parts.specs.Messages.{Message, closing}
 use Rattle.conn_parts.specs.Reading.{BeginsBadly, BeginsWith}
 use Rattle.conn_parts.specs.Stopping.{StopPass}
-use Rattle.conn_parts.proofs.Telling.{appended_more, risen_after}
+use Rattle.conn_parts.proofs.Telling.{appended_more}
 use Rattle.conn_read_control.specs.declared.cells.ControlCells.{ControlCells}
 use Rattle.conn_read_control.specs.declared.cells.ControlPasses.{ControlPasses}
 use Rattle.conn_read_control.specs.Controlling.{entries_in, reads_control, seen_readers, MetPeer, EndedBy, ControlAccount}

@@ -14,8 +14,9 @@ use Rattle.reader_state.specs.declared.entry.ReaderEntry.{ReaderEntry}
 use Rattle.outside.specs.declared.stop.StopEntry.{StopEntry}
 use Rattle.outside.specs.declared.stop.StopEntry.TheVariants.{Met}
 use Rattle.outside.specs.Stops.{first_met}
+use Rattle.outside.proofs.Faults.{risen_before}
 use Rattle.conn_parts.specs.Messages.{Message}
-use Rattle.conn_parts.proofs.Telling.{appended_none, appended_same, risen_before}
+use Rattle.conn_parts.proofs.Telling.{appended_none, appended_same}
 use Rattle.conn_read_control.specs.declared.cells.ControlCells.{ControlCells}
 use Rattle.conn_read_control.specs.declared.cells.ControlPasses.{ControlPasses}
 use Rattle.conn_read_control.specs.Rounds.{Gets, MeetsPeer, EndsBy, HasLooked, HasHandled, HasRead, HasEnded, Went}

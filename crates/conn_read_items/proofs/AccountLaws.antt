@@ -12,12 +12,13 @@ use Rattle.net_frames.specs.Frames.{Begins, spelling, all_spelled}
 use Rattle.input_channel.specs.declared.entry.ReceiveEntry.{ReceiveEntry}
 use Rattle.input_channel.specs.declared.fault.AcceptFault.{AcceptFault}
 use Rattle.outside.specs.Links.{Appended}
+use Rattle.outside.proofs.Faults.{risen_after}
 use Rattle.conn_parts.specs.declared.share.ConnShare.{ConnShare}
 use Rattle.conn_parts.specs.declared.share.SharePasses.{SharePasses}
 use Rattle.conn_parts.specs.Coming.{Came}
 use Rattle.conn_parts.specs.Messages.{Message, closing}
 use Rattle.conn_parts.specs.Reading.{BeginsBadly, BeginsWith}
-use Rattle.conn_parts.proofs.Telling.{appended_more, risen_after}
+use Rattle.conn_parts.proofs.Telling.{appended_more}
 use Rattle.conn_read_items.specs.declared.cells.Cells.{Cells}
 use Rattle.conn_read_items.specs.Receiving.{MayReadItems, ItemsHandBack, ItemsAccount, EndedBy, MetPeer, WasRefused, reads_items}
 use Rattle.conn_read_items.specs.Taking.{AreLent, KeepsOthers, EndsBy, EndsByPeer, WhyEnded, ReadToEnd}

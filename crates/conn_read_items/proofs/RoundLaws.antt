@@ -11,13 +11,14 @@ use Rattle.outside.specs.declared.stop.StopEntry.{StopEntry}
 use Rattle.outside.specs.declared.stop.StopEntry.TheVariants.{Met}
 use Rattle.outside.specs.Links.{Appended}
 use Rattle.outside.specs.Stops.{first_met, is_fault, told_of}
+use Rattle.outside.proofs.Faults.{risen_before}
 use Rattle.conn_parts.specs.declared.share.SharePasses.{SharePasses}
 use Rattle.conn_parts.specs.Coming.{CameOn}
 use Rattle.conn_parts.specs.Messages.{is_from_sender}
 use Rattle.conn_parts.specs.Shares.{mine_at}
 use Rattle.conn_parts.specs.Stopping.{StopCell, StopPass, ToldStop}
 use Rattle.conn_parts.proofs.Appends.{spelled-append, frames-append, from-append}
-use Rattle.conn_parts.proofs.Telling.{appended_none, appended_more, risen_before}
+use Rattle.conn_parts.proofs.Telling.{appended_none, appended_more}
 use Rattle.conn_read_items.specs.declared.cells.Cells.{Cells}
 use Rattle.conn_read_items.specs.Receiving.{noted, notes_on, IsKnown}
 use Rattle.conn_read_items.specs.Turning.{InputPass}

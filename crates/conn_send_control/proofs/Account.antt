@@ -7,12 +7,13 @@ use Rattle.flow_defs.specs.declared.cause.Cause.TheVariants as causes
 use Rattle.net_frames.specs.Frames.{AreFrames, all_spelled}
 use Rattle.outside.specs.Links.{Appended}
 use Rattle.outside.specs.Stops.{told_of}
+use Rattle.outside.proofs.Faults.{risen_before, risen_after}
 use Rattle.turn_cell.specs.Passes.{IsSamePass}
 use Rattle.conn_parts.specs.declared.share.SharePasses.{SharePasses}
 use Rattle.conn_parts.specs.Messages.{Message, AreFrom, closing, is_from_receiver}
 use Rattle.conn_parts.specs.Stopping.{StopCell, StopPass, ToldStop}
 use Rattle.conn_parts.specs.Writing.{Wrote}
-use Rattle.conn_parts.proofs.Telling.{appended_more, risen_before, risen_after}
+use Rattle.conn_parts.proofs.Telling.{appended_more}
 use Rattle.conn_send_control.specs.Announcing.{IsSendCause, AnnounceAccount}
 use Rattle.conn_send_control.specs.Going.{AreCut, GoneOut, ClosedAs, RanFor}
 use Rattle.conn_send_control.proofs.Going.{front_more, cut_longer}

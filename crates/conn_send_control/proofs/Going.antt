@@ -5,8 +5,9 @@ use Rattle.std.proofs.Math.Seq.{take-append-add}
 use Rattle.flow_defs.specs.declared.cause.Cause.{Cause}
 use Rattle.flow_defs.specs.declared.cause.Cause.TheVariants as causes
 use Rattle.outside.specs.Links.{Appended}
+use Rattle.outside.proofs.Faults.{risen_before}
 use Rattle.conn_parts.specs.Writing.{AppendedFront}
-use Rattle.conn_parts.proofs.Telling.{appended_more, risen_before}
+use Rattle.conn_parts.proofs.Telling.{appended_more}
 use Rattle.conn_send_control.specs.Going.{LieStill, AreCut, WentOut, GoneOut}
 
 -- ---- fronts

@@ -8,13 +8,14 @@ use Rattle.flow_defs.specs.declared.cause.Cause.TheVariants.{Done, Stopped, Inpu
 use Rattle.net_frames.specs.Frames.{AreFrames, all_spelled}
 use Rattle.outside.specs.Faults.{HasRisen}
 use Rattle.outside.specs.Links.{Appended}
+use Rattle.outside.proofs.Faults.{risen_before, risen_after}
 use Rattle.reader_state.specs.declared.entry.ReaderEntry.{ReaderEntry}
 use Rattle.reader_state.specs.Standing.{told_last}
 use Rattle.conn_parts.specs.Shares.{seen_at}
 use Rattle.conn_parts.specs.Messages.{Message, AreFrom, is_from_sender, closing}
 use Rattle.conn_parts.specs.Writing.{AppendedFront, Wrote}
 use Rattle.conn_parts.proofs.Appends.{spelled-append}
-use Rattle.conn_parts.proofs.Telling.{appended_none, appended_more, risen_before, risen_after}
+use Rattle.conn_parts.proofs.Telling.{appended_none, appended_more}
 use Rattle.conn_send_items.specs.Fronts.{SendPass, backlog_after}
 use Rattle.conn_send_items.specs.Sending.{IsSendCause}
 use Rattle.conn_send_items.specs.Steps.{Sends, Writes, WritesUntil, WrittenUntil, HasWritten, SendsUntil, ClosedAs}

@@ -1,5 +1,5 @@
 -- The places of an edge's channels.
-use Rattle.std.proofs.Common.{◌≡◌, ℕ, zero, suc, ◌+◌, ◌*◌, ◌/◌, ◌%◌, ◌<◌, ◌≤◌, true, List, [], ◌∷◌, ◌++◌, length, get_or, Some, refl, sym, ap, subst, ◌∙◌, arith, inl, inr}
+use Rattle.std.proofs.Common.{◌≡◌, ℕ, zero, suc, ◌+◌, ◌*◌, ◌/◌, ◌%◌, ◌<◌, true, List, [], ◌∷◌, ◌++◌, length, get_or, Some, refl, sym, ap, subst, ◌∙◌, arith, inl, inr}
 use Rattle.std.specs.Prelude.{slice_get}
 use Rattle.std.proofs.lemmas.Bool.{cases_lt, eqb-true, eq-eqb, and_from, le-leb, lt-ltb}
 use Rattle.std.proofs.lemmas.Nat.{div-add-mod', div_below, mod_below}
@@ -11,7 +11,7 @@ use Rattle.flow_defs.specs.declared.task.ChannelId.{ChannelId}
 use Rattle.flow_defs.specs.Jobs.{tasks, exchange, joins, is_channel, sum_below}
 use Rattle.plain_machine.specs.Worth.{concat_below}
 use Rattle.plain_machine.proofs.Channels.{ends_of}
-use Rattle.plain_machine.proofs.PlaceLemmas.{length-concat_below}
+use Rattle.plain_machine.proofs.PlaceLemmas.{length-concat_below, sum_below-within, sum_same}
 use Rattle.record_writer.specs.Writers.{ways, receiver_at, sender_at}
 use Rattle.job_cells.specs.declared.span.Span.{Span}
 use Rattle.job_cells.specs.Spans.{span_on, id_at, ids_into, ids_below, ways_in}
@@ -20,11 +20,6 @@ use Rattle.job_cells.proofs.Lists.{get_front, get_behind}
 
 -- ---- lists end to end
 
-pub sum_within : (n : ℕ) (g : ℕ → ℕ) (i : ℕ) → i < n → sum_below i g + g i ≤ sum_below n g
-sum_within zero g i low = absurd (omega arith)
-sum_within (suc n) g i low = elim (cases_lt i n) [
-  | inl below ↦ let deep = sum_within n g i below in omega (arith, deep)
-  | inr above ↦ let same : i ≡ n = omega arith in subst (λ k. sum_below k g + g k ≤ sum_below n g + g n) (sym same) (omega arith)
 ]
 
 -- The j-th of the i-th list.
@@ -34,17 +29,13 @@ get_below (suc n) f g i j many low inside =
     let all : length (concat_below n f) ≡ sum_below n g = length-concat_below n f g (λ k l. many k (omega arith)) in
     elim (cases_lt i n) [
       | inl below ↦
-          let deep = sum_within n g i below in
+          let deep = sum_below-within n g i below in
           get_front (concat_below n f) (f n) (sum_below i g + j) (omega (arith, all, deep, inside)) ∙ get_below n f g i j (λ k l. many k (omega arith)) below inside
       | inr above ↦
           let same : i ≡ n = omega arith in
           subst (λ k. slice_get (concat_below n f ++ f n) (sum_below k g + j) ≡ slice_get (f k) j) (sym same)
           (ap (λ k. slice_get (concat_below n f ++ f n) (k + j)) (sym all) ∙ get_behind (concat_below n f) (f n) j)
     ]
-
-sum_same : (n k : ℕ) → sum_below n (λ i. k) ≡ n * k
-sum_same zero k = omega arith
-sum_same (suc n) k = let deep = sum_same n k in omega (arith, deep)
 
 -- ---- the ids of an edge
 

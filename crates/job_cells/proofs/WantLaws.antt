@@ -12,14 +12,14 @@ use Rattle.flow_defs.specs.declared.job.Exchange.{Exchange}
 use Rattle.flow_defs.specs.declared.job.Exchange.TheVariants.{Hash, Rebalance, Forward}
 use Rattle.flow_defs.specs.Jobs.{IsJob, last_edge, tasks, exchange, width, edge_width, sum_below, segments_needed}
 use Rattle.plain_machine.specs.Worth.{concat_below}
-use Rattle.plain_machine.proofs.PlaceLemmas.{length-concat_below}
+use Rattle.plain_machine.proofs.PlaceLemmas.{length-concat_below, sum_below-within}
 use Rattle.local_pool.specs.declared.shares.Want.{Want}
 use Rattle.local_pool.specs.Shares.{IsWant, dealt, needs, wish, wishes}
 use Rattle.record_writer.specs.Writers.{ways, ways_on, ways_into}
 use Rattle.job_cells.specs.Grants.{partition_want, gate_want, wants_on, wants_of}
 use Rattle.job_cells.specs.Lending.{ends, wants_before}
 use Rattle.job_cells.proofs.Lists.{get_behind, get_front}
-use Rattle.job_cells.proofs.Places.{sum_within, get_below}
+use Rattle.job_cells.proofs.Places.{get_below}
 
 -- ---- each is a want
 
@@ -54,7 +54,7 @@ few_ends job (suc n) is low =
 pub many_wants : (job : Job) → IsJob job → (1 ≤ length (wants_of job)) × (length (wants_of job) < 2000)
 many_wants job is =
     let l = length_wants job in let few = few_ends job (suc (last_edge job)) is (omega arith) in let stages = is.stages in
-    let some = (is.counts 0 (omega arith)).0 in let first = sum_within (suc (last_edge job)) (ends job) 0 (omega arith) in
+    let some = (is.counts 0 (omega arith)).0 in let first = sum_below-within (suc (last_edge job)) (ends job) 0 (omega arith) in
     (omega (arith, l, some, first), omega (arith, l, few, stages))
 
 -- ---- what all need
@@ -105,7 +105,7 @@ partition_stands job e a low here =
     ∙ at_replicate n a p here
 
 pub ends_within : (job : Job) (e : ℕ) → e ≤ last_edge job → wants_before job e + ends job e ≤ length (wants_of job)
-ends_within job e low = let l = length_wants job in let w = sum_within (suc (last_edge job)) (ends job) e (omega arith) in omega (arith, l, w)
+ends_within job e low = let l = length_wants job in let w = sum_below-within (suc (last_edge job)) (ends job) e (omega arith) in omega (arith, l, w)
 
 -- ---- what they wish beyond their needs
 

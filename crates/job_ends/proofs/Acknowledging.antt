@@ -1,9 +1,8 @@
 -- The passes of the channel of snapshots, taken out of rows of places one after another, and what was received of them.
-use Rattle.std.proofs.Common.{◌≡◌, ℕ, zero, suc, ◌+◌, ◌<◌, ◌≤◌, inl, inr, Option, Some, None, List, [], ◌∷◌, ◌++◌, length, take, refl, sym, ap, subst, ◌∙◌, arith}
+use Rattle.std.proofs.Common.{◌≡◌, ℕ, zero, suc, ◌+◌, ◌<◌, ◌≤◌, Option, Some, None, List, [], ◌∷◌, ◌++◌, length, take, refl, sym, ap, subst, ◌∙◌, arith}
 use Rattle.std.specs.Prelude.{slice_get}
 use Rattle.std.specs.List.{All, AllByRecursion, flat_map}
 use Rattle.std.specs.Option.{option_map_or, option_to_list}
-use Rattle.std.proofs.lemmas.Bool.{cases_lt}
 use Rattle.std.proofs.lemmas.List.{flat_map_more, take_more}
 use Rattle.std.proofs.lemmas.List.Elements.{All-append, All-cons, All-from_recursion, All-head, All-nil, All-same, recursion_from_All}
 use Rattle.std.proofs.lemmas.Option.{get_or_from_slice_get, same_Some}
@@ -13,7 +12,7 @@ use Rattle.flow_defs.specs.declared.job.Job.{Job}
 use Rattle.flow_defs.specs.declared.task.TaskId.{TaskId}
 use Rattle.flow_defs.specs.Jobs.{last_edge, tasks, sum_below}
 use Rattle.plain_machine.specs.Worth.{concat_below}
-use Rattle.plain_machine.proofs.PlaceLemmas.{length-concat_below}
+use Rattle.plain_machine.proofs.PlaceLemmas.{length-concat_below, sum_same, sum_below-within}
 use Rattle.snapshot_channel.specs.declared.opened.SnapshotChannel.{SnapshotChannel}
 use Rattle.snapshot_channel.specs.declared.opened.TaskPass.{TaskPass}
 use Rattle.snapshot_channel.specs.declared.views.Opening.{Opening}
@@ -24,7 +23,6 @@ use Rattle.job_workers.specs.Places.{Each}
 use Rattle.job_workers.specs.Tasks.{snapshots_in}
 use Rattle.job_ends.specs.Ended.{TaskPlace, AreReceived, AreSettled, ChannelsStay, HasAcknowledged, HaveAcknowledged, left_at, left_in, snapshots_at}
 use Rattle.job_ends.specs.Leaving.{HasSnapshots, RowWithoutSnapshots, TookSnapshots, acknowledged_by, acknowledged_in}
-use Rattle.job_ends.proofs.Leavings.{sum_same}
 use Rattle.job_ends.proofs.Loops.{place_low}
 use Rattle.job_ends.proofs.Rows.{UpTo, place_is, stands, stands_at, up_to_all}
 
@@ -75,18 +73,13 @@ all_many job =
     length-concat_below (suc (suc (last_edge job))) (λ i. concat_below (tasks job i) (λ a. task i a ∷ [])) (tasks job)
     (λ i low. stage_many job i)
 
-sum_within : (n : ℕ) (f : ℕ → ℕ) (i : ℕ) → i < n → sum_below i f + f i ≤ sum_below n f
-sum_within zero f i low = absurd (omega arith)
-sum_within (suc n) f i low = elim (cases_lt i n) [
-  | inl below ↦ let deep = sum_within n f i below in omega (arith, deep)
-  | inr above ↦ let same : i ≡ n = omega arith in subst (λ (k : ℕ). sum_below k f + f k ≤ sum_below n f + f n) (sym same) (omega arith)
 ]
 
 -- There is room for the passes of a stage.
 pub room_left : (job : Job) (s room : ℕ) → s < suc (suc (last_edge job)) → length (all_tasks job) ≤ room + sum_below s (tasks job) → tasks job s ≤ room
 room_left job s room low enough =
     let all = all_many job in
-    let within = sum_within (suc (suc (last_edge job))) (tasks job) s low in
+    let within = sum_below-within (suc (suc (last_edge job))) (tasks job) s low in
     omega (arith, enough, all, within)
 
 pub sum_more : (n : ℕ) (f : ℕ → ℕ) → sum_below (n + 1) f ≡ sum_below n f + f n

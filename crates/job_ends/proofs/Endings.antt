@@ -1,5 +1,5 @@
 -- All workers of a job have ended, and its edges are settled one after another.
-use Rattle.std.proofs.Common.{◌≡◌, ◌≢◌, Bool, ℕ, zero, suc, ◌+◌, ◌<◌, ◌≤◌, inl, inr, Option, Some, List, [], length, sym, ap, subst, ◌∙◌, arith}
+use Rattle.std.proofs.Common.{◌≡◌, ◌≢◌, Bool, ℕ, zero, suc, ◌+◌, ◌<◌, ◌≤◌, Option, Some, List, [], length, sym, ap, subst, ◌∙◌, arith}
 use Rattle.std.proofs.lemmas.Option.{same_Some}
 use Rattle.std.specs.Prelude.{slice_get, IfSome}
 use Rattle.std.specs.Option.{option_map_or}
@@ -8,7 +8,6 @@ use Rattle.flow_defs.specs.declared.job.Job.{Job}
 use Rattle.flow_defs.specs.Jobs.{IsJob, last_edge}
 use Rattle.plain_machine.proofs.Channels.{ends_of}
 use Rattle.turn_cell.specs.History.{StartsWith}
-use Rattle.outside.specs.Faults.{HasRisen}
 use Rattle.outside.specs.Links.{HasMet, faults_of}
 use Rattle.conn_parts.specs.Shares.{AreOwn}
 use Rattle.record_writer.specs.Writers.{SendPass}
@@ -23,16 +22,6 @@ use Rattle.job_ends.specs.Ended.{TaskPlace, LoopPlace, left_at, own_at, gate_at,
 use Rattle.job_ends.specs.Leaving.{HasArrived, HasEdge, LoopEnds, RowsGoOn, places_of}
 use Rattle.job_ends.proofs.Loops.{place_low}
 use Rattle.job_ends.proofs.Rows.{stands, rows_again, rows_fewer}
-
--- ---- counts of faults
-
-pub risen_later : (a b c : ℕ) → HasRisen a b → b ≤ c → HasRisen a c
-risen_later a b c (inl low) more = inl (omega (arith, low, more))
-risen_later a b c (inr high) more = inr (omega (arith, high, more))
-
-pub risen_before : (a b c : ℕ) → a ≤ b → HasRisen b c → HasRisen a c
-risen_before a b c more (inl low) = inl (omega (arith, low, more))
-risen_before a b c more (inr high) = inr high
 
 -- ---- the loops of an edge
 

@@ -1,5 +1,5 @@
 -- What tasks and loops left for an edge, and what is settled of it.
-use Rattle.std.proofs.Common.{◌≡◌, ℕ, zero, suc, ◌*◌, ◌^◌, ◌<◌, ◌≤◌, Option, Some, List, [], ◌∷◌, length, refl, sym, ap, subst, ◌∙◌, arith}
+use Rattle.std.proofs.Common.{◌≡◌, ℕ, suc, ◌*◌, ◌^◌, ◌<◌, ◌≤◌, Option, Some, List, [], ◌∷◌, length, refl, sym, ap, subst, ◌∙◌, arith}
 use Rattle.std.specs.Prelude.{slice_get}
 use Rattle.std.specs.Option.{option_map_or}
 use Rattle.std.proofs.Math.Nat.{mul-le-mul}
@@ -11,8 +11,8 @@ use Rattle.flow_defs.specs.Items.{Items}
 use Rattle.flow_defs.specs.declared.job.Job.{Job}
 use Rattle.flow_defs.specs.declared.job.Exchange.{Exchange}
 use Rattle.flow_defs.specs.declared.job.Exchange.TheVariants.{Hash, Rebalance, Forward}
-use Rattle.flow_defs.specs.Jobs.{IsJob, last_edge, tasks, exchange, sum_below}
-use Rattle.plain_machine.proofs.PlaceLemmas.{length-concat_below}
+use Rattle.flow_defs.specs.Jobs.{IsJob, last_edge, tasks, exchange}
+use Rattle.plain_machine.proofs.PlaceLemmas.{length-concat_below, sum_same}
 use Rattle.subpartition.specs.Standing as sending
 use Rattle.input_channel.specs.States as receiving
 use Rattle.conn_parts.specs.Shares.{AreOwn, seen_at}
@@ -85,10 +85,6 @@ first_low cells number (pass ∷ own) at =
     omega (arith, low)
 
 -- ---- how many channels there are
-
-pub sum_same : (n k : ℕ) → sum_below n (λ i. k) ≡ n * k
-sum_same zero k = omega arith
-sum_same (suc n) k = let deep = sum_same n k in omega (arith, deep)
 
 ways_few : (x : Exchange) (n : ℕ) → n ≤ 8 → ways x n ≤ 8
 ways_few Hash n few = few

@@ -1,3 +1,4 @@
+pub mod Faults
 pub mod Stops
 mod Rings
 pub mod Dealt

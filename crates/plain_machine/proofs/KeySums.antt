@@ -1,12 +1,12 @@
 -- What a table has at a key, as the fold of what was added there: a sum of optional values, where a key
 -- that is missing has none.
-use Rattle.std.proofs.Common.{length, ◌≡◌, ℕ, Bool, true, false, cond, T, ◌&&◌, List, [], ◌∷◌, ◌++◌, Option, Some, None, Ordering, Less, Equal, Greater, refl, sym, ap, ◌∙◌, arith}
+use Rattle.std.proofs.Common.{◌≡◌, ℕ, Bool, true, false, cond, T, ◌&&◌, List, [], ◌∷◌, ◌++◌, Option, Some, None, Ordering, Less, Equal, Greater, refl, sym, ap, ◌∙◌}
 use Rattle.std.specs.Prelude.{unwrap_or}
 use Rattle.std.specs.FinMap.{len-entries, len-empty, empty, get-empty, entries, get, get-insert, get_tied, get-entries, entries_sorted, find, is_sorted}
 use Rattle.std.specs.FinMap.Entries.{below_all}
 use Rattle.std.specs.Ordering.{eq_by_cmp, is_eq, is_lt}
 use Rattle.std.proofs.lemmas.Cmp.{nat_list_cmp_total}
-use Rattle.std.proofs.lemmas.List.{map-append}
+use Rattle.std.proofs.lemmas.List.{map-append, nil_from_length}
 use Rattle.std.proofs.lemmas.List.Concat.{flat_map-append}
 use Rattle.std.specs.Prelude.{flat_map, map}
 use Rattle.std.proofs.lemmas.Bool.{false≢true}
@@ -146,12 +146,8 @@ total_at-entries agg q table = total_at-sorted agg q (entries table) (entries_so
 
 -- ---- records, and tables of them
 
-none_of_length : {A : Type 0} (xs : List A) → length xs ≡ 0 → xs ≡ []
-none_of_length [] is = refl
-none_of_length (x ∷ xs) is = absurd (omega arith)
-
 pub entries-empty : entries (empty {X = ℕ} {R = key_cmp}) ≡ []
-entries-empty = none_of_length _ (sym (len-entries empty) ∙ len-empty key_cmp ℕ)
+entries-empty = nil_from_length _ (sym (len-entries empty) ∙ len-empty key_cmp ℕ)
 
 -- records are added as their rows are
 get-add_all : (agg : AggKind) (table : Values) (records : List (List ℕ)) (q : List ℕ) → get (add_all agg table records) q ≡ plus agg (get table q) (total_at agg q (map (row_of agg) records))

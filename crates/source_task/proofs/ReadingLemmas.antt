@@ -56,9 +56,6 @@ at_start job size start out line emitted none = ([], record { begun = rw none no
 joined : (rest room : List ℕ) (count : ℕ) (after : Option (List ℕ)) → Reads rest count room after → take count room ++ drop count rest ≡ rest
 joined rest room count after reads = ap (λ (l : List ℕ). l ++ drop count rest) reads.front ∙ take-append-drop count rest
 
-pub risen_since : (first before after : ℕ) → first ≤ before → HasRisen before after → HasRisen first after
-risen_since first before after never risen = elim risen [ inl more ↦ inl (omega (arith, never, more)) | inr most ↦ inr most ]
-
 pub risen_most : (first before after : ℕ) → first ≤ before → before ≤ after → first ≤ after
 risen_most first before after one two = omega (arith, one, two)
 

@@ -1,8 +1,9 @@
 use Rattle.std.proofs.Common.{◌≡◌, [], ◌∷◌, ◌++◌, length, Option, arith, ap, subst, ◌∙◌, inl, inr, length-append}
 use Rattle.std.specs.Option.{option_to_list}
 use Rattle.command_parts.specs.Sources.{HasFaulty}
-use Rattle.command_parts.proofs.SourceLemmas.{faulty_parts, no_faulty, not_some, risen_since, risen_still}
+use Rattle.command_parts.proofs.SourceLemmas.{faulty_parts, no_faulty, not_some}
 use Rattle.command_parts.proofs.inputs.give_back.Goals as goal
+use Rattle.outside.proofs.Faults.{risen_before, risen_after}
 
 pub inputs-preserved : goal.inputs-preserved
 inputs-preserved g c =
@@ -17,10 +18,10 @@ inputs-preserved g c =
       lent = omega (arith, c.inputs.invariant.lent, c.inputs.invariant.few, c.back.ensures.returns, longer);
       faults = omega (arith, c.inputs.invariant.faults, c.back.ensures.never_falls);
       rises = λ faulty. elim (c.inputs.invariant.rises faulty) [
-        | inl risen ↦ inl (risen_still before now after risen c.back.ensures.never_falls)
+        | inl risen ↦ inl (risen_after before now after risen c.back.ensures.never_falls)
         | inr left ↦ elim (faulty_parts g.F.Input.Source.faults rest c.in-Some.input (subst (HasFaulty g.F.Input.Source.faults) had_is left)) [
           | inl still ↦ inr still
-          | inr here ↦ inl (risen_since before now after c.inputs.invariant.faults (c.back.ensures.rises here))
+          | inr here ↦ inl (risen_before before now after c.inputs.invariant.faults (c.back.ensures.rises here))
         ]
       ];
     }

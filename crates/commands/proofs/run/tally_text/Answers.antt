@@ -12,6 +12,7 @@ use Rattle.job_text.specs.Words.{IsRun}
 use Rattle.flow_defs.specs.declared.image.Image.{Image}
 use Rattle.outside.specs.Faults.{HasRisen}
 use Rattle.outside.specs.Keepers.{KeptImage}
+use Rattle.outside.proofs.Faults.{risen_before}
 use Rattle.job_outcome.specs.Storing.{HasKept}
 use Rattle.command_parts.specs.Causes.{status_of}
 use Rattle.command_parts.specs.declared.fault.Fault.{Fault}
@@ -22,7 +23,6 @@ use Rattle.commands.specs.TextFaults.{IsSmallPoolFault}
 use Rattle.command_parts.specs.Sources.{AreWithinLimits}
 use Rattle.commands.specs.Run.{IsFaultOf}
 use Rattle.commands.proofs.RunLemmas.{of_enough, of_pool, of_held, of_ready, of_run}
-use Rattle.command_parts.proofs.SourceLemmas.{risen_since}
 use Rattle.job_command.proofs.StoringLemmas.{none_stored, kept_still}
 use Rattle.commands.proofs.TextJobs.{has_text, stored_of_ran, ends_of_ran}
 use Rattle.commands.proofs.run.tally_text.Goals as goal
@@ -171,7 +171,7 @@ returns-in_err-table-clause-keeper g c =
     let passed = err_from_is_err_and c.from_residual-in_err-table.result c.from_residual-in_err-table.ensures.1 in
     let same : c.in_err-table.field-0.0 ≡ passed.0 = (let gives = passed.2 in cc) in
     let risen : status_of passed.0 ≡ 5 → HasRisen (g.K.Keeper.faults c.args.keeper.now) (g.K.Keeper.faults c.table_by_exchange.new.keeper) =
-    λ five. risen_since (g.K.Keeper.faults c.args.keeper.now) (g.K.Keeper.faults c.refuse_held.new.keeper) (g.K.Keeper.faults c.table_by_exchange.new.keeper) c.refuse_held.ensures.never_falls (c.in_err-table.ensures.keeper (ap status_of same ∙ five)) in
+    λ five. risen_before (g.K.Keeper.faults c.args.keeper.now) (g.K.Keeper.faults c.refuse_held.new.keeper) (g.K.Keeper.faults c.table_by_exchange.new.keeper) c.refuse_held.ensures.never_falls (c.in_err-table.ensures.keeper (ap status_of same ∙ five)) in
     subst (λ r. IfErr r (λ (f : Fault). status_of f ≡ 5 → HasRisen (g.K.Keeper.faults c.args.keeper.now) (g.K.Keeper.faults c.table_by_exchange.new.keeper))) (sym passed.1) risen
 
 pub returns-in_err-table-clause-kept_else : goal.returns-in_err-table-clause-kept_else

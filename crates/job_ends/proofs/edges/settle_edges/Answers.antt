@@ -10,8 +10,9 @@ use Rattle.job_ends.specs.Returning.{RowsCameBack}
 use Rattle.job_ends.proofs.Returns.{none_came_back, one_more_came_back}
 use Rattle.job_ends.proofs.Loops.{place_low}
 use Rattle.job_ends.proofs.Rows.{one_there, read_there, rows_nothing}
-use Rattle.job_ends.proofs.Endings.{carried, edge_low, has_edge, loops_at, risen_before, risen_later, rows_settled, rows_step, snapshots_stay}
+use Rattle.job_ends.proofs.Endings.{carried, edge_low, has_edge, loops_at, rows_settled, rows_step, snapshots_stay}
 use Rattle.job_ends.proofs.edges.settle_edges.Goals as goal
+use Rattle.outside.proofs.Faults.{risen_before, risen_after}
 
 pub loop-number-init : goal.loop-number-init
 loop-number-init g c = record {
@@ -78,7 +79,7 @@ loop-number-preserved g c =
           c.args.loops.now number row start before.wires c.settle_edge.ensures.wires;
       fault = λ k i other place low has_row has_place fault. elim (cases_lt k number) [
         | inl below ↦
-            risen_later (g.N.Links.faults c.args.net.now) (g.N.Links.faults c.loop-number.net) (g.N.Links.faults c.settle_edge.new.net) (before.fault k i other place below has_row has_place fault) c.settle_edge.ensures.never_falls
+            risen_after (g.N.Links.faults c.args.net.now) (g.N.Links.faults c.loop-number.net) (g.N.Links.faults c.settle_edge.new.net) (before.fault k i other place below has_row has_place fault) c.settle_edge.ensures.never_falls
         | inr above ↦
             let k_is : number ≡ k = omega (arith, low, above) in
             let row_is : other ≡ row = one_there c.args.loops.now number other row (ap (slice_get c.args.loops.now) k_is ∙ has_row) start in

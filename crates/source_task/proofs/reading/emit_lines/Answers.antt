@@ -2,10 +2,11 @@ use Rattle.std.proofs.Common.{arith, subst, sym, ◌∙◌, IfSome}
 use Rattle.job_start.specs.Starts.{was_ended}
 use Rattle.snapshot_channel.specs.Passes.{sent_by}
 use Rattle.outside.specs.Told.{Reads}
+use Rattle.outside.proofs.Faults.{risen_before}
 use Rattle.source_task.specs.Emitting.{start_of}
 use Rattle.source_task.specs.Sources.{SourceEnd}
 use Rattle.source_task.proofs.Emitting.{same_twice, was_same, was_not}
-use Rattle.source_task.proofs.ReadingLemmas.{risen_since, risen_most, read_on, read_broke, read_ended, read_failed, read_much}
+use Rattle.source_task.proofs.ReadingLemmas.{risen_most, read_on, read_broke, read_ended, read_failed, read_much}
 use Rattle.source_task.proofs.reading.emit_lines.Goals as goal
 
 pub returns-in_default-clause-ended : goal.returns-in_default-clause-ended
@@ -16,7 +17,7 @@ returns-in_default-clause-ended g c = λ job size emitted.
     let rose = g.S.Source.faults c.read.new.self in
     let middle = g.S.Source.faults c.reads.input in
     read_failed law.sent law.finished job size fell rose (risen_most fell middle rose v.faults c.read.ensures.never_falls) (g.S.Source.left c.args.input.now) (g.S.Source.left c.reads.input) c.reads.taken c.reads.output c.args.output.now.index c.reads.lines.line.items
-    v.same.index v.reading.not_ended (v.way job size emitted) (risen_since fell middle rose v.faults c.in_default.ensures.failed)
+    v.same.index v.reading.not_ended (v.way job size emitted) (risen_before fell middle rose v.faults c.in_default.ensures.failed)
 
 pub returns-then-count-eq0-clause-ended : goal.returns-then-count-eq0-clause-ended
 returns-then-count-eq0-clause-ended g c = λ job size emitted.

@@ -80,8 +80,6 @@ module _ (job other : Job) (same : HaveSameTasks job other) where
         last_is_empty = λ last e a b on. sym (same_saved image e a b) ∙ fits.last_is_empty last e a b (same_channel e a b ∙ on);
       }
 
-]
-
 -- ---- each place is one of a channel
 
 record At (g : ℕ → ℕ) (n place : ℕ) : Type 0 where

@@ -1,7 +1,6 @@
 -- The buffers of the gate's own entries: how many of each kind polls gave, and how many came back.
 use Rattle.std.proofs.Common.{◌≡◌, ℕ, ◌+◌, ◌<◌, Bool, true, false, cond, List, [], ◌∷◌, ◌++◌, refl, sym, ap, subst, ◌∙◌, arith}
-use Rattle.std.specs.Prelude.{count_by, if◌then◌else◌}
-use Rattle.std.proofs.lemmas.List.Sums.{sum_by-cons, sum_by-append}
+use Rattle.std.specs.Prelude.{if◌then◌else◌}
 use Rattle.turn_cell.specs.History.{entries_of, by}
 use Rattle.input_channel.specs.declared.entry.Gave.{Gave}
 use Rattle.input_channel.specs.declared.entry.Gave.TheVariants.{NoBuffer, Exclusive, Floating}
@@ -9,18 +8,15 @@ use Rattle.input_channel.specs.declared.entry.ReceiveEntry.{ReceiveEntry}
 use Rattle.input_channel.specs.declared.entry.ReceiveEntry.TheVariants.{Poll, Returned, Added}
 use Rattle.input_channel.specs.Legal.{ReceivedByPasses, gives_kind, returns_kind, polled_with, returned}
 use Rattle.input_channel.specs.Theorems.{GateTellsBuffers}
+use Rattle.input_channel.proofs.CountLemmas.{count-snoc}
 use Rattle.conn_harness.specs.Inlets.{IsEven}
-
-module _ {X : Type 0} (p : X → Bool) where
-  count_last : (xs : List X) (x : X) → count_by p (xs ++ x ∷ []) ≡ count_by p xs + cond (p x) 1 0
-  count_last xs x = sum_by-append (λ y. cond (p y) 1 0) xs (x ∷ []) ∙ ap (λ n. count_by p xs + n) (sum_by-cons (λ y. cond (p y) 1 0) x [] ∙ (let e : cond (p x) 1 0 + 0 ≡ cond (p x) 1 0 = omega arith in e))
 
 -- The counts with one more entry, where it is given or comes back, or not.
 polled_more : (kind : Bool) (es : List ReceiveEntry) (e : ReceiveEntry) (b : Bool) → gives_kind kind e ≡ b → polled_with kind (es ++ e ∷ []) ≡ polled_with kind es + cond b 1 0
-polled_more kind es e b is = count_last (gives_kind kind) es e ∙ ap (λ x. polled_with kind es + cond x 1 0) is
+polled_more kind es e b is = count-snoc (gives_kind kind) es e ∙ ap (λ x. polled_with kind es + cond x 1 0) is
 
 returned_more : (kind : Bool) (es : List ReceiveEntry) (e : ReceiveEntry) (b : Bool) → returns_kind kind e ≡ b → returned kind (es ++ e ∷ []) ≡ returned kind es + cond b 1 0
-returned_more kind es e b is = count_last (returns_kind kind) es e ∙ ap (λ x. returned kind es + cond x 1 0) is
+returned_more kind es e b is = count-snoc (returns_kind kind) es e ∙ ap (λ x. returned kind es + cond x 1 0) is
 
 -- The buffer that is given, of one kind or the other.
 abbrev pub gave_for : Bool → Gave

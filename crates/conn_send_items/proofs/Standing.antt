@@ -36,12 +36,15 @@ apart_at channels distinct j k c d at_j at_k ne =
       ]
     ])
 
+abbrev no_channel : ChannelId
+no_channel = record { edge = 0; from = 0; to = 0 }
+
 -- The channel at a place.
 abbrev pub channel_at : List ChannelId → ℕ → ChannelId
-channel_at channels k = get_or channels k (record { edge = 0; from = 0; to = 0 })
+channel_at channels k = get_or channels k no_channel
 
 pub channel_there : (channels : List ChannelId) (k : ℕ) → k < length channels → slice_get channels k ≡ Some (channel_at channels k)
-channel_there channels k within = stands_in channels k (record { edge = 0; from = 0; to = 0 }) within
+channel_there channels k within = stands_in channels k no_channel within
 
 pub one_at : (channels : List ChannelId) (k : ℕ) (c d : ChannelId) → slice_get channels k ≡ Some c → slice_get channels k ≡ Some d → c ≡ d
 one_at channels k c d at_c at_d = same_Some c d (sym at_c ∙ at_d)

@@ -3,24 +3,14 @@ use Rattle.std.proofs.Common.{◌≡◌, ℕ, zero, suc, ◌+◌, ◌-◌, ◌�
 use Rattle.std.specs.Prelude.{count_by}
 use Rattle.std.proofs.lemmas.Bool.{lt-ltb}
 use Rattle.std.proofs.Math.Dec.{eqb-suc-zero}
-use Rattle.std.proofs.lemmas.List.Sums.{sum_by-cons, sum_by-append}
-use Rattle.flow_defs.specs.declared.task.BarrierKind.TheVariants.{Inline, Front}
 use Rattle.flow_defs.specs.declared.parcel.Parcel.{Parcel}
 use Rattle.flow_defs.specs.declared.parcel.Parcel.TheVariants.{Data, Barrier, End}
 use Rattle.flow_defs.specs.Parcels.{has_end, is_data}
 use Rattle.input_channel.specs.Counts.{data_in}
 use Rattle.input_channel.specs.Legal.{inline_in}
+use Rattle.input_channel.proofs.CountLemmas.{count-cons, count-snoc}
+use Rattle.input_channel.proofs.InboxLaws.{inline_in-append}
 use Rattle.exchange_world.specs.Lanes.{backlog_in}
-
-module _ {X : Type 0} (p : X → Bool) where
-  pub count-cons : (x : X) (xs : List X) → count_by p (x ∷ xs) ≡ cond (p x) 1 0 + count_by p xs
-  count-cons x xs = sum_by-cons (λ y. cond (p y) 1 0) x xs
-
-  pub count-append : (xs ys : List X) → count_by p (xs ++ ys) ≡ count_by p xs + count_by p ys
-  count-append xs ys = sum_by-append (λ y. cond (p y) 1 0) xs ys
-
-  pub count-snoc : (xs : List X) (x : X) → count_by p (xs ++ x ∷ []) ≡ count_by p xs + cond (p x) 1 0
-  count-snoc xs x = sum_by-append (λ y. cond (p y) 1 0) xs (x ∷ []) ∙ ap (λ n. count_by p xs + n) (count-cons x [] ∙ (let e : cond (p x) 1 0 + 0 ≡ cond (p x) 1 0 = omega arith in e))
 
 data_in-cond : (p : Parcel) → cond (is_data p) 1 0 ≡ data_in p
 data_in-cond (Data bytes) = refl
@@ -34,16 +24,9 @@ backlog-cons p ps = count-cons is_data p ps ∙ ap (λ n. n + backlog_in ps) (da
 pub backlog-snoc : (ps : List Parcel) (p : Parcel) → backlog_in (ps ++ p ∷ []) ≡ backlog_in ps + data_in p
 backlog-snoc ps p = count-snoc is_data ps p ∙ ap (λ n. backlog_in ps + n) (data_in-cond p)
 
--- the inline barriers
-pub inline-append : (ps qs : List Parcel) → inline_in (ps ++ qs) ≡ inline_in ps + inline_in qs
-inline-append [] qs = omega arith
-inline-append (Data bytes ∷ ps) qs = inline-append ps qs
-inline-append (Barrier k Inline ∷ ps) qs = let e = inline-append ps qs in omega (arith, e)
-inline-append (Barrier k Front ∷ ps) qs = let e = inline-append ps qs in omega (arith, e)
-inline-append (End ∷ ps) qs = inline-append ps qs
-
+-- the inline barriers of one parcel and others
 pub inline-cons : (p : Parcel) (ps : List Parcel) → inline_in (p ∷ ps) ≡ inline_in (p ∷ []) + inline_in ps
-inline-cons p ps = inline-append (p ∷ []) ps
+inline-cons p ps = inline_in-append (p ∷ []) ps
 
 -- the end stands behind parcels that have none
 pub end-snoc : (ps : List Parcel) (p : Parcel) → has_end ps ≡ false → has_end (ps ++ p ∷ []) ≡ has_end (p ∷ [])

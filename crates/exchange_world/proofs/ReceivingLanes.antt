@@ -13,10 +13,11 @@ use Rattle.input_channel.specs.Inboxes.{poll_gives, poll_leaves}
 use Rattle.input_channel.specs.Counts.{Counts, data_in, told}
 use Rattle.input_channel.specs.States.{channel_next}
 use Rattle.input_channel.specs.Legal.{inline_in}
+use Rattle.input_channel.proofs.InboxLaws.{inline_in-append}
 use Rattle.exchange_world.specs.Lanes.{Lane, BUFFERS_MAX, floating_here}
 use Rattle.exchange_world.specs.Sound.{AreFit, IsSoundInbox}
 use Rattle.exchange_world.proofs.LaneLemmas.{AgreesOn, SoundOn}
-use Rattle.exchange_world.proofs.Counting.{backlog-cons, inline-append, inline-cons}
+use Rattle.exchange_world.proofs.Counting.{backlog-cons, inline-cons}
 use Rattle.exchange_world.proofs.ReceivingInbox.{fit_first, fit_rest, inbox_pushed, inbox_told, inbox_added}
 use Rattle.exchange_world.proofs.ReceivingPolls.{TakesFirst, inbox_polled, inline_polled, read_inbox, is_read}
 
@@ -78,7 +79,7 @@ module _ (size : ℕ) (lane : Lane) (r : Reader) (number : ℕ) (p : Parcel) (wa
         ended = ended_last size p behind agree.fit;
         finished = λ e. finished_then lane.inbox.ended p behind no_end (agree.finished e);
         unfinished = λ e. no_end_in p behind (agree.unfinished e).1;
-        blocked = (let e : inline_in coming + inline_in (lane.inbox.queue ++ p ∷ []) + lane.inbox.owed + resumptions ≡ inline_in (p ∷ coming) + inline_in lane.inbox.queue + lane.inbox.owed + resumptions = omega (arith, inline-cons p coming, inline-append lane.inbox.queue (p ∷ [])) in e) ∙ agree.blocked;
+        blocked = (let e : inline_in coming + inline_in (lane.inbox.queue ++ p ∷ []) + lane.inbox.owed + resumptions ≡ inline_in (p ∷ coming) + inline_in lane.inbox.queue + lane.inbox.owed + resumptions = omega (arith, inline-cons p coming, inline_in-append lane.inbox.queue (p ∷ [])) in e) ∙ agree.blocked;
       }
 
   pub pushed_on : (limit : ℕ) → SoundOn size limit lane r ((number, p) ∷ way) credit resumptions → SoundOn size limit (record lane { inbox = channel_next lane.inbox (Push p backlog) }) r way credit resumptions

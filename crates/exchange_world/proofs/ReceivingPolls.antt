@@ -13,10 +13,11 @@ use Rattle.input_channel.specs.Inboxes.{front_waits, first_parcel, first_barrier
 use Rattle.input_channel.specs.Counts.{Counts, data_in, gave_by, lets_go}
 use Rattle.input_channel.specs.States.{ChannelState, channel_next}
 use Rattle.input_channel.specs.Legal.{inline_in}
+use Rattle.input_channel.proofs.CountLemmas.{count-cons}
 use Rattle.exchange_world.specs.Lanes.{backlog_in, floating_here}
 use Rattle.exchange_world.specs.Steps.{is_exclusive}
 use Rattle.exchange_world.specs.Sound.{IsSoundInbox, AreFit}
-use Rattle.exchange_world.proofs.Counting.{count-cons, backlog-cons, inline-cons}
+use Rattle.exchange_world.proofs.Counting.{backlog-cons, inline-cons}
 use Rattle.exchange_world.proofs.ReceivingInbox.{fit_rest}
 
 -- ---- what is due

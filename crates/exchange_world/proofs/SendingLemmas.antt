@@ -19,6 +19,7 @@ use Rattle.credit_reader.specs.Readers.{Sent, reader_next, can_send, may_go, cos
 use Rattle.credit_reader.specs.Senders.{reader_of}
 use Rattle.credit_reader.proofs.Channels.{channels_after}
 use Rattle.input_channel.specs.Legal.{inline_in}
+use Rattle.input_channel.proofs.InboxLaws.{inline_in-append}
 use Rattle.script_text.specs.declared.event.Event.TheVariants as events
 use Rattle.exchange_world.specs.Lanes.{Lane, ITEMS_MAX, channel_id, backlog_in, head_in}
 use Rattle.exchange_world.specs.Worlds.{World, DataFrame, Response, lane_of, partition_limit}
@@ -38,13 +39,6 @@ numbered_more next (r ∷ way) n p numbered is = (numbered.0, numbered_more ((ne
 behind_more : (next : ℕ) (way : List (ℕ × Parcel)) (n : ℕ) (p : Parcel) → number_behind next (way ++ (n, p) ∷ []) ≡ (number_behind next way + 1) % 2 ^ 32
 behind_more next [] n p = refl
 behind_more next (r ∷ way) n p = behind_more ((next + 1) % 2 ^ 32) way n p
-
-inline_in-append : (ps qs : List Parcel) → inline_in (ps ++ qs) ≡ inline_in ps + inline_in qs
-inline_in-append [] qs = omega arith
-inline_in-append (Data bytes ∷ ps) qs = inline_in-append ps qs
-inline_in-append (Barrier k Inline ∷ ps) qs = omega (arith, inline_in-append ps qs)
-inline_in-append (Barrier k Front ∷ ps) qs = omega (arith, inline_in-append ps qs)
-inline_in-append (End ∷ ps) qs = inline_in-append ps qs
 
 -- ---- what an item costs, and whether it blocks its channel
 

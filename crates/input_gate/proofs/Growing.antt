@@ -119,12 +119,6 @@ past-append bytes (Barrier k Inline ∷ ps) qs = ap (λ l. map Line (spans bytes
 past-append bytes (Barrier k Front ∷ ps) qs = past-append bytes ps qs
 past-append bytes (End ∷ ps) qs = past-append bytes ps qs
 
-pub inline_in-append : (ps qs : List Parcel) → inline_in (ps ++ qs) ≡ inline_in ps + inline_in qs
-inline_in-append [] qs = sym (omega arith)
-inline_in-append (Data b ∷ ps) qs = inline_in-append ps qs
-inline_in-append (Barrier k kind ∷ ps) qs = let h = inline_in-append ps qs in omega (arith, h)
-inline_in-append (End ∷ ps) qs = inline_in-append ps qs
-
 pub lines_in-append : (xs ys : List Told) → lines_in (xs ++ ys) ≡ lines_in xs ++ lines_in ys
 lines_in-append [] ys = refl
 lines_in-append (Line l ∷ xs) ys = ap (λ z. l ∷ z) (lines_in-append xs ys)

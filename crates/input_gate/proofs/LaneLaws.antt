@@ -1,7 +1,7 @@
 -- What a step makes of what is kept of a channel.
 use Rattle.std.proofs.Common.{Bool, true, false, cond, ◌≡◌, ℕ, suc, ◌+◌, ◌<◌, List, [], ◌∷◌, ◌++◌, length, Option, Some, None, refl, sym, ap, subst, ◌∙◌, arith, append_assoc, append-nil, length-append, true≢false}
-use Rattle.std.specs.Prelude.{count_by, if◌then◌else◌, MatchOption, IfSome}
-use Rattle.std.proofs.lemmas.List.Sums.{sum_by-cons, sum_by-append}
+use Rattle.std.specs.Prelude.{if◌then◌else◌, MatchOption, IfSome}
+use Rattle.std.proofs.lemmas.List.Sums.{sum_by-append}
 use Rattle.turn_cell.specs.Passes.{seen, mine}
 use Rattle.flow_defs.specs.Items.{Items}
 use Rattle.flow_defs.specs.declared.parcel.Parcel.{Parcel}
@@ -17,6 +17,8 @@ use Rattle.input_channel.specs.declared.entry.ReceiveEntry.TheVariants.{Poll, Re
 use Rattle.input_channel.specs.declared.held.HeldBuf.{HeldBuf}
 use Rattle.input_channel.specs.Contents.{content}
 use Rattle.input_channel.specs.Legal.{gives_kind, returns_kind, is_ask, polled_with, returned, asks, inline_in}
+use Rattle.input_channel.proofs.CountLemmas.{count-snoc}
+use Rattle.input_channel.proofs.InboxLaws.{inline_in-append}
 use Rattle.flow_defs.proofs.ParcelLemmas.{barriers_of-append}
 use Rattle.input_gate.specs.declared.lane.Lane.{Lane}
 use Rattle.input_gate.specs.Gates.{Line}
@@ -24,19 +26,15 @@ use Rattle.input_gate.specs.Turning.{InputPass, IsGatePass, IsEven, IsLater, NoF
 use Rattle.input_gate.specs.Told.{told, IsRead}
 use Rattle.input_gate.specs.Lanes.{polled, left_of, ready_bytes, spare_bytes, told_by, barriers_by, resumed_by, weight, due_back, IsLane, IsIdle, IsQuiet, Gives, GivesBarrier, IsResumed}
 use Rattle.input_gate.proofs.TurnLaws.{later_then, later_refl}
-use Rattle.input_gate.proofs.Growing.{read-data, told-data, read-line, told-line, read-inline, told-inline, read-front, told-front, read-end, told-end, ends_at, ends_still, inline_in-append}
+use Rattle.input_gate.proofs.Growing.{read-data, told-data, read-line, told-line, read-inline, told-inline, read-front, told-front, read-end, told-end, ends_at, ends_still}
 
 -- ---- counts of the gate's own entries
 
-module _ {X : Type 0} (p : X → Bool) where
-  count_last : (xs : List X) (x : X) → count_by p (xs ++ x ∷ []) ≡ count_by p xs + cond (p x) 1 0
-  count_last xs x = sum_by-append (λ y. cond (p y) 1 0) xs (x ∷ []) ∙ ap (λ n. count_by p xs + n) (sum_by-cons (λ y. cond (p y) 1 0) x [] ∙ (let e : cond (p x) 1 0 + 0 ≡ cond (p x) 1 0 = omega arith in e))
-
 polled_more : (kind : Bool) (es : List ReceiveEntry) (e : ReceiveEntry) (b : Bool) → gives_kind kind e ≡ b → polled_with kind (es ++ e ∷ []) ≡ polled_with kind es + cond b 1 0
-polled_more kind es e b is = count_last (gives_kind kind) es e ∙ ap (λ x. polled_with kind es + cond x 1 0) is
+polled_more kind es e b is = count-snoc (gives_kind kind) es e ∙ ap (λ x. polled_with kind es + cond x 1 0) is
 
 returned_more : (kind : Bool) (es : List ReceiveEntry) (e : ReceiveEntry) (b : Bool) → returns_kind kind e ≡ b → returned kind (es ++ e ∷ []) ≡ returned kind es + cond b 1 0
-returned_more kind es e b is = count_last (returns_kind kind) es e ∙ ap (λ x. returned kind es + cond x 1 0) is
+returned_more kind es e b is = count-snoc (returns_kind kind) es e ∙ ap (λ x. returned kind es + cond x 1 0) is
 
 -- An entry that is neither of both.
 module _ (e : ReceiveEntry) (no_poll : (kind : Bool) → gives_kind kind e ≡ false) (no_return : (kind : Bool) → returns_kind kind e ≡ false) where
@@ -48,10 +46,10 @@ module _ (e : ReceiveEntry) (no_poll : (kind : Bool) → gives_kind kind e ≡ f
       omega (arith, a, b, c)
 
 pub asks_other : (e : ReceiveEntry) → is_ask e ≡ false → (es now : List ReceiveEntry) → now ≡ es ++ e ∷ [] → asks now ≡ asks es
-asks_other e none es now is = ap asks is ∙ count_last is_ask es e ∙ ap (λ b. asks es + cond b 1 0) none ∙ (let h : asks es + 0 ≡ asks es = omega arith in h)
+asks_other e none es now is = ap asks is ∙ count-snoc is_ask es e ∙ ap (λ b. asks es + cond b 1 0) none ∙ (let h : asks es + 0 ≡ asks es = omega arith in h)
 
 pub asks_more : (es now : List ReceiveEntry) → now ≡ es ++ Ask ∷ [] → asks now ≡ suc (asks es)
-asks_more es now is = ap asks is ∙ count_last is_ask es Ask ∙ (let h : asks es + 1 ≡ suc (asks es) = omega arith in h)
+asks_more es now is = ap asks is ∙ count-snoc is_ask es Ask ∙ (let h : asks es + 1 ≡ suc (asks es) = omega arith in h)
 
 pub even_none : (hold : Bool) (es now : List ReceiveEntry) → now ≡ es ++ Poll hold NoBuffer ∷ [] → IsEven es → IsEven now
 even_none hold = even_other (Poll hold NoBuffer) (λ kind. gives kind) (λ kind. returns kind)

@@ -20,8 +20,6 @@ use Rattle.job_cells.proofs.Lists.{get_front, get_behind}
 
 -- ---- lists end to end
 
-]
-
 -- The j-th of the i-th list.
 pub get_below : {X : Type 0} (n : ℕ) (f : ℕ → List X) (g : ℕ → ℕ) (i j : ℕ) → ((i : ℕ) → i < n → length (f i) ≡ g i) → i < n → j < g i → slice_get (concat_below n f) (sum_below i g + j) ≡ slice_get (f i) j
 get_below zero f g i j many low inside = absurd (omega arith)

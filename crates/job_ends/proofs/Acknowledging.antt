@@ -5,7 +5,7 @@ use Rattle.std.specs.List.{All, AllByRecursion, flat_map}
 use Rattle.std.specs.Option.{option_map_or, option_to_list}
 use Rattle.std.proofs.lemmas.List.{flat_map_more, take_more}
 use Rattle.std.proofs.lemmas.List.Elements.{All-append, All-cons, All-from_recursion, All-head, All-nil, All-same, recursion_from_All}
-use Rattle.std.proofs.lemmas.Option.{get_or_from_slice_get, same_Some}
+use Rattle.std.proofs.lemmas.Option.{get_or_from_slice_get, same_Some, slice_get_within}
 use Rattle.flow_defs.specs.Items.{Items}
 use Rattle.flow_defs.specs.declared.image.Snapshot.{Snapshot}
 use Rattle.flow_defs.specs.declared.job.Job.{Job}
@@ -23,7 +23,6 @@ use Rattle.job_workers.specs.Places.{Each}
 use Rattle.job_workers.specs.Tasks.{snapshots_in}
 use Rattle.job_ends.specs.Ended.{TaskPlace, AreReceived, AreSettled, ChannelsStay, HasAcknowledged, HaveAcknowledged, left_at, left_in, snapshots_at}
 use Rattle.job_ends.specs.Leaving.{HasSnapshots, RowWithoutSnapshots, TookSnapshots, acknowledged_by, acknowledged_in}
-use Rattle.job_ends.proofs.Loops.{place_low}
 use Rattle.job_ends.proofs.Rows.{UpTo, place_is, stands, stands_at, up_to_all}
 
 -- ---- lists end to end
@@ -57,7 +56,7 @@ module _ {A : Type 0} (P : A → Type 0) where
 pub joined_more : {X A : Type 0} (f : X → List A) (start now new : List A) (xs : List X) (n : ℕ) (x : X) → slice_get xs n ≡ Some x →
     now ≡ start ++ flat_map f (take n xs) → new ≡ now ++ f x → new ≡ start ++ flat_map f (take (n + 1) xs)
 joined_more f start now new xs n x at is more =
-    let longer : take (n + 1) xs ≡ take n xs ++ x ∷ [] = take_more xs n x (place_low xs n x at) ∙ ap (λ y. take n xs ++ y ∷ []) (get_or_from_slice_get xs n x x at) in
+    let longer : take (n + 1) xs ≡ take n xs ++ x ∷ [] = take_more xs n x (slice_get_within xs n x at) ∙ ap (λ y. take n xs ++ y ∷ []) (get_or_from_slice_get xs n x x at) in
     more ∙ ap (λ l. l ++ f x) is ∙ flat_map_more f start (take n xs) x ∙ ap (λ l. start ++ flat_map f l) (sym longer)
 
 -- ---- how many tasks there are
@@ -72,8 +71,6 @@ all_many : (job : Job) → length (all_tasks job) ≡ sum_below (suc (suc (last_
 all_many job =
     length-concat_below (suc (suc (last_edge job))) (λ i. concat_below (tasks job i) (λ a. task i a ∷ [])) (tasks job)
     (λ i low. stage_many job i)
-
-]
 
 -- There is room for the passes of a stage.
 pub room_left : (job : Job) (s room : ℕ) → s < suc (suc (last_edge job)) → length (all_tasks job) ≤ room + sum_below s (tasks job) → tasks job s ≤ room
@@ -106,13 +103,13 @@ module _ {S : Type 0} where
   module _ {job : Job} {channel : SnapshotChannel} {rows : List (Items (TaskPlace S))} (have : HaveAcknowledged job channel rows) where
     module _ (s : ℕ) (row : Items (TaskPlace S)) (at : slice_get rows s ≡ Some row) where
       pub stage_low : s < suc (suc (last_edge job))
-      stage_low = let low = place_low rows s row at in let many = have.rows_many in omega (arith, low, many)
+      stage_low = let low = slice_get_within rows s row at in let many = have.rows_many in omega (arith, low, many)
 
       left_here : (i : ℕ) (place : TaskPlace S) → slice_get row.items i ≡ Some place →
           (left : TaskLeft S) × (left_in place ≡ Some left) × HasAcknowledged channel s i left
       left_here i place there =
           let many = have.row_many s row at in
-          let low = place_low row.items i place there in
+          let low = slice_get_within row.items i place there in
           let e = have.each s i stage_low (omega (arith, low, many)) in
           (e.0, sym (ap (λ (p : TaskPlace S). left_in p) (place_is rows s i row place at there)) ∙ e.1, e.2)
 
@@ -157,9 +154,9 @@ module _ {S : Type 0} where
         left_at new s i ≡ Some (record left { snapshots = None })
     left_without s i left at =
         let st = stands_at old s i left at in
-        let after = stands new s (let low = place_low old s st.row st.has_row in let many = up.many in omega (arith, low, many)) in
+        let after = stands new s (let low = slice_get_within old s st.row st.has_row in let many = up.many in omega (arith, low, many)) in
         let w = up_to_all RowWithoutSnapshots n old new up all s st.row after.0 st.has_row after.1 in
-        let place = stands after.0.items i (let low = place_low st.row.items i st.place st.has_place in let many = w.many in omega (arith, low, many)) in
+        let place = stands after.0.items i (let low = slice_get_within st.row.items i st.place st.has_place in let many = w.many in omega (arith, low, many)) in
         let without = w.each i st.place place.0 st.has_place place.1 in
         let same : without.left ≡ left = same_Some without.left left (sym without.was ∙ st.is_left) in
         ap (λ (p : TaskPlace S). left_in p) (place_is new s i after.0 place.0 after.1 place.1) ∙ without.now ∙ ap (λ (l : TaskLeft S). Some (record l { snapshots = None })) same

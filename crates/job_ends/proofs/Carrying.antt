@@ -1,7 +1,7 @@
 -- Each channel of an edge that was settled carries.
 use Rattle.std.proofs.Common.{◌≡◌, ℕ, ◌*◌, ◌<◌, List, [], length, Option, Some, slice_get, get_or, inl, inr, sym, ap, subst, ◌∙◌, arith}
 use Rattle.std.specs.Option.{option_map_or}
-use Rattle.std.proofs.lemmas.Option.{slice_get_cases}
+use Rattle.std.proofs.lemmas.Option.{slice_get_cases, slice_get_within}
 use Rattle.turn_cell.specs.declared.cell.TurnCell.{TurnCell}
 use Rattle.turn_cell.specs.declared.pass.Pass.{Pass}
 use Rattle.turn_cell.specs.History.{StartsWith, by}
@@ -15,7 +15,6 @@ use Rattle.job_chain.specs.Channels.{GivenFollowsPut}
 use Rattle.job_cells.specs.Edges.{place_into, channels_on}
 use Rattle.job_cells.specs.Places.{ChannelsHavePlaces}
 use Rattle.job_ends.specs.Edges.{EdgesCarry}
-use Rattle.job_ends.proofs.Loops.{place_low}
 
 at_place : {A : Type 0} (xs : List A) (k : ℕ) → k < length xs → (x : A) × (slice_get xs k ≡ Some x) × (x ≡ get_or xs k x)
 at_place xs k low = elim (slice_get_cases xs k).1 [
@@ -40,7 +39,7 @@ edges_carry law places job e senders inputs own gate takers pushers is s a b is_
     let there : place_of a (tasks job e) p.c ≡ k = p.one in
     let sent = s.sent a ends.sender p.c (omega (arith, s.own_many a ends.sender, p.way_out)) in
     let came = s.came b ends.receiver p.i (omega (arith, s.gate_many b ends.receiver, p.way_in)) in
-    let low : k < length senders = let l = place_low (channels_on job e) k _ p.stands in omega (arith, l, s.cells) in
+    let low : k < length senders = let l = slice_get_within (channels_on job e) k _ p.stands in omega (arith, l, s.cells) in
     let taker = at_place takers k (let m = s.takers_are.of_cells.many in omega (arith, low, m)) in
     let cell = at_place senders k low in
     let gate_pass = at_place (gate b) p.i (omega (arith, s.gate_many b ends.receiver, p.way_in)) in

@@ -1,6 +1,6 @@
 -- All workers of a job have ended, and its edges are settled one after another.
 use Rattle.std.proofs.Common.{◌≡◌, ◌≢◌, Bool, ℕ, zero, suc, ◌+◌, ◌<◌, ◌≤◌, Option, Some, List, [], length, sym, ap, subst, ◌∙◌, arith}
-use Rattle.std.proofs.lemmas.Option.{same_Some}
+use Rattle.std.proofs.lemmas.Option.{same_Some, slice_get_within}
 use Rattle.std.specs.Prelude.{slice_get, IfSome}
 use Rattle.std.specs.Option.{option_map_or}
 use Rattle.flow_defs.specs.Items.{Items}
@@ -20,7 +20,6 @@ use Rattle.job_ends.specs.Edges.{EdgeCarries}
 use Rattle.job_ends.specs.declared.left.EdgeLeft.{EdgeLeft}
 use Rattle.job_ends.specs.Ended.{TaskPlace, LoopPlace, left_at, own_at, gate_at, AreEnded, AreLoopsEnded, AreSettled, LinksTell, SnapshotsStay, faults_in}
 use Rattle.job_ends.specs.Leaving.{HasArrived, HasEdge, LoopEnds, RowsGoOn, places_of}
-use Rattle.job_ends.proofs.Loops.{place_low}
 use Rattle.job_ends.proofs.Rows.{stands, rows_again, rows_fewer}
 
 -- ---- the loops of an edge
@@ -106,10 +105,10 @@ gate_of {S} rows e b left at = ap (λ (o : Option (TaskLeft S)). option_map_or (
 module _ {S O I : Type 0} {belong : O → I → Type 0} {sent : O → Option (List ℕ)} {got : I → Option (List ℕ)} {job : Job} {size : ℕ} {edges : List Edge}
     {rows : List (Items (TaskPlace S))} {loops : List (Items (LoopPlace O I))} (ended : AreEnded belong sent got job size edges rows loops) (e : ℕ) (edge : Edge) (at : slice_get edges e ≡ Some edge) where
   pub edge_low : e ≤ last_edge job
-  edge_low = let low = place_low edges e edge at in let m = ended.edges_are.many in omega (arith, low, m)
+  edge_low = let low = slice_get_within edges e edge at in let m = ended.edges_are.many in omega (arith, low, m)
 
   pub loops_at : e < length loops
-  loops_at = let low = place_low edges e edge at in let m = ended.edges_are.many in let n = ended.loops_many in omega (arith, low, m, n)
+  loops_at = let low = slice_get_within edges e edge at in let m = ended.edges_are.many in let n = ended.loops_many in omega (arith, low, m, n)
 
   module _ (now : List (Items (TaskPlace S))) (go : RowsGoOn (λ s. e ≤ s) (λ s. e < s) rows now) where
     pub has_edge : IsJob job → HasEdge job e edge now
@@ -119,7 +118,7 @@ module _ {S O I : Type 0} {belong : O → I → Type 0} {sent : O → Option (Li
       rows_many = (let low = edge_low in let m = go.many in let n = ended.rows_many in omega (arith, low, m, n));
       low = edge_low;
       row_many = λ s row there.
-          let start = stands rows s (let l = place_low now s row there in let m = go.many in omega (arith, l, m)) in
+          let start = stands rows s (let l = slice_get_within now s row there in let m = go.many in omega (arith, l, m)) in
           sym (ap (λ (o : Option (Items (TaskPlace S))). option_map_or (λ (row : Items (TaskPlace S)). length row.items) o 0) there)
           ∙ go.row_many s
           ∙ ap (λ (o : Option (Items (TaskPlace S))). option_map_or (λ (row : Items (TaskPlace S)). length row.items) o 0) start.1

@@ -4,7 +4,7 @@ use Rattle.std.specs.Prelude.{slice_get}
 use Rattle.std.specs.Option.{option_map_or}
 use Rattle.std.proofs.Math.Nat.{mul-le-mul}
 use Rattle.std.proofs.lemmas.List.FromFn.{length-map-range_with_len}
-use Rattle.std.proofs.lemmas.Option.{same_Some}
+use Rattle.std.proofs.lemmas.Option.{same_Some, slice_get_within}
 use Rattle.turn_cell.specs.declared.pass.Pass.{Pass}
 use Rattle.turn_cell.proofs.Lists.{starts_on}
 use Rattle.flow_defs.specs.Items.{Items}
@@ -28,7 +28,6 @@ use Rattle.job_ends.specs.Settling.{AllSettled, AreTaskAt, GoOn}
 use Rattle.job_ends.specs.Edges.{IsSettled}
 use Rattle.job_ends.specs.Ended.{TaskPlace, left_in, place_at, own_at, gate_at}
 use Rattle.job_ends.specs.Leaving.{HasArrived, HasEdge, HasPartition, HasGate, SentAt, TookAt, TookPartition, TookGate, sent_in, taken_in}
-use Rattle.job_ends.proofs.Loops.{place_low}
 use Rattle.job_ends.proofs.Rows.{stands, place_is}
 
 -- ---- channels that were settled after others
@@ -81,7 +80,7 @@ pub first_low : (cells : List InputCell) (number : ℕ) (own : List InputPass) �
 first_low cells number [] at = omega arith
 first_low cells number (pass ∷ own) at =
     let there = at 0 pass refl in
-    let low = place_low cells (place_of (number * length (pass ∷ own)) 1 0) there.0 there.1 in
+    let low = slice_get_within cells (place_of (number * length (pass ∷ own)) 1 0) there.0 there.1 in
     omega (arith, low)
 
 -- ---- how many channels there are
@@ -118,7 +117,7 @@ module _ {S : Type 0} (job : Job) (e : ℕ) (edge : Edge) (rows : List (Items (T
   pub sends : (row : Items (TaskPlace S)) → slice_get rows e ≡ Some row → (a : ℕ) (place : TaskPlace S) → slice_get row.items a ≡ Some place → SentAt edge.subpartitions.items a (length row.items) place
   sends row at a place there =
       let many = has.row_many e row at in
-      let s = has.sent_by a (let low = place_low row.items a place there in omega (arith, low, many)) in
+      let s = has.sent_by a (let low = slice_get_within row.items a place there in omega (arith, low, many)) in
       record {
         has = record { left = s.0; is_left = sym (ap (λ (p : TaskPlace S). left_in p) (place_is rows e a row place at there)) ∙ s.1; passes = s.2.passes; are_there = s.2.are_there };
         own = subst (λ (n : ℕ). AreTaskAt edge.subpartitions.items a n s.2.passes.subpartitions.items) (sym many) s.2.own.each;
@@ -127,7 +126,7 @@ module _ {S : Type 0} (job : Job) (e : ℕ) (edge : Edge) (rows : List (Items (T
   pub takes : (row : Items (TaskPlace S)) → slice_get rows (suc e) ≡ Some row → (b : ℕ) (place : TaskPlace S) → slice_get row.items b ≡ Some place → TookAt edge.inputs.items b place
   takes row at b place there =
       let many = has.row_many (suc e) row at in
-      let t = has.taken_by b (let low = place_low row.items b place there in omega (arith, low, many)) in
+      let t = has.taken_by b (let low = slice_get_within row.items b place there in omega (arith, low, many)) in
       record {
         has = record { left = t.0; is_left = sym (ap (λ (p : TaskPlace S). left_in p) (place_is rows (suc e) b row place at there)) ∙ t.1; passes = t.2.passes; are_there = t.2.are_there };
         own = subst (λ (n : ℕ). AreTaskAt edge.inputs.items (b * n) 1 t.2.passes.cells.items) (sym t.2.many) t.2.own;

@@ -1,9 +1,10 @@
 -- The passes of a loop, where that at a place was settled with a task's.
-use Rattle.std.proofs.Common.{◌≡◌, ℕ, zero, suc, true, false, true≢false, ◌<◌, ◌≤◌, inl, inr, length-append, append_assoc, Option, List, [], ◌∷◌, ◌++◌, length, get_or, set, refl, sym, ap, subst, ◌∙◌, arith, append-nil}
+use Rattle.std.proofs.Common.{◌≡◌, ℕ, true, false, true≢false, ◌<◌, ◌≤◌, inl, inr, length-append, append_assoc, Option, List, [], ◌∷◌, ◌++◌, length, get_or, set, refl, sym, ap, subst, ◌∙◌, arith, append-nil}
 use Rattle.std.specs.Prelude.{slice_get, Some, ◌↔◌}
 use Rattle.std.specs.List.{refill}
 use Rattle.std.specs.Option.{option_map_or}
 use Rattle.std.proofs.lemmas.Bool.{cases_lt}
+use Rattle.std.proofs.lemmas.Option.{slice_get_within}
 use Rattle.record_writer.specs.Writers.{place_of}
 use Rattle.turn_cell.specs.declared.cell.TurnCell.{TurnCell}
 use Rattle.turn_cell.specs.declared.pass.Pass.{Pass}
@@ -76,11 +77,6 @@ pub get_behind : {X : Type 0} (xs : List X) (x : X) (ys : List X) → slice_get 
 get_behind [] x ys = refl
 get_behind (y ∷ xs) x ys = get_behind xs x ys
 
-pub place_low : {X : Type 0} (xs : List X) (k : ℕ) (x : X) → slice_get xs k ≡ Some x → k < length xs
-place_low [] k x e = absurd (cc)
-place_low (y ∷ xs) zero x e = omega arith
-place_low (y ∷ xs) (suc k) x e = let low = place_low xs k x e in omega (arith, low)
-
 module _ {S E F : Type 0} (cells : List (TurnCell S E F)) (first stride : ℕ) (entry old new more : List (Pass S E F)) (pass : Pass S E F)
     (own : AreTaskAt cells first stride entry) (front : entry ≡ old ++ more) (popped : old ≡ new ++ pass ∷ []) where
   pub front_now : entry ≡ new ++ pass ∷ more
@@ -93,7 +89,7 @@ module _ {S E F : Type 0} (cells : List (TurnCell S E F)) (first stride : ℕ) (
   task_there = own (length new) pass stands_there
 
   pub place_within : place_of first stride (length new) < length cells
-  place_within = place_low cells (place_of first stride (length new)) task_there.0 task_there.1
+  place_within = slice_get_within cells (place_of first stride (length new)) task_there.0 task_there.1
 
   pub settled_more : (stands : S → List (ℕ × E) → Type 0) (before now : List (Pass S E F)) → GoOn before now →
       SettledAt stands (mine pass) (seen pass) (mine_at (place_of first stride (length new)) now) (seen_at (place_of first stride (length new)) now) →

@@ -5,7 +5,7 @@ use Rattle.std.specs.List.{refill}
 use Rattle.std.specs.Option.{option_map_or}
 use Rattle.std.proofs.lemmas.Bool.{cases_lt}
 use Rattle.std.proofs.lemmas.List.{length-set}
-use Rattle.std.proofs.lemmas.Option.{same_Some}
+use Rattle.std.proofs.lemmas.Option.{same_Some, slice_get_within}
 use Rattle.flow_defs.specs.Items.{Items}
 use Rattle.flow_defs.proofs.Lists.{refilled_set}
 use Rattle.conn_parts.proofs.Lists.{get_is, get_set, get_set_else, set_cases}
@@ -14,7 +14,6 @@ use Rattle.job_workers.specs.declared.task.TaskLeft.{TaskLeft}
 use Rattle.job_workers.specs.Places.{Pairs}
 use Rattle.job_ends.specs.Ended.{TaskPlace, left_in, place_at, left_at}
 use Rattle.job_ends.specs.Leaving.{WithoutPartition, WithoutGate, LeftGoesOn, RowsGoOn}
-use Rattle.job_ends.proofs.Loops.{place_low}
 
 -- ---- lists by place
 
@@ -44,14 +43,14 @@ up_to_more {A} R n old new x y up at changes = record {
     | inr above ↦
         let same : i ≡ n = omega (arith, low, above) in
         let was : x ≡ p = same_Some x p (sym at ∙ up.rest n (omega arith) ∙ ap (slice_get old) (sym same) ∙ a) in
-        let is : y ≡ q = same_Some y q (sym (get_set new n y (place_low new n x at)) ∙ ap (slice_get (set new n y)) (sym same) ∙ b) in
+        let is : y ≡ q = same_Some y q (sym (get_set new n y (slice_get_within new n x at)) ∙ ap (slice_get (set new n y)) (sym same) ∙ b) in
         subst (λ (v : A). R p v) is (subst (λ (v : A). R v y) was changes)
   ];
   rest = λ i low. get_set_else new n i y (λ e. omega (arith, e, low)) ∙ up.rest i (omega (arith, low));
 }
 
 pub up_to_all : {A : Type 0} (R : A → A → Type 0) (n : ℕ) (old new : List A) → UpTo R n old new → length old ≤ n → Pairs R old new
-up_to_all R n old new up all i x y a b = up.done i x y (let low = place_low old i x a in omega (arith, low, all)) a b
+up_to_all R n old new up all i x y a b = up.done i x y (let low = slice_get_within old i x a in omega (arith, low, all)) a b
 
 -- What was read at a place stands there, also of a list that was lent as it is.
 pub read_there : {A : Type 0} (xs : List A) (k : ℕ) (x : A) → k < length xs → x ≡ get_or xs k x → slice_get xs k ≡ Some (get_or xs k x)
@@ -169,7 +168,7 @@ module _ {S : Type 0} where
       | inl here ↦
           let same : st.row ≡ row = one_there rows e st.row row (ap (slice_get rows) (sym here.0) ∙ st.has_row) at in
           let old_there : slice_get row.items i ≡ Some st.place = subst (λ (r : Items (TaskPlace S)). slice_get r.items i ≡ Some st.place) same st.has_place in
-          let new_there = stands after.items i (let low = place_low row.items i st.place old_there in omega (arith, low, many)) in
+          let new_there = stands after.items i (let low = slice_get_within row.items i st.place old_there in omega (arith, low, many)) in
           let now = step st.place new_there.0 left (pairs i st.place new_there.0 old_there new_there.1) st.is_left in (
             now.0,
             ap (λ (p : TaskPlace S). left_in p) (place_is (set rows e after) s i after new_there.0 here.2 new_there.1) ∙ now.1,

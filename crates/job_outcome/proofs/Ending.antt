@@ -2,6 +2,7 @@
 use Rattle.std.proofs.Common.{◌≡◌, ℕ, zero, suc, ◌*◌, ◌<◌, List, [], Option, Some, None, slice_get, refl, sym, ap, subst, ◌∙◌, arith, inl, inr}
 use Rattle.std.specs.Prelude.{IfSome}
 use Rattle.std.proofs.lemmas.Bool.{cases_lt}
+use Rattle.std.proofs.lemmas.Option.{slice_get_within}
 use Rattle.turn_cell.specs.History.{entries_of}
 use Rattle.turn_cell.specs.Passes.{number}
 use Rattle.flow_defs.specs.declared.cause.Cause.{Cause}
@@ -32,7 +33,7 @@ use Rattle.job_deploy.specs.Deployed.{IsPartitionAt, IsGateAt, IsLentOf}
 use Rattle.job_ends.specs.Ended.{LoopPlace, HasSent, HasTaken, HasAcknowledged, HaveAcknowledged, AreLoopsEnded, AreEnded, left_at}
 use Rattle.job_outcome.specs.Theorems.{HaveRun, Run, IsNewWire, WorkersEnd}
 use Rattle.job_outcome.specs.Words.{LinkWords, WorldWords}
-use Rattle.job_outcome.proofs.Places.{same_some, at_place, place_low, all_at, seen_nothing, made_nothing}
+use Rattle.job_outcome.proofs.Places.{same_some, at_place, all_at, seen_nothing, made_nothing}
 use Rattle.job_outcome.proofs.Running.{is_left, EndsAt, row_many, source_at, stage_at, aggregate_at, loops_at}
 
 -- ---- tasks
@@ -71,7 +72,7 @@ module _ {S : Type 0} {job : Job} {size : ℕ} {every : Option ℕ} {snapshots :
         are_there = h.are_there;
         many = h.own.of_cells.many ∙ g.many;
         own = λ c pass at_pass.
-            let low = place_low h.passes.cells.items c pass at_pass in
+            let low = slice_get_within h.passes.cells.items c pass at_pass in
             let cell = at_place cells c (omega (arith, low, h.own.of_cells.many)) in
             let same : place_into job e a c ≡ place_of (a * ways_into job e) 1 c = omega arith in (
               cell.0,
@@ -152,7 +153,7 @@ module _ {S O I L N : Type 0} {words : WorldWords S O I L N} {run : Run S O I} (
       let s = source_at ran a low in
       (s.end.left, is_left rows 0 a s.end, has_sent at s.was.partition s.by.partition)
   sent_by (suc e) a edge low at =
-      let within = place_low edges (suc e) edge at in
+      let within = slice_get_within edges (suc e) edge at in
       let s = stage_at ran e a (omega (arith, within, ran.edges_are.many)) low in (
         s.end.left,
         is_left rows (suc e) a s.end,
@@ -171,7 +172,7 @@ module _ {S O I L N : Type 0} {words : WorldWords S O I L N} {run : Run S O I} (
         let s = stage_at ran e b before low in
         (s.end.left, is_left rows (suc e) b s.end, has_taken at s.was.gate s.by.gate)
     | inr behind ↦
-        let within = place_low edges e edge at in
+        let within = slice_get_within edges e edge at in
         let is : e ≡ last_edge job = omega (arith, within, behind, ran.edges_are.many) in
         subst (λ (k : ℕ). b < tasks job (suc k) → slice_get edges k ≡ Some edge → TakenBy k b edge) (sym is) (taken_last b edge) low at
   ]

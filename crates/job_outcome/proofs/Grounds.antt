@@ -3,7 +3,7 @@ use Rattle.std.proofs.Common.{◌≡◌, ◌≢◌, ℕ, zero, suc, ◌<◌, ◌
 use Rattle.std.specs.Prelude.{IfSome}
 use Rattle.std.specs.List.{AllByRecursion}
 use Rattle.std.proofs.lemmas.Bool.{cases_lt}
-use Rattle.std.proofs.lemmas.Option.{same_Some}
+use Rattle.std.proofs.lemmas.Option.{same_Some, slice_get_within}
 use Rattle.turn_cell.specs.Passes.{seen}
 use Rattle.flow_defs.specs.Items.{Items}
 use Rattle.flow_defs.specs.declared.cause.Cause.{Cause}
@@ -40,7 +40,7 @@ use Rattle.job_chain.specs.Runs.{StartIsStill}
 use Rattle.job_outcome.specs.Theorems.{HaveRun, Run, start_of, IsNewWire, AreInputsLeft, AreLeftIn, AreSettledWith, HasGrounds, HasLargeImage, InputsComeBack, CausesHaveGrounds}
 use Rattle.job_outcome.specs.Words.{WorldWords}
 use Rattle.job_outcome.proofs.Chaining.{account_of, same_end, too_large}
-use Rattle.job_outcome.proofs.Places.{same_some, at_place, place_low, all_at, each_at}
+use Rattle.job_outcome.proofs.Places.{same_some, at_place, all_at, each_at}
 use Rattle.job_outcome.proofs.OverCredits.{is_over_by_one}
 use Rattle.job_outcome.proofs.PeerGrounds.{all_came, control_begins, has_ended, items_begin}
 use Rattle.job_outcome.proofs.Running.{EndAt, is_left, row_many, BySource, source_at, stage_at, aggregate_at, LoopsEnd, loops_at}
@@ -59,7 +59,7 @@ module _ {S O I L N : Type 0} {words : WorldWords S O I L N} {run : Run S O I} (
 
   pub inputs_back : AreInputsLeft faults inputs rows
   inputs_back a input at =
-      let low = place_low inputs a input at in
+      let low = slice_get_within inputs a input at in
       let s = source_at ran a (omega (arith, low, ran.inputs_many)) in
       let same : s.task.input ≡ input = same_some (slice_get inputs a) s.task.input input s.was.input at in
       (s.end.left, (s.by.input, is_left rows 0 a s.end, s.by.is_there, subst (λ (x : S). faults x ≤ faults s.by.input) same s.by.account.never_falls))
@@ -74,7 +74,7 @@ module _ {S O I L N : Type 0} {words : WorldWords S O I L N} {run : Run S O I} (
 
   low_at : (s i : ℕ) (place : TaskPlace S) → StandsAt rows s i place → i < tasks job s
   low_at s i place stands =
-      let low = place_low stands.row.items i place stands.place_is in
+      let low = slice_get_within stands.row.items i place stands.place_is in
       let many = row_many ran s stands.row stands.row_is in
       omega (arith, low, many)
 
@@ -131,7 +131,7 @@ module _ {S O I L N : Type 0} {words : WorldWords S O I L N} {run : Run S O I} (
           of_taker (base_of s.task.start.now) s.task.every (seen s.end.left.last_image) s.by.given s.by.account.groups s.by.account.rest cause
           (subst (IsTakerEnd (base_of s.task.start.now) s.task.every (seen s.end.left.last_image) s.by.given s.by.account.groups s.by.account.rest) (cause_at (suc e) i place cause stands is s.end) s.by.account.cause_is)
       | inr behind ↦
-          let low = place_low rows (suc e) stands.row stands.row_is in
+          let low = slice_get_within rows (suc e) stands.row stands.row_is in
           let is_last : e ≡ last_edge job = omega (arith, low, behind, ran.rows_many, ran.deployed.rows_many) in
           by_last i place cause (subst (λ (k : ℕ). StandsAt rows (suc k) i place) is_last stands) is
     ]
@@ -259,7 +259,7 @@ module _ {S O I L N : Type 0} {words : WorldWords S O I L N} {run : Run S O I} (
 
     by_loop : (e i : ℕ) (place : LoopPlace O I) (cause : Cause) → StandsAt loops e i place → cause_of_loop place ≡ Some cause → Ground cause
     by_loop e i place cause stands is =
-        let low = place_low loops e stands.row stands.row_is in
+        let low = slice_get_within loops e stands.row stands.row_is in
         let edge = at_place edges e (omega (arith, low, ran.loops_many, ran.deployed.loops_many, ran.edges_are.many)) in
         let l = loops_at ran e edge.0 stands.row edge.1 stands.row_is in
         let new = all_at (IsNewWire links) wires e l.wire ran.new_wires l.wire_is in

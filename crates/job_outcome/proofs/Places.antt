@@ -1,5 +1,6 @@
 -- Places of lists, and what a worker leaves in its own.
 use Rattle.std.proofs.Common.{◌≡◌, ℕ, zero, suc, ◌<◌, List, [], ◌∷◌, length, Option, Some, slice_get, refl, ap, subst, ◌∙◌, arith}
+use Rattle.std.proofs.lemmas.Option.{slice_get_within}
 use Rattle.std.specs.Prelude.{map, All}
 use Rattle.std.specs.List.{AllByRecursion}
 use Rattle.turn_cell.specs.declared.pass.Pass.{Pass}
@@ -19,11 +20,6 @@ pub at_place : {A : Type 0} (xs : List A) (i : ℕ) → i < length xs → (x : A
 at_place [] i h = absurd (omega arith)
 at_place (x ∷ xs) zero h = (x, refl)
 at_place (x ∷ xs) (suc i) h = at_place xs i (omega arith)
-
-pub place_low : {A : Type 0} (xs : List A) (i : ℕ) (x : A) → slice_get xs i ≡ Some x → i < length xs
-place_low [] i x e = absurd (cc)
-place_low (y ∷ xs) zero x e = omega arith
-place_low (y ∷ xs) (suc i) x e = let low = place_low xs i x e in omega (arith, low)
 
 -- What all of a list are, each of its elements is.
 pub all_at : {A : Type 0} (P : A → Type 0) (xs : List A) (i : ℕ) (x : A) → All P xs → slice_get xs i ≡ Some x → P x
@@ -77,7 +73,7 @@ module _ {W E : Type 0} (leaves : W → E → Type 0) where
   pub end_at : (before after : List (Place W E)) (i : ℕ) (worker : W) → RowLeaves leaves before after → slice_get before i ≡ Some (Todo worker) →
       (end : E) × (slice_get after i ≡ Some (Ended end)) × leaves worker end
   end_at before after i worker r at =
-      let low = place_low before i (Todo worker) at in
+      let low = slice_get_within before i (Todo worker) at in
       let new = at_place after i (omega (arith, low, r.many)) in
       let e = leaves_end worker new.0 (r.each i (Todo worker) new.0 at new.1) in
       (e.0, new.1 ∙ ap (λ (place : Place W E). Some place) e.1, e.2)

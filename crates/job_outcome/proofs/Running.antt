@@ -2,6 +2,7 @@
 use Rattle.std.proofs.Common.{◌≡◌, ℕ, zero, suc, ◌<◌, List, [], ◌∷◌, length, Option, Some, slice_get, refl, sym, ap, subst, ◌∙◌, arith, inl, inr}
 use Rattle.std.specs.Option.{option_map_or}
 use Rattle.std.proofs.lemmas.Bool.{cases_lt}
+use Rattle.std.proofs.lemmas.Option.{slice_get_within}
 use Rattle.flow_defs.specs.Items.{Items}
 use Rattle.flow_defs.specs.declared.job.Job.{Job}
 use Rattle.flow_defs.specs.Jobs.{last_edge, tasks}
@@ -26,7 +27,7 @@ use Rattle.job_deploy.specs.Deployed.{AreLoopsAt, IsSourceAt, IsStageAt, IsAggre
 use Rattle.job_ends.specs.Ended.{TaskPlace, LoopPlace, left_in, left_at, own_at, gate_at, snapshots_at}
 use Rattle.job_outcome.specs.Theorems.{HaveRun, Run}
 use Rattle.job_outcome.specs.Words.{LinkWords, WorldWords}
-use Rattle.job_outcome.proofs.Places.{same_some, placed, at_place, place_low, four, end_at}
+use Rattle.job_outcome.proofs.Places.{same_some, placed, at_place, four, end_at}
 
 -- Something was left at place i of row s.
 pub record EndAt {S : Type 0} (rows : List (Items (TaskPlace S))) (s i : ℕ) : Type 0 where
@@ -162,14 +163,14 @@ module _ {S O I L N : Type 0} {words : WorldWords S O I L N} {run : Run S O I} (
   before_many (suc e) row at = elim (cases_lt e last) [
     | inl low ↦ (ran.deployed.stages e row low at).many
     | inr high ↦
-        let low = place_low ran.rows_before (suc e) row at in
+        let low = slice_get_within ran.rows_before (suc e) row at in
         let is : e ≡ last = omega (arith, low, high, ran.deployed.rows_many) in
         (ran.deployed.aggregates row (subst (λ (k : ℕ). slice_get ran.rows_before (suc k) ≡ Some row) is at)).many ∙ ap (λ (k : ℕ). tasks job (suc k)) (sym is)
   ]
 
   pub row_many : (s : ℕ) (row : Items (TaskPlace S)) → slice_get rows s ≡ Some row → length row.items ≡ tasks job s
   row_many s row at =
-      let low = place_low rows s row at in
+      let low = slice_get_within rows s row at in
       let r = rows_at s (omega (arith, low, ran.rows_many, ran.deployed.rows_many)) in
       ap (λ (x : Items (TaskPlace S)). length x.items) (same_some (slice_get rows s) row r.after at r.after_is) ∙ r.leaves.many ∙ before_many s r.before r.before_is
 
@@ -244,7 +245,7 @@ module _ {S O I L N : Type 0} {words : WorldWords S O I L N} {run : Run S O I} (
 
   pub loops_at : (e : ℕ) (edge : Edge) (row : Items (LoopPlace O I)) → slice_get edges e ≡ Some edge → slice_get loops e ≡ Some row → LoopsEnd e edge row
   loops_at e edge row at_edge at_row =
-      let low = place_low edges e edge at_edge in
+      let low = slice_get_within edges e edge at_edge in
       let before = at_place ran.loops_before e (omega (arith, low, ran.edges_are.many, ran.deployed.loops_many)) in
       let wire = at_place wires e (omega (arith, low, ran.edges_are.many, ran.wires_many)) in
       record {

@@ -1,5 +1,6 @@
 -- Loops over wires of which no end is to fail.
 use Rattle.std.proofs.Common.{◌≡◌, ℕ, List, Some, slice_get, sym, ap, subst, ◌∙◌, arith}
+use Rattle.std.proofs.lemmas.Option.{slice_get_within}
 use Rattle.std.specs.List.{AllByRecursion}
 use Rattle.flow_defs.specs.declared.job.Job.{Job}
 use Rattle.outside.specs.declared.wires.Wire.{Wire}
@@ -8,7 +9,7 @@ use Rattle.job_cells.specs.declared.edge.Edge.{Edge}
 use Rattle.job_ends.specs.Ended.{LoopPlace, faults_in}
 use Rattle.job_outcome.specs.Theorems.{AreFaultless, SureWiresHaveNoFault}
 use Rattle.job_outcome.specs.Words.{WorldWords}
-use Rattle.job_outcome.proofs.Places.{at_place, place_low, all_at, each_at}
+use Rattle.job_outcome.proofs.Places.{at_place, all_at, each_at}
 use Rattle.job_outcome.proofs.Running.{EndsAt, loops_at}
 
 module _ {S O I L N : Type 0} (words : WorldWords S O I L N) (sure_out : O → Type 0) (sure_in : I → Type 0)
@@ -38,7 +39,7 @@ module _ {S O I L N : Type 0} (words : WorldWords S O I L N) (sure_out : O → T
       let e = fault.0 in
       let row = fault.2.0 in
       let place = fault.2.1.0 in
-      let low = place_low run.loops e row fault.2.1.1 in
+      let low = slice_get_within run.loops e row fault.2.1.1 in
       let edge = at_place run.edges e (omega (arith, low, ran.loops_many, ran.deployed.loops_many, ran.edges_are.many)) in
       let l = loops_at ran e edge.0 row edge.1 fault.2.1.1 in
       let none : faults_in of_out of_in place ≡ 0 =

@@ -3,6 +3,7 @@ use Rattle.std.proofs.Common.{◌≡◌, ℕ, zero, suc, List, length, inl, inr,
 use Rattle.std.specs.Prelude.{slice_get, Option, All}
 use Rattle.std.specs.List.{AllByRecursion}
 use Rattle.std.proofs.lemmas.Bool.{cases_lt}
+use Rattle.std.proofs.lemmas.Option.{slice_get_within}
 use Rattle.flow_defs.specs.Items.{Items}
 use Rattle.flow_defs.specs.declared.job.Job.{Job}
 use Rattle.flow_defs.specs.Jobs.{last_edge}
@@ -25,7 +26,7 @@ use Rattle.job_ends.specs.Ended.{TaskPlace, LoopPlace}
 use Rattle.job_outcome.specs.Theorems.{IsNewWire}
 use Rattle.job_outcome.specs.Words.{LinkWords}
 use Rattle.job_outcome.proofs.Places.{each_at}
-use Rattle.job_run.proofs.ListLaws.{get_there, place_low, all_at}
+use Rattle.job_run.proofs.ListLaws.{get_there, all_at}
 
 -- ---- they may run
 
@@ -40,7 +41,7 @@ module _ {S O I : Type 0} {job : Job} {size : ℕ} {every : Option ℕ} {snapsho
         let task = (d.stages e row low at).each i place here in
         subst (λ (p : TaskPlace S). MayRun (MayRunTask job) p) (sym task.1) task.2.may
     | inr high ↦
-        let within = place_low rows (suc e) row at in
+        let within = slice_get_within rows (suc e) row at in
         let many = d.rows_many in
         let same : e ≡ last_edge job = omega (arith, within, many, high) in
         let task = (d.aggregates row (ap (λ k. slice_get rows (suc k)) (sym same) ∙ at)).each i place here in
@@ -51,7 +52,7 @@ module _ {S O I : Type 0} {job : Job} {size : ℕ} {every : Option ℕ} {snapsho
       Each (λ (row : Items (LoopPlace O I)). Each (MayRun (MayRunLoop links.finished)) row.items) loops
   loops_may_run links edges_are wires_many unused e row at i place here =
       let May : LoopPlace O I → Type 0 = λ p. MayRun (MayRunLoop links.finished) p in
-      let low = place_low loops e row at in
+      let low = slice_get_within loops e row at in
       let many = d.loops_many in
       let edges_many = edges_are.many in
       let edge = get_there edges e (omega (arith, low, many, edges_many)) in

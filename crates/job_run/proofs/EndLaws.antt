@@ -1,5 +1,6 @@
 -- What stands in the places of workers while they are settled, one thing after the other.
 use Rattle.std.proofs.Common.{◌≡◌, ℕ, suc, ◌<◌, List, [], sym, ap, ◌∙◌, arith}
+use Rattle.std.proofs.lemmas.Option.{slice_get_within}
 use Rattle.std.specs.Prelude.{Option}
 use Rattle.std.specs.Option.{option_map_or}
 use Rattle.flow_defs.specs.Items.{Items}
@@ -10,7 +11,7 @@ use Rattle.snapshot_channel.specs.declared.opened.SnapshotChannel.{SnapshotChann
 use Rattle.job_workers.specs.declared.task.TaskLeft.{TaskLeft}
 use Rattle.job_workers.specs.Tasks.{snapshots_in}
 use Rattle.job_ends.specs.Ended.{TaskPlace, AreReceived, AreSettled, HaveAcknowledged, SnapshotsStay, snapshots_at}
-use Rattle.job_run.proofs.ListLaws.{get_there, place_low}
+use Rattle.job_run.proofs.ListLaws.{get_there}
 
 module _ {S : Type 0} where
   -- Rows that were settled and settled again are settled.
@@ -18,7 +19,7 @@ module _ {S : Type 0} where
   settled_again {old = old} {mid = mid} one two = record {
     many = two.many ∙ one.many;
     row_many = λ s before after was is.
-        let low = place_low old s before was in
+        let low = slice_get_within old s before was in
         let many = one.many in
         let between = get_there mid s (omega (arith, low, many)) in
         two.row_many s between.0 after between.1 is ∙ one.row_many s before between.0 was between.1;
@@ -37,7 +38,7 @@ module _ {S : Type 0} where
     still_acknowledged have = record {
       rows_many = settled.many ∙ have.rows_many;
       row_many = λ s row at.
-          let low = place_low new s row at in
+          let low = slice_get_within new s row at in
           let many = settled.many in
           let before = get_there old s (omega (arith, low, many)) in
           settled.row_many s before.0 row before.1 at ∙ have.row_many s before.0 before.1;

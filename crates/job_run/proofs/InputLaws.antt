@@ -1,5 +1,6 @@
 -- The inputs that come back from settled places.
 use Rattle.std.proofs.Common.{◌≡◌, ℕ, zero, suc, ◌∷◌, ◌<◌, List, [], length, get_or, sym, ap, subst, ◌∙◌, arith}
+use Rattle.std.proofs.lemmas.Option.{slice_get_within}
 use Rattle.std.specs.Prelude.{slice_get, option_and_then, Option, Some}
 use Rattle.std.specs.List.{filter_map, refill}
 use Rattle.std.specs.Option.{option_map_or}
@@ -14,7 +15,7 @@ use Rattle.job_workers.specs.declared.task.TaskLeft.{TaskLeft}
 use Rattle.job_ends.specs.Ended.{TaskPlace, LoopPlace, AreEnded, AreSettled, left_at, left_in}
 use Rattle.job_outcome.specs.Theorems.{AreLeftIn}
 use Rattle.job_run.specs.Runs.{HaveInputs, input_in}
-use Rattle.job_run.proofs.ListLaws.{get_there, place_low, given_many, given_at, GivesAll}
+use Rattle.job_run.proofs.ListLaws.{get_there, given_many, given_at, GivesAll}
 
 module _ {S : Type 0} where
   -- What was left at a place of a row stands there.
@@ -45,7 +46,7 @@ module _ {S : Type 0} where
 
     all_given : GivesAll input_in after.items
     all_given a place here =
-        let low = place_low after.items a place here in let same = after_many in
+        let low = slice_get_within after.items a place here in let same = after_many in
         let found = inputs a (omega (arith, low, same)) in
         (found.1.0, input_there a found.0 found.1.0 place found.1.1 found.1.2 here)
 

@@ -13,11 +13,6 @@ get_there [] i low = absurd (omega arith)
 get_there (x ∷ xs) zero low = (x, refl)
 get_there (x ∷ xs) (suc i) low = get_there xs i (omega arith)
 
-pub place_low : {A : Type 0} (xs : List A) (i : ℕ) (x : A) → slice_get xs i ≡ Some x → i < length xs
-place_low [] i x at = absurd (cc)
-place_low (y ∷ xs) zero x at = omega arith
-place_low (y ∷ xs) (suc i) x at = let low = place_low xs i x at in omega (arith, low)
-
 pub get_or_is : {A : Type 0} (xs : List A) (i : ℕ) (x : A) → slice_get xs i ≡ Some x → get_or xs i x ≡ x
 get_or_is [] i x at = absurd (cc)
 get_or_is (y ∷ xs) zero x at = cc

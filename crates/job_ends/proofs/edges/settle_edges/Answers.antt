@@ -2,13 +2,13 @@ use Rattle.std.proofs.Common.{◌≡◌, ◌<◌, ◌≤◌, inl, inr, slice_ind
 use Rattle.std.specs.Prelude.{slice_get}
 use Rattle.std.proofs.lemmas.Bool.{cases_lt}
 use Rattle.std.proofs.lemmas.List.{length-set}
+use Rattle.std.proofs.lemmas.Option.{slice_get_within}
 use Rattle.conn_parts.proofs.Lists.{get_is, get_set_else}
 use Rattle.flow_defs.specs.Jobs.{last_edge}
 use Rattle.job_ends.specs.Edges.{EdgeCarries}
 use Rattle.job_ends.specs.Ended.{gate_at, own_at}
 use Rattle.job_ends.specs.Returning.{RowsCameBack}
 use Rattle.job_ends.proofs.Returns.{none_came_back, one_more_came_back}
-use Rattle.job_ends.proofs.Loops.{place_low}
 use Rattle.job_ends.proofs.Rows.{one_there, read_there, rows_nothing}
 use Rattle.job_ends.proofs.Endings.{carried, edge_low, has_edge, loops_at, rows_settled, rows_step, snapshots_stay}
 use Rattle.job_ends.proofs.edges.settle_edges.Goals as goal
@@ -108,7 +108,7 @@ returns-clause-wires g c =
 
 pub returns-clause-fault : goal.returns-clause-fault
 returns-clause-fault g c = λ f.
-    let low = place_low c.args.loops.now f.0 f.2.0 f.2.1.1 in
+    let low = slice_get_within c.args.loops.now f.0 f.2.0 f.2.1.1 in
     let loops_many = c.requires.ended.1.loops_many in
     let many = c.requires.ended.1.edges_are.many in
     c.loop-number.invariant.fault f.0 f.1 f.2.0 f.2.1.0 (omega (arith, low, loops_many, many)) f.2.1.1 f.2.1.2 f.2.1.3

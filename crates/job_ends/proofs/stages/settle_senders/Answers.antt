@@ -1,8 +1,9 @@
 use Rattle.std.proofs.Common.{length, slice_index_or, ℕ, sym, ap, subst, arith}
+use Rattle.std.proofs.lemmas.Option.{slice_get_within}
 use Rattle.subpartition.specs.Standing as sending
 use Rattle.job_ends.specs.Settling.{AllSettled}
 use Rattle.job_ends.specs.Leaving.{SentAt, WithoutPartition, sent_in}
-use Rattle.job_ends.proofs.Loops.{go_on_nothing, go_on_again, place_low}
+use Rattle.job_ends.proofs.Loops.{go_on_nothing, go_on_again}
 use Rattle.job_ends.proofs.Rows.{at_lent, stood, lent_more, each_more, up_to_none, up_to_all}
 use Rattle.job_ends.proofs.Leavings.{settled_back}
 use Rattle.job_ends.proofs.stages.settle_senders.Goals as goal
@@ -51,4 +52,4 @@ returns-clause-row g c =
     up_to_all WithoutPartition c.loop-task.task c.args.row.now.items c.loop-task.row.items c.loop-task.invariant.row (let all = ap length c.as_slice-tasks.ensures in omega (arith, all))
 
 pub returns-clause-settled : goal.returns-clause-settled
-returns-clause-settled g c = λ a place at. c.loop-task.invariant.settled a place (let low = place_low c.args.row.now.items a place at in let all = ap length c.as_slice-tasks.ensures in omega (arith, low, all)) at
+returns-clause-settled g c = λ a place at. c.loop-task.invariant.settled a place (let low = slice_get_within c.args.row.now.items a place at in let all = ap length c.as_slice-tasks.ensures in omega (arith, low, all)) at

@@ -1,9 +1,10 @@
 use Rattle.std.proofs.Common.{◌≡◌, ◌<◌, ℕ, true, false, Some, slice_get, get_or, List, length, refl, subst, sym, ◌∙◌, arith, inl, inr}
 use Rattle.std.proofs.lemmas.Bool.{cases_lt}
+use Rattle.std.proofs.lemmas.Option.{slice_get_within}
 use Rattle.conn_parts.proofs.Lists.{get_is}
 use Rattle.flow_defs.specs.Items.{Items}
 use Rattle.job_outcome.specs.Outcomes.{StandsAt}
-use Rattle.job_outcome.proofs.Places.{same_some, place_low}
+use Rattle.job_outcome.proofs.Places.{same_some}
 use Rattle.job_outcome.proofs.outcome.all_done.Goals as goal
 
 -- What stands in a row stands in the list that is found at its place.
@@ -35,7 +36,7 @@ returns-then-not-all_done_in g c = (
 pub returns : goal.returns
 returns g c = (
   (λ is s i place stands.
-      let low = place_low c.args.rows.now s stands.row stands.row_is in
+      let low = slice_get_within c.args.rows.now s stands.row stands.row_is in
       c.loop-row.invariant s i place (omega (arith, low, c.loop-row-test.false)) stands),
   (λ all. refl),
 )

@@ -1,8 +1,9 @@
 use Rattle.std.proofs.Common.{◌≡◌, ℕ, true, false, Some, slice_get, refl, subst, sym, ◌∙◌, arith, inl, inr}
 use Rattle.std.proofs.lemmas.Bool.{cases_lt}
+use Rattle.std.proofs.lemmas.Option.{slice_get_within}
 use Rattle.conn_parts.proofs.Lists.{get_is}
 use Rattle.flow_defs.specs.declared.cause.Cause.TheVariants.{Done}
-use Rattle.job_outcome.proofs.Places.{same_some, place_low}
+use Rattle.job_outcome.proofs.Places.{same_some}
 use Rattle.job_outcome.proofs.outcome.all_done_in.Goals as goal
 
 pub loop-place-preserved : goal.loop-place-preserved
@@ -25,7 +26,7 @@ returns-then-not-is_done g c =
 pub returns : goal.returns
 returns g c = (
   (λ is i place at.
-      let low = place_low c.args.row.now i place at in
+      let low = slice_get_within c.args.row.now i place at in
       c.loop-place.invariant i place (omega (arith, low, c.loop-place-test.false)) at),
   (λ all. refl),
 )

@@ -71,7 +71,7 @@ impl Bytes {
         ensures succeeds { length piece.now ≤ self.old.room → IsOk result }
         ensures room { self.old.room ≤ self.new.room + length piece.now }
     {
-        // The length is at most the capacity.
+        // Read here and below so that the length is known to be at most the capacity.
         let _len = self.bytes.len();
         self.bytes.extend_from_slice(piece)
     }

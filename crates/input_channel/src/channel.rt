@@ -376,6 +376,7 @@ impl InputChannel {
         ensures room { 2 + self.now.counts.floating + floating_held self.now.counts ≤ self.now.room }
         ensures exclusive { exclusive_here self.now ≤ 2 }
     {
+        // Read so that what every channel keeps is known.
         let _credit = self.parts.credit;
     }
 

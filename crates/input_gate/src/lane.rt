@@ -182,6 +182,7 @@ fn poll_lane<R: Wait>(rt: &R, lane: &mut Lane<'_>, hold: bool) -> LaneStep
             k,
             kind: BarrierKind::Inline,
         } => {
+            // Called for its clause, that no whole record is left.
             let _len = rest_len(lane.reader.rest());
             lane.barriers = k;
             lane.blocked = true;

@@ -15,5 +15,6 @@ pub fn lines_are_polled(gate: &CellGate<'_, '_>)
     ensures ends { (c : ℕ) → (account_in gate.now).ended c ≡ true → has_end (given_at gate.now c) ≡ true }
     ensures short { (c : ℕ) → AllByRecursion IsShort (lines_in ((account_in gate.now).told c)) }
 {
+    // Read so that what a gate keeps is known.
     let _start = gate.start;
 }

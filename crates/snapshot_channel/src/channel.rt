@@ -35,6 +35,7 @@ fn open_for<B: Opens>(
     ensures view { view pass.new ≡ opened (opening job.now start.now every) (view pass.old) }
 {
     let (_job, _start, _every) = (job, start, every);
+    // The pass that an opening makes beside stands for nothing.
     let _spent = line.another::<Open<B>>(pass);
 }
 

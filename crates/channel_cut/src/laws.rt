@@ -2,8 +2,12 @@
 ghost use Rattle.channel_cut.specs.Cuts.{InLineHasAllBefore, CutsStay, CutOfChannel};
 ghost use Rattle.channel_cut.specs.Lanes.{ReadBegins, PolledIsLeft, LineIsGiven, LinesAreTold, PartsAreRead, InLineCuts};
 ghost use Rattle.channel_cut.specs.Ends.{SettledAreEnds, EndsAreCut};
+ghost use Rattle.channel_cut.specs.Works.{WorkedIsDid};
+ghost use Rattle.channel_cut.specs.Runs.{NumbersGoOn, StartIsFrom, RanIsTold, RanIsChain, RanEndsInWorth, RanEndsInTally};
 
+use checkpoint_laws::laws::{accounts_tell, told_images_are_a_chain};
 use input_channel::laws as receiving;
+use plain_machine::laws::emits_in_parts;
 use subpartition::laws as sending;
 
 /// Where a barrier was polled in line, what was put before it and was in flight before that is what was given; and
@@ -33,4 +37,27 @@ pub fn ends_are_cut()
     sending::histories_keep_order();
     sending::passes_tell();
     receiving::passes_tell();
+}
+
+/// What the loop of a task keeps, stretch by stretch, is its account by chapters, for a task of any kind and from
+/// any image on; and the numbers of its snapshots go on from that image's.
+pub fn tasks_tell_chapters()
+    ensures did { WorkedIsDid }
+    ensures numbers { NumbersGoOn }
+{
+    emits_in_parts();
+}
+
+/// The images of a run whose workers tell what they did are a chain, from any image on, with what was in flight in
+/// it. A last image has in its tables what that image is worth, and from the start on the tally.
+pub fn runs_are_chains()
+    ensures start { StartIsFrom }
+    ensures told { RanIsTold }
+    ensures chain { RanIsChain }
+    ensures worth { RanEndsInWorth }
+    ensures tally { RanEndsInTally }
+{
+    accounts_tell();
+    told_images_are_a_chain();
+    ends_are_cut();
 }

@@ -6,3 +6,4 @@ pub mod Taking
 pub mod Working
 pub mod Running
 pub mod Examples
+pub mod RunExample

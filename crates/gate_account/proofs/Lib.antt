@@ -1,1 +1,3 @@
 pub mod InStep
+pub mod Groups
+pub mod Takings

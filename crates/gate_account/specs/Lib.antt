@@ -1,2 +1,3 @@
 pub mod Accounts
 pub mod Aligning
+pub mod Taking

@@ -1,3 +1,4 @@
 pub mod InStep
 pub mod Groups
 pub mod Takings
+pub mod Examples

@@ -204,7 +204,7 @@ taken =
     let shows = Shows bytes_a (entries_of (takes 0 0 0)) in
     let first = line_is_taken shows 0 [] (codes "a") [] [] (taken_begins shows 0) in
     let both = line_is_taken shows 0 (codes "a" ∷ []) (codes "b") [] ((0, codes "a") ∷ []) first in
-    snapshot_is_taken shows 0 (codes "a" ∷ codes "b" ∷ []) [] took (barrier_is_given shows 0 (codes "a" ∷ codes "b" ∷ []) [] took came both)
+    snapshot_is_taken shows 0 (codes "a" ∷ codes "b" ∷ []) [] took (barrier_is_given shows 0 (codes "a" ∷ codes "b" ∷ []) [] took false came both)
 
 cut_there : (up_to : ℕ → List (ℕ × List ℕ)) → up_to 1 ≡ took → (e s k : ℕ) → is_channel its_job e s 0 ≡ true → k < 1 → Shows (saved its_job base e s 0) (entries_of (takes e s 0)) (InLine (suc k) (of_sender s (up_to (suc k))))
 cut_there up_to is e s zero on low =

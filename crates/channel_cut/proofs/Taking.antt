@@ -1,14 +1,21 @@
 -- How what a task took from a channel grows, step by step.
-use Rattle.std.proofs.Common.{◌≡◌, ◌≢◌, ◌<◌, ◌≤◌, ℕ, zero, suc, Bool, true, false, cond, ltb, true≢false, List, [], ◌∷◌, ◌++◌, length, length-append, take, refl, sym, ap, subst, ◌∙◌, append_assoc, append-nil, arith, eq-eqb}
-use Rattle.std.proofs.lemmas.Bool.{ne_eqb, ltb-true, ltb-false}
+use Rattle.std.proofs.Common.{◌≡◌, ◌≢◌, ◌+◌, ◌<◌, ◌≤◌, ℕ, zero, suc, Bool, true, false, cond, true≢false, List, [], ◌∷◌, ◌++◌, length, length-append, map, refl, sym, ap, subst, ◌∙◌, append_assoc, append-nil, eq-eqb, ne_eqb, arith}
+use Rattle.std.specs.Prelude.{take}
+use Rattle.std.proofs.lemmas.List.{length-map}
 use Rattle.std.proofs.lemmas.List.Concat.{flat_map-append}
+use mathlib.Core.Logic.{dite}
+use native.Mathlib.Decide.{ℕ_discrete}
 use Rattle.plain_machine.specs.Histories.{of_sender}
+use Rattle.checkpoint_laws.specs.Chapters.{Chapter}
+use Rattle.checkpoint_laws.specs.Runs.{took_before}
 use Rattle.checkpoint_laws.proofs.Lists.{of_sender-append}
 use Rattle.channel_cut.specs.Cuts.{Cut, InLine}
 use Rattle.channel_cut.specs.Takings.{all_in, taken_to, TakenOn}
 
-abbrev Group : Type 0
+abbrev pub Group : Type 0
 Group = List (ℕ × List ℕ)
+
+-- ---- groups
 
 of_here : (s : ℕ) (r : List ℕ) → of_sender s ((s, r) ∷ []) ≡ r ∷ []
 of_here s r = ap (λ b. cond b (r ∷ []) []) (eq-eqb s s refl)
@@ -24,20 +31,25 @@ take-front zero groups more low = refl
 take-front (suc k) [] more low = absurd (omega (arith, low))
 take-front (suc k) (g ∷ groups) more low = ap (λ z. g ∷ z) (take-front k groups more (omega (arith, low)))
 
-take-all : (groups : List Group) (took : Group) → take (suc (length groups)) (groups ++ took ∷ []) ≡ groups ++ took ∷ []
-take-all [] took = refl
-take-all (g ∷ groups) took = ap (λ z. g ∷ z) (take-all groups took)
+take-all : (groups : List Group) → take (length groups) groups ≡ groups
+take-all [] = refl
+take-all (g ∷ groups) = ap (λ z. g ∷ z) (take-all groups)
 
-all-push : (groups : List Group) (took : Group) → all_in (groups ++ took ∷ []) ≡ all_in groups ++ took
-all-push groups took = flat_map-append (λ (g : Group). g) groups (took ∷ []) ∙ ap (λ z. all_in groups ++ z) (append-nil took)
+all_with : (groups : List Group) (took : Group) → all_in (groups ++ took ∷ []) ≡ all_in groups ++ took
+all_with groups took = flat_map-append (λ (g : Group). g) groups (took ∷ []) ∙ ap (λ z. all_in groups ++ z) (append-nil took)
+
+pub many_with : (groups : List Group) (took : Group) → length (groups ++ took ∷ []) ≡ suc (length groups)
+many_with groups took = length-append groups (took ∷ []) ∙ (let e : length groups + 1 ≡ suc (length groups) = omega arith in e)
 
 to-front : (k : ℕ) (groups : List Group) (took : Group) → k < length groups → taken_to (suc k) (groups ++ took ∷ []) ≡ taken_to (suc k) groups
 to-front k groups took low = ap all_in (take-front (suc k) groups (took ∷ []) (omega (arith, low)))
 
 to-all : (groups : List Group) (took : Group) → taken_to (suc (length groups)) (groups ++ took ∷ []) ≡ all_in groups ++ took
-to-all groups took = ap all_in (take-all groups took) ∙ all-push groups took
+to-all groups took = ap (λ n. taken_to n (groups ++ took ∷ [])) (sym (many_with groups took)) ∙ ap all_in (take-all (groups ++ took ∷ [])) ∙ all_with groups took
 
--- a call that gives nothing of the channel, and after which what was shown still is
+-- ---- one channel
+
+-- a call that gives nothing of the channel
 pub taken_stays : (shows now : Cut → Type 0) → ((cut : Cut) → shows cut → now cut) → (lines : List (List ℕ)) (s : ℕ) (groups : List Group) (took : Group) (waits : Bool) →
     TakenOn shows lines s groups took waits → TakenOn now lines s groups took waits
 taken_stays shows now keeps lines s groups took waits t = record {
@@ -52,7 +64,8 @@ module _ (shows : Cut → Type 0) (s : ℕ) where
   taken_begins = record { lines_are = refl; cuts = λ k low. absurd (omega (arith, low)); behind = λ w. absurd (true≢false (sym w)) }
 
   -- a line of this channel is taken
-  pub line_is_taken : (lines : List (List ℕ)) (r : List ℕ) (groups : List Group) (took : Group) → TakenOn shows lines s groups took false → TakenOn shows (lines ++ r ∷ []) s groups (took ++ (s, r) ∷ []) false
+  pub line_is_taken : (lines : List (List ℕ)) (r : List ℕ) (groups : List Group) (took : Group) →
+      TakenOn shows lines s groups took false → TakenOn shows (lines ++ r ∷ []) s groups (took ++ (s, r) ∷ []) false
   line_is_taken lines r groups took t = record {
     lines_are = ap (λ z. z ++ r ∷ []) t.lines_are ∙ ap (λ z. of_sender s (all_in groups ++ took) ++ z) (sym (of_here s r)) ∙ sym (one_more s s r groups took);
     cuts = t.cuts;
@@ -68,28 +81,49 @@ module _ (shows : Cut → Type 0) (s : ℕ) where
     behind = t.behind;
   }
 
-  -- the barrier of the next checkpoint is given in line
-  pub barrier_is_given : (lines : List (List ℕ)) (groups : List Group) (took : Group) → shows (InLine (suc (length groups)) lines) → TakenOn shows lines s groups took false → TakenOn shows lines s groups took true
-  barrier_is_given lines groups took shown t = record { lines_are = t.lines_are; cuts = t.cuts; behind = λ w. shown }
+  -- the barrier of the next checkpoint is given
+  pub barrier_is_given : (lines : List (List ℕ)) (groups : List Group) (took : Group) (waits : Bool) → shows (InLine (suc (length groups)) lines) →
+      TakenOn shows lines s groups took waits → TakenOn shows lines s groups took true
+  barrier_is_given lines groups took waits cut t = record { lines_are = t.lines_are; cuts = t.cuts; behind = λ w. cut }
 
-  -- the snapshot is taken where the channel waits
+  -- the task snapshots, where the channel waits behind the barrier
   pub snapshot_is_taken : (lines : List (List ℕ)) (groups : List Group) (took : Group) → TakenOn shows lines s groups took true → TakenOn shows lines s (groups ++ took ∷ []) [] false
   snapshot_is_taken lines groups took t = record {
-    lines_are = t.lines_are ∙ ap (of_sender s) (sym (append-nil (all_in (groups ++ took ∷ [])) ∙ all-push groups took));
-    cuts = each;
+    lines_are = t.lines_are ∙ ap (of_sender s) (sym (append-nil (all_in (groups ++ took ∷ [])) ∙ all_with groups took));
+    cuts = λ k low. dite (ℕ_discrete k (length groups))
+        (λ is. subst (λ n. shows (InLine (suc n) (of_sender s (taken_to (suc n) (groups ++ took ∷ []))))) (sym is)
+        (subst (λ ls. shows (InLine (suc (length groups)) ls)) (t.lines_are ∙ ap (of_sender s) (sym (to-all groups took))) (t.behind refl)))
+        (λ isnt. let less : k < length groups = (let many = many_with groups took in omega (arith, low, many, isnt)) in
+        subst (λ g. shows (InLine (suc k) (of_sender s g))) (sym (to-front k groups took less)) (t.cuts k less));
     behind = λ w. absurd (true≢false (sym w));
   }
-    where
-      at_last : shows (InLine (suc (length groups)) (of_sender s (taken_to (suc (length groups)) (groups ++ took ∷ []))))
-      at_last = subst (λ ls. shows (InLine (suc (length groups)) ls)) (t.lines_are ∙ ap (of_sender s) (sym (to-all groups took))) (t.behind refl)
 
-      each : (k : ℕ) → k < length (groups ++ took ∷ []) → shows (InLine (suc k) (of_sender s (taken_to (suc k) (groups ++ took ∷ []))))
-      each k low =
-          elim (ltb k (length groups)) as (λ b. ltb k (length groups) ≡ b → shows (InLine (suc k) (of_sender s (taken_to (suc k) (groups ++ took ∷ []))))) [
-            | true ↦ λ is.
-                let less = ltb-true k (length groups) is in
-                subst (λ g. shows (InLine (suc k) (of_sender s g))) (sym (to-front k groups took less)) (t.cuts k less)
-            | false ↦ λ is.
-                let equal : length groups ≡ k = omega (arith, low, length-append groups (took ∷ []), ltb-false k (length groups) is) in
-                subst (λ j. shows (InLine (suc j) (of_sender s (taken_to (suc j) (groups ++ took ∷ []))))) equal at_last
-          ] refl
+  -- where it was not sent, the channel is told to wait behind its barrier still
+  pub snapshot_is_unsent : (lines : List (List ℕ)) (groups : List Group) (took : Group) (waits : Bool) → TakenOn shows lines s (groups ++ took ∷ []) [] waits → TakenOn shows lines s groups took true
+  snapshot_is_unsent lines groups took waits t =
+      let are : lines ≡ of_sender s (all_in groups ++ took) = t.lines_are ∙ ap (of_sender s) (append-nil (all_in (groups ++ took ∷ [])) ∙ all_with groups took) in
+      record {
+        lines_are = are;
+        cuts = λ k low. subst (λ g. shows (InLine (suc k) (of_sender s g))) (to-front k groups took low) (t.cuts k (let many = many_with groups took in omega (arith, low, many)));
+        behind = λ w. subst (λ ls. shows (InLine (suc (length groups)) ls)) (ap (of_sender s) (to-all groups took) ∙ sym are) (t.cuts (length groups) (let many = many_with groups took in omega (arith, many)));
+      }
+
+-- ---- chapters
+
+taken_of : (k : ℕ) (chapters : List Chapter) → taken_to k (map (λ (c : Chapter). c.took) chapters) ≡ took_before k chapters
+taken_of zero chapters = refl
+taken_of (suc k) [] = refl
+taken_of (suc k) (c ∷ chapters) = ap (λ l. c.took ++ l) (taken_of k chapters)
+
+-- where the first groups are what chapters took, what was taken up to a snapshot is what they took before it
+pub taken_in_chapters : (k : ℕ) (groups more : List Group) (chapters : List Chapter) → groups ≡ map (λ (c : Chapter). c.took) chapters ++ more → k ≤ length chapters → taken_to k groups ≡ took_before k chapters
+taken_in_chapters k groups more chapters are low =
+    ap (taken_to k) are
+    ∙ ap all_in (take-front k (map (λ (c : Chapter). c.took) chapters) more (let many = length-map chapters (λ (c : Chapter). c.took) in omega (arith, many, low)))
+    ∙ taken_of k chapters
+
+pub many_chapters : (groups more : List Group) (chapters : List Chapter) → groups ≡ map (λ (c : Chapter). c.took) chapters ++ more → (k : ℕ) → k < length chapters → k < length groups
+many_chapters groups more chapters are k low =
+    let many = ap length are ∙ length-append (map (λ (c : Chapter). c.took) chapters) more in
+    let each = length-map chapters (λ (c : Chapter). c.took) in
+    omega (arith, many, each, low)

@@ -1,4 +1,3 @@
 pub mod InStep
-pub mod Groups
 pub mod Takings
 pub mod Examples

@@ -14,9 +14,10 @@ use Rattle.checkpoint_laws.specs.Runs.{took_before}
 use Rattle.channel_cut.specs.Cuts.{Cut, InLine}
 use Rattle.gate_account.specs.Accounts.{Account, IsNew, Keeps, GaveNothing, GaveOf, IsNext, CutsInLine, GaveBarrier, ResumedAll}
 use Rattle.gate_account.specs.Aligning.{gave_at, weight, IsInStepWhere, IsInStep}
-use Rattle.gate_account.specs.Taking.{taken_to, AreApart, TakenOn, HasTaken, IsTaking, IsAtSnapshot}
+use Rattle.channel_cut.specs.Takings.{taken_to, TakenOn}
+use Rattle.gate_account.specs.Taking.{AreApart, HasTaken, IsTaking, IsAtSnapshot}
 use Rattle.gate_account.proofs.InStep.{weight_none, none_any, none_are, new_are_in_step, nothing_is_in_step, line_is_in_step, next_is_in_turn, block_is_in_step, close_is_in_step, all_resumed_is_in_step, each_gave, going, closing, next_going, next_closing}
-use Rattle.gate_account.proofs.Groups.{Group, many_with, taken_stays, taken_begins, line_is_taken, other_is_taken, barrier_is_given, snapshot_is_taken, snapshot_is_unsent, taken_in_chapters, many_chapters}
+use Rattle.channel_cut.proofs.Taking.{Group, many_with, taken_stays, taken_begins, line_is_taken, other_is_taken, barrier_is_given, snapshot_is_taken, snapshot_is_unsent, taken_in_chapters, many_chapters}
 
 -- ---- what a gate shows
 

@@ -1,31 +1,15 @@
 -- What a task took from its gate, parted by its snapshots. As in Flink a task snapshots where all its channels have given the barrier of a
 -- checkpoint, which cuts each of them in line. That what it took is told channel by channel is this project's own choice.
-use Rattle.std.specs.Prelude.{◌≡◌, ◌≢◌, ℕ, suc, ◌<◌, Bool, true, false, List, [], ◌++◌, length, take, flat_map}
-use Rattle.plain_machine.specs.Histories.{of_sender}
+use Rattle.std.specs.Prelude.{◌≡◌, ◌≢◌, ℕ, ◌<◌, Bool, true, false, List, [], length}
 use Rattle.barriers.specs.Alignments.{Alignment, is_open}
-use Rattle.channel_cut.specs.Cuts.{Cut, InLine}
+use Rattle.channel_cut.specs.Cuts.{Cut}
+use Rattle.channel_cut.specs.Takings.{TakenOn}
 use Rattle.gate_account.specs.Accounts.{Account}
 use Rattle.gate_account.specs.Aligning.{gave_at, IsInStepWhere, IsInStep}
-
--- What stands in these groups of records, one behind the other;
-abbrev pub all_in : List (List (ℕ × List ℕ)) → List (ℕ × List ℕ)
-all_in groups = flat_map (λ (group : List (ℕ × List ℕ)). group) groups
-
--- and in the first k of them.
-abbrev pub taken_to : ℕ → List (List (ℕ × List ℕ)) → List (ℕ × List ℕ)
-taken_to k groups = all_in (take k groups)
 
 -- Each channel of the gate has a sender of its own.
 abbrev pub AreApart : ℕ → (ℕ → ℕ) → Type 0
 AreApart channels sender = (c d : ℕ) → c < channels → d < channels → c ≢ d → sender c ≢ sender d
-
--- A gate that shows these cuts of a channel has given these lines of it. The task took them from sender s: up to its snapshots these groups,
--- at each of which the barrier cut the channel in line, and behind the last one these records. The channel may wait behind the barrier of the
--- next checkpoint.
-pub record TakenOn (shows : Cut → Type 0) (lines : List (List ℕ)) (s : ℕ) (groups : List (List (ℕ × List ℕ))) (took : List (ℕ × List ℕ)) (waits : Bool) : Type 0 where
-  pub lines_are : lines ≡ of_sender s (all_in groups ++ took)
-  pub cuts : (k : ℕ) → k < length groups → shows (InLine (suc k) (of_sender s (taken_to (suc k) groups)))
-  pub behind : waits ≡ true → shows (InLine (suc (length groups)) lines)
 
 -- The task has taken these groups and these records of the channels of the gate, some of which wait.
 abbrev pub HasTaken : Account → (ℕ → Cut → Type 0) → (ℕ → ℕ) → List (List (ℕ × List ℕ)) → List (ℕ × List ℕ) → (ℕ → Bool) → Type 0

@@ -65,6 +65,7 @@ fn drop_last(
     requires { AreNewTasks cells.now passes.old.items }
     ensures { AreNewTasks cells.now passes.new.items }
 {
+    // Only the clauses speak of them.
     let _cells = cells;
     for _pass in 0..count {
         let Some(dropped) = passes.pop() else { return };

@@ -167,6 +167,7 @@ fn leave_poll<E: Named<ReceiveEntry>>(turn: Turn<InputChannel>, polled: &Polled)
     ensures pass { IsPassOf turn.entry.cell.now turn.exit.1.0.now }
     ensures entered { HasEntered (entries.Poll false (gave_of polled.now)) turn.entry.pass.now turn.exit.1.0.now }
 {
+    // Only the clauses speak of it.
     let _polled = polled;
     turn.leave::<E>();
 }

@@ -278,6 +278,7 @@ fn keeps<R: Wait + Abort>(
     resumptions: u32,
 ) -> bool {
     let mut ends = open(rt, alloc);
+    // What these calls answer is of no concern here.
     for step in steps {
         let _taken = takes(rt, &mut ends, *step);
     }

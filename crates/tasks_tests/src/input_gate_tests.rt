@@ -424,6 +424,7 @@ fn next_while_stopped<R: Wait>(
     ensures within { channel < (account_in gate.new).channels }
     ensures stopped { stops_in ((account_in gate.new).told channel) ≡ suc ((account_in gate.new).resumed channel) }
 {
+    // Only the clauses speak of it.
     let _channel = channel;
     gate.next(rt, false)
 }
@@ -492,6 +493,7 @@ fn walk<R: Wait + Abort>(
         bench = go_on(rt, bench);
     }
     let bench = take_steps(rt, bench, more);
+    // The gate ends here, and its passes are let go.
     let _passes = bench.gate.into_passes();
 }
 

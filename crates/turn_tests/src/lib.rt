@@ -12,6 +12,7 @@ mod sum;
 #[cfg(test)]
 mod tests;
 mod threads;
+mod waking;
 
 pub use crowd::add_in_crowd;
 pub use held::{Held, add_step, add_two_steps};
@@ -20,3 +21,4 @@ pub use looking::{look_alone, looks_tell, rest_alone};
 pub use overlap::{Never, Quiet, turns_overlap};
 pub use sum::{Added, Sum, add_one, end};
 pub use threads::{add_by_four, add_by_one, add_by_two};
+pub use waking::sleep_and_wake;

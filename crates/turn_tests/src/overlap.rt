@@ -27,7 +27,8 @@ impl Turned for Quiet {
     ghost fixed = { λ _. tt };
 }
 
-fn is_raised(flag: &AtomicU64) -> bool {
+/// Whether a flag is raised before it was looked at a hundred million times.
+pub fn is_raised(flag: &AtomicU64) -> bool {
     for _look in 0..100_000_000 {
         if flag.load(Ordering::SeqCst) == 1 {
             return true;

@@ -1,5 +1,8 @@
 // What runs in threads ends, and finds what the clauses say.
-use crate::{add_by_four, add_by_two, looks_tell, turns_overlap, write_and_meet, write_and_read};
+use crate::{
+    add_by_four, add_by_two, looks_tell, sleep_and_wake, turns_overlap, write_and_meet,
+    write_and_read,
+};
 use std::test::Fail;
 
 #[test]
@@ -41,5 +44,12 @@ fn two_cells_overlap(rt: HostRuntime) -> Result<(), Fail> {
 fn a_look_tells_whether_there_is_news(rt: HostRuntime) -> Result<(), Fail> {
     let told = looks_tell(&rt, rt.alloc()).ok_or("no memory")?;
     assert!(rt; told);
+    Ok(())
+}
+
+#[test]
+fn a_sleeper_is_woken(rt: HostRuntime) -> Result<(), Fail> {
+    let woken = sleep_and_wake(&rt, rt.alloc()).ok_or("no memory")?;
+    assert!(rt; woken);
     Ok(())
 }

@@ -1,10 +1,10 @@
 // The two ends of a channel.
 ghost use Rattle.std.specs.Prelude.{◌≡◌, ◌<◌, ◌≤◌, ◌^◌, [], IfSome};
-ghost use Rattle.benches.specs.Ids.{ids};
 ghost use Rattle.segment_pool.specs.Pools.{IsPassOf, limits_of, size_of};
 
 use crate::pools;
 use crate::pools::small_pool;
+use conn_harness::ids_of;
 use credit_reader::laws::{happenings_change_one, readers_are_in_order};
 use credit_reader::{CREDIT_MAX, Readers, SentKind};
 use flow_defs::{BarrierKind, ChannelId, Head};
@@ -56,24 +56,6 @@ fn queue<R: Wait>(rt: &R, alloc: Global, items: u32, times: u64) -> Option<u64> 
     Some(sum)
 }
 
-// The ids of so many channels.
-#[tactic(auto, using(crate::proofs::Ids::ids_more))]
-fn ids_of(alloc: Global, channels: u32) -> Option<Vec<ChannelId>>
-    ensures { IfSome result (λ v. v.items ≡ ids channels) }
-{
-    let mut found = Vec::new(alloc);
-    for from in 0..channels {
-        found
-            .push(ChannelId {
-                edge: 0,
-                from,
-                to: 0,
-            })
-            .ok()?;
-    }
-    Some(found)
-}
-
 // Requests a channel on which an event stands first, unless that is refused.
 fn admit(readers: &mut Readers, id: ChannelId) -> bool {
     happenings_change_one();
@@ -86,9 +68,11 @@ fn admit(readers: &mut Readers, id: ChannelId) -> bool {
 
 // Lets the first of so many readers send, so many times. Returns the sum of the sequence numbers.
 fn readers(alloc: Global, channels: u32, times: u64) -> Option<u64> {
-    let ids = ids_of(alloc, channels)?;
-    let mut readers = Readers::new(alloc, &ids).ok()?;
-    for id in &ids {
+    let Ok(ids) = ids_of(alloc, channels) else {
+        return None;
+    };
+    let mut readers = Readers::new(alloc, ids.as_slice()).ok()?;
+    for id in ids.as_slice() {
         if !admit(&mut readers, *id) {
             return None;
         }

@@ -1,5 +1,5 @@
 mod Channels
 mod GroupLaws
-mod IdLaws
+pub mod IdLaws
 mod InletLaws
 mod TaskLaws

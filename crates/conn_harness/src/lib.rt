@@ -18,6 +18,7 @@ mod source;
 mod workers;
 
 pub use connection::{Carried, Plan, carry, open_pool};
+pub use ids::ids_of;
 pub use pools::CHANNELS_MAX;
 pub use sink::Counted;
 pub use source::Work;

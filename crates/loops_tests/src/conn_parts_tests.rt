@@ -1,56 +1,19 @@
 // Bytes that are written and read back over a link in memory, and segments that are asked for and given.
-ghost use Rattle.std.specs.Prelude.{◌≡◌, ◌<◌, ◌≤◌, ⊤, length, take, Some, false, refl};
+ghost use Rattle.std.specs.Prelude.{◌≡◌, ◌<◌, length, false};
 ghost use Rattle.conn_parts.specs.Shares.{AreOf, HavePoolSize};
 
-use crate::slow_links::SlowOut;
+use crate::slow_links::{SlowIn, SlowOut};
 use conn_parts::{Incoming, Outgoing, close_link, drain, give_segment, place_of, request_segment};
 use fixtures::{list_of_two, open_local, open_pool_for_two};
 use flow_defs::{ChannelId, ListOf};
 use local_pool::HeldPool;
 use net_frames::{ArrivalKind2, Frame, FrameFault, decode};
-use outside::{Failed, LinkIn};
+use outside::Failed;
 use std::alloc::Global;
 use std::process::Abort;
 use std::sync::Wait;
 use std::test::Fail;
 use turn_cell::{Pass, TurnCell};
-
-// A link of these bytes that gives at most `most` in a read.
-#[derive(Drop)]
-struct SlowIn {
-    bytes: Vec<u8>,
-    at: usize,
-    most: usize,
-    ended: bool,
-    ghost within: { at ≤ length bytes.items },
-}
-
-impl LinkIn for SlowIn {
-    type Line = u64;
-
-    ghost line = { λ _. 0 };
-
-    ghost got = { λ s. Some (take s.at s.bytes.items) };
-
-    ghost ended = { λ s. Some s.ended };
-
-    ghost faults = { λ _. 0 };
-
-    ghost never_fails = { λ _. ⊤ };
-
-    ghost is_faultless = { λ old new never same. refl };
-
-    fn read<R: Wait>(&mut self, _rt: &R, room: &mut [u8]) -> Result<usize, Failed> {
-        let left = &self.bytes.as_slice()[self.at..];
-        let count = left.len().min(room.len()).min(self.most);
-        room[..count].copy_from_slice(&left[..count]);
-        self.at += count;
-        if count == 0 {
-            self.ended = true;
-        }
-        Ok(count)
-    }
-}
 
 const CHANNEL: ChannelId = ChannelId {
     edge: 3,
@@ -129,12 +92,7 @@ fn what_is_written_is_read_again(rt: HostRuntime) -> Result<(), Fail> {
         send(&rt, rt.alloc(), &mut out)?;
         assert!(rt; out.finished);
         let SlowOut { bytes, .. } = out;
-        let mut input = SlowIn {
-            bytes,
-            at: 0,
-            most,
-            ended: false,
-        };
+        let mut input = SlowIn::new(bytes, most);
         assert_eq!(rt; receive(&rt, rt.alloc(), &mut input)?, MANY);
         assert!(rt; input.ended);
     }
@@ -166,12 +124,7 @@ fn a_link_is_finished_though_a_write_failed(rt: HostRuntime) -> Result<(), Fail>
 
 #[test]
 fn the_rest_is_dropped(rt: HostRuntime) -> Result<(), Fail> {
-    let mut input = SlowIn {
-        bytes: vec![in rt.alloc(); 5; 10_000]?,
-        at: 0,
-        most: 4_000,
-        ended: false,
-    };
+    let mut input = SlowIn::new(vec![in rt.alloc(); 5; 10_000]?, 4_000);
     drain(&rt, &mut input);
     assert!(rt; input.ended);
     assert_eq!(rt; input.at, 10_000);

@@ -53,15 +53,7 @@ fn link(alloc: Global, frames: &[Numbered], end: &[u8]) -> Result<SlowIn, AllocE
         lay(&mut bytes, *frame)?;
     }
     bytes.extend_from_slice(end)?;
-    Ok(SlowIn {
-        bytes,
-        at: 0,
-        most: 20,
-        fails_from: u64::MAX,
-        reads: 0,
-        faults: 0,
-        ended: false,
-    })
+    Ok(SlowIn::new(bytes, 20))
 }
 
 // The one channel of the connection.

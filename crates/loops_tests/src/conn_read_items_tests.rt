@@ -86,15 +86,7 @@ fn link(alloc: Global, responses: &[Response], end: &[u8]) -> Result<SlowIn, All
         lay(&mut bytes, response)?;
     }
     bytes.extend_from_slice(end)?;
-    Ok(SlowIn {
-        bytes,
-        at: 0,
-        most: 100,
-        fails_from: u64::MAX,
-        reads: 0,
-        faults: 0,
-        ended: false,
-    })
+    Ok(SlowIn::new(bytes, 100))
 }
 
 // An input channel in a cell, with the passes of the gate, of the reader of frames and of the writer of

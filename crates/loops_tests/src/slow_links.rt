@@ -19,6 +19,21 @@ pub struct SlowIn {
     pub ghost within: { at ≤ length bytes.items },
 }
 
+impl SlowIn {
+    /// A link of these bytes that never fails.
+    pub fn new(bytes: Vec<u8>, most: usize) -> Self {
+        SlowIn {
+            bytes,
+            at: 0,
+            most,
+            fails_from: u64::MAX,
+            reads: 0,
+            faults: 0,
+            ended: false,
+        }
+    }
+}
+
 impl LinkIn for SlowIn {
     type Line = u64;
 

@@ -59,11 +59,47 @@ fn cut_images_are_told_at_the_cut_field(rt: HostRuntime) -> Result<(), Fail> {
     Ok(())
 }
 
+// Its bytes up to the key, and from the value to the bytes of the record in flight that came in.
+const ONE_ROW: &[u8] = b"\0\0\0\0\0\0\0\0\0\0\0\0\0\0\0\0\0\0\0\0\x01";
+
+const VALUE: &[u8] = b"\0\0\0\0\0\0\0\x01\0\0\0\0\0\0\0\x04";
+
+// Its bytes with a key of so many bytes, and a record of so many in flight.
+fn bytes_of(alloc: Global, key: u32, record: u32) -> Result<Vec<u8>, Fail> {
+    let mut bytes = Vec::from_slice(alloc, HEAD)?;
+    bytes.extend_from_slice(ONE_ROW)?;
+    bytes.extend_from_slice(&key.to_be_bytes())?;
+    bytes.extend_from_slice(&vec![in alloc; b'k'; key as usize]?)?;
+    bytes.extend_from_slice(VALUE)?;
+    for _twice in 0..2 {
+        bytes.extend_from_slice(&record.to_be_bytes())?;
+    }
+    bytes.extend_from_slice(&vec![in alloc; b'r'; record as usize]?)?;
+    bytes.extend_from_slice(b"IWLF")?;
+    Ok(bytes)
+}
+
+#[test]
+fn a_longer_key_or_record_is_told(rt: HostRuntime) -> Result<(), Fail> {
+    for (key, record, place) in [
+        (1_048_576, 1, None),
+        (1_048_577, 1, Some(67)),
+        (1, 1_048_576, None),
+        (1, 1_048_577, Some(92)),
+    ] {
+        let bytes = bytes_of(rt.alloc(), key, record)?;
+        assert_eq!(rt; fault_of(rt.alloc(), &bytes)?, place);
+    }
+    Ok(())
+}
+
 #[test]
 fn what_is_read_is_written_again(rt: HostRuntime) -> Result<(), Fail> {
-    let bytes = bytes_with(rt.alloc(), 0, b"\0\0\0\x01aIWLF")?;
-    let image = read_image(rt.alloc(), &bytes)?;
-    let again = write_image(rt.alloc(), &image)?;
-    assert_eq!(rt; again.as_slice(), bytes.as_slice());
+    for (key, record) in [(1, 1), (1_048_576, 1), (1, 1_048_576)] {
+        let bytes = bytes_of(rt.alloc(), key, record)?;
+        let image = read_image(rt.alloc(), &bytes)?;
+        let again = write_image(rt.alloc(), &image)?;
+        assert!(rt; again.as_slice() == bytes.as_slice());
+    }
     Ok(())
 }

@@ -1,6 +1,7 @@
 pub mod Receiving
 pub mod Cutting
 pub mod Reading
+pub mod Polling
 pub mod Closing
 pub mod Taking
 pub mod Working

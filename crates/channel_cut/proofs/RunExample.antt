@@ -5,6 +5,7 @@ use Rattle.std.specs.Prelude.{All, Contains, codes, slice_index}
 use Rattle.std.specs.FinMap.{empty, entries, len-entries, len-empty}
 use Rattle.std.proofs.lemmas.List.Elements.{All-from_recursion}
 use Rattle.turn_cell.specs.History.{by, IsHistory, entries_of}
+use Rattle.turn_cell.proofs.Histories.{history_nil, history_more}
 use Rattle.flow_defs.specs.Items.{Items}
 use Rattle.flow_defs.specs.declared.parcel.Parcel.TheVariants.{Data, Barrier, End}
 use Rattle.flow_defs.specs.declared.task.BarrierKind.TheVariants.{Inline}
@@ -31,7 +32,6 @@ use Rattle.checkpoint_laws.proofs.Told.{ends}
 use Rattle.subpartition.specs.declared.entry.SendEntry.{SendEntry}
 use Rattle.subpartition.specs.declared.entry.SendEntry.TheVariants.{Put, PutInline, Finish, Take}
 use Rattle.subpartition.specs.Sending.{MaySendAs, parcels_put}
-use Rattle.subpartition.proofs.Growing.{history_nil, history_more}
 use Rattle.input_channel.specs.declared.entry.Gave.TheVariants.{Exclusive, NoBuffer}
 use Rattle.input_channel.specs.declared.entry.ReceiveEntry.{ReceiveEntry}
 use Rattle.input_channel.specs.declared.entry.ReceiveEntry.TheVariants.{Push, Poll}

@@ -1,14 +1,18 @@
 -- One channel of a gate: what it has given of the flight and of what its polls gave, and how it was cut. What a gate keeps of a channel is
 -- this project's own choice.
-use Rattle.std.specs.Prelude.{◌≡◌, ◌⊎◌, ℕ, ◌-◌, Bool, List, [], ◌∷◌, ◌++◌, length, take, None}
+use Rattle.std.specs.Prelude.{◌≡◌, ◌⊎◌, ℕ, suc, ◌-◌, Bool, List, [], ◌∷◌, ◌++◌, length, take, None}
 use Rattle.std.specs.List.{AllByRecursion}
+use Rattle.turn_cell.specs.History.{IsHistory}
 use Rattle.flow_defs.specs.declared.parcel.Parcel.{Parcel}
-use Rattle.flow_defs.specs.Parcels.{data_of}
+use Rattle.flow_defs.specs.declared.parcel.Parcel.TheVariants.{Barrier}
+use Rattle.flow_defs.specs.declared.task.BarrierKind.TheVariants.{Inline}
+use Rattle.flow_defs.specs.Parcels.{data_of, barriers_of}
 use Rattle.flow_defs.specs.Records.{encoded, all_encoded, first_record, spans, IsShort}
 use Rattle.input_channel.specs.declared.entry.Gave.{Gave}
 use Rattle.input_channel.specs.declared.entry.ReceiveEntry.{ReceiveEntry}
 use Rattle.input_channel.specs.declared.entry.ReceiveEntry.TheVariants.{Poll}
 use Rattle.input_channel.specs.Inboxes.{inbox}
+use Rattle.input_channel.specs.Legal.{MayReceive}
 use Rattle.channel_cut.specs.Cuts.{polled_bytes, GaveInLine, IsRead, InLine, Shows}
 
 -- ---- the lines
@@ -69,3 +73,11 @@ abbrev pub InLineCuts : Type 0
 InLineCuts =
     (flight : List ℕ) (es : List ReceiveEntry) (hold : Bool) (gave : Gave) (k : ℕ) (lines : List (List ℕ)) (left : List ℕ) →
     GaveInLine es hold k → IsRead flight es lines left → first_record left ≡ None → Shows flight (es ++ Poll hold gave ∷ []) (InLine k lines)
+
+-- So it does where a poll of a legal history gives the next barrier in line.
+abbrev pub PollCuts : Type 0
+PollCuts =
+    (room : ℕ) (flight : List ℕ) (es : List ReceiveEntry) (hold : Bool) (gave : Gave) (k : ℕ) (lines : List (List ℕ)) (left : List ℕ) →
+    IsHistory (MayReceive room) es → k ≡ suc (length (barriers_of (inbox es).given)) →
+    (inbox (es ++ Poll hold gave ∷ [])).given ≡ (inbox es).given ++ Barrier k Inline ∷ [] →
+    IsRead flight es lines left → first_record left ≡ None → Shows flight (es ++ Poll hold gave ∷ []) (InLine k lines)

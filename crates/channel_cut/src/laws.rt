@@ -1,6 +1,6 @@
 //! The laws of a channel that barriers cut. Each function does nothing; what it ensures is the law.
 ghost use Rattle.channel_cut.specs.Cuts.{InLineHasAllBefore, CutsStay, CutOfChannel};
-ghost use Rattle.channel_cut.specs.Lanes.{ReadBegins, PolledIsLeft, LineIsGiven, LinesAreTold, PartsAreRead, InLineCuts};
+ghost use Rattle.channel_cut.specs.Lanes.{ReadBegins, PolledIsLeft, LineIsGiven, LinesAreTold, PartsAreRead, InLineCuts, PollCuts};
 ghost use Rattle.channel_cut.specs.Ends.{SettledAreEnds, EndsAreCut};
 ghost use Rattle.channel_cut.specs.Works.{WorkedIsDid};
 ghost use Rattle.channel_cut.specs.Runs.{NumbersGoOn, StartIsFrom, RanIsTold, RanIsChain, RanEndsInWorth, RanEndsInTally};
@@ -26,7 +26,11 @@ pub fn lanes_are_cut()
     ensures lines { LinesAreTold }
     ensures parts { PartsAreRead }
     ensures cut { InLineCuts }
-{}
+    ensures poll { PollCuts }
+{
+    receiving::histories_keep_order();
+    receiving::legal_histories_agree();
+}
 
 /// Two cells that were closed are the ends of a channel, which is cut by what the passes of its two tasks tell.
 pub fn ends_are_cut()

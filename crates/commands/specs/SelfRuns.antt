@@ -32,6 +32,10 @@ HasFunctions functions = HasStage functions Words × HasAgg functions Count
 abbrev pub made_lines : ℕ → ℕ → ℕ → List (List ℕ)
 made_lines many seed = λ a. lines (generated seed many)
 
+-- It takes a checkpoint behind each so many lines.
+abbrev pub self_every : ℕ
+self_every = 100000
+
 -- ---- what is printed
 
 -- How many records a table has counted, modulo 2^64.
@@ -48,21 +52,21 @@ summary_of many records keys images =
     number_line (codes "lines ") many ++ number_line (codes "records ") records
     ++ number_line (codes "keys ") keys ++ number_line (codes "images ") images
 
--- What that is for so many lines of two words each and the table of these: an image is stored behind each 100,000 lines, one more where all
+-- What that is for so many lines of two words each and the table of these: an image is stored behind each `self_every` lines, one more where all
 -- are read, and the last one. The number of records is printed modulo 2^64.
 abbrev pub numbers_of : ℕ → Values → List ℕ
-numbers_of many table = summary_of many (2 * many % 2 ^ 64) (length (entries table)) (2 + many / 100000)
+numbers_of many table = summary_of many (2 * many % 2 ^ 64) (length (entries table)) (2 + many / self_every)
 
 -- ---- what is run
 
--- The job is run over so many lines of a seed to its end, with a checkpoint every 100,000 lines: a keeper that held nothing got a chain of
+-- The job is run over so many lines of a seed to its end, with a checkpoint behind each `self_every`: a keeper that held nothing got a chain of
 -- images from the start on, with nothing in flight, and the last of them is marked so and has this table.
 pub record SelfRan (functions : Functions) (many seed : ℕ) : Type 0 where
   pub job : Job
   pub is_job : IsJobText functions self_text job
   pub kept : List KeptImage
   pub table : Values
-  pub ends : EndsIn job (made_lines many seed) (Some 100000) (Some []) (Some kept) table
+  pub ends : EndsIn job (made_lines many seed) (Some self_every) (Some []) (Some kept) table
 
 -- There is such a run, and P holds of the text that tells its numbers.
 abbrev pub HasRunOver : Functions → ℕ → ℕ → (List ℕ → Type 0) → Type 0

@@ -20,7 +20,7 @@ const CREDIT_AT_OPENING: u32 = 2;
 fn is_frame(channel: ChannelId)
     ensures { IsFrame (PartitionRequest channel 2) [] }
 {
-    // Read so that its numbers are known to fit.
+    // Only the contract speaks of it.
     let _channel = channel;
 }
 

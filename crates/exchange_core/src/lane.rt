@@ -110,7 +110,7 @@ pub(crate) fn take_item<R: Wait>(
 fn are_bytes(bytes: &[u8])
     ensures { AreBytes bytes.now }
 {
-    // Read so that each is known to be below 256.
+    // Only the clause speaks of them.
     let _count = bytes.len();
 }
 

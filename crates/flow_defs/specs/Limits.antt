@@ -6,6 +6,14 @@ use Rattle.std.specs.Prelude.{ℕ}
 abbrev pub record_max : ℕ
 record_max = 1048576
 
+-- A token, as the name of a source's file or the prefix that a stage keeps, has at most so many bytes.
+abbrev pub token_max : ℕ
+token_max = 255
+
+-- A stage gives a field whose number is at most this. Fields are counted from 1.
+abbrev pub field_max : ℕ
+field_max = 9999
+
 -- A job has at most so many sources. It has at least one.
 abbrev pub sources_max : ℕ
 sources_max = 8

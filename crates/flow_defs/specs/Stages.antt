@@ -3,6 +3,7 @@ use Rattle.std.specs.Prelude.{◌≡◌, ℕ, ◌-◌, ◌≤◌, ◌==◌, ◌&
 use Rattle.std.specs.Option.{option_to_list}
 use Rattle.std.specs.List.{starts_with, slice_split}
 use Rattle.std.specs.Str.Parse.{digits_value}
+use Rattle.flow_defs.specs.Limits.{token_max, field_max}
 use Rattle.flow_defs.specs.declared.job.Stage.{Stage}
 use Rattle.flow_defs.specs.declared.job.StageKind.{StageKind}
 use Rattle.flow_defs.specs.declared.job.StageKind.TheVariants.{Words, Upper, Keep, Field}
@@ -27,10 +28,10 @@ given Field arg r = option_to_list (slice_get (pieces 44 r) (digits_value 10 arg
 unfoldable pub apply : Stage → List ℕ → List (List ℕ)
 apply stage r = given stage.kind stage.arg.items r
 
--- A token: from 1 to 255 bytes, each visible and of ASCII.
+-- A token: at least a byte and at most `token_max`, each visible and of ASCII.
 pub record IsToken (bytes : List ℕ) : Type 0 where
   pub not_empty : 1 ≤ length bytes
-  pub not_long : length bytes ≤ 255
+  pub not_long : length bytes ≤ token_max
   pub visible : All (λ b. (33 ≤ b) × (b ≤ 126)) bytes
 
 -- The bytes are a number in decimal, without a sign and without a zero before it, within these bounds.
@@ -42,4 +43,4 @@ abbrev pub IsArgument : StageKind → List ℕ → Type 0
 IsArgument Words arg = arg ≡ []
 IsArgument Upper arg = arg ≡ []
 IsArgument Keep arg = IsToken arg
-IsArgument Field arg = IsNumber 1 9999 arg
+IsArgument Field arg = IsNumber 1 field_max arg

@@ -223,6 +223,7 @@ impl<'a, 'p> CellGate<'a, 'p> {
         ensures first { IfOk result (λ gate. gate.first ≡ pool_pass.entry) }
         ensures refused { IfErr result (λ r. (r.passes.cells.items ≡ passes.items) × (r.passes.pool ≡ pool_pass.entry) × (r.passes.stop ≡ stop_pass)) }
     {
+        // A start has nothing in flight, as the contract says.
         let _flights = flights;
         let Ok(lanes) = Vec::with_capacity(alloc, cells.len()) else {
             let passes = GatePasses {

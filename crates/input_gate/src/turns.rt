@@ -33,6 +33,7 @@ fn leave_polled<E: Named<ReceiveEntry>>(turn: Turn<InputChannel>, hold: bool, po
     ensures pass { IsPassOf turn.entry.cell.now turn.exit.1.0.now }
     ensures entered { HasEntered (Poll hold (gave_of polled.now)) turn.entry.pass.now turn.exit.1.0.now }
 {
+    // Only the contract speaks of them.
     let _hold = hold;
     let _polled = polled;
     turn.leave::<E>();
@@ -47,6 +48,7 @@ fn leave_returned<E: Named<ReceiveEntry>>(turn: Turn<InputChannel>, exclusive: b
     ensures pass { IsPassOf turn.entry.cell.now turn.exit.1.0.now }
     ensures entered { HasEntered (Returned exclusive) turn.entry.pass.now turn.exit.1.0.now }
 {
+    // Only the contract speaks of it.
     let _exclusive = exclusive;
     turn.leave::<E>();
 }

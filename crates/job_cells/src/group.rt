@@ -24,6 +24,7 @@ fn deal<S: Turned>(cell: &TurnCell<S>, passes: &mut ListOf<Pass<S>>) -> Pass<S>
     ensures many { length passes.old.items ≡ length passes.new.items + 1 }
     ensures last { IsMade cell.now (length passes.new.items) result }
 {
+    // Only the contract speaks of it.
     let _cell = cell;
     passes.take_last()
 }

@@ -78,6 +78,7 @@ impl Lender {
         ensures want { slice_get self.old.wants.items self.old.given ≡ Some result.1 }
         ensures share { result.2 ≡ share_of self.old.wants.items (total_of pool.now) result.1 }
     {
+        // Only the contract speaks of it.
         let _pool = pool;
         let pass = self.passes.take_last();
         let want = self.wants.as_slice()[self.given];

@@ -96,6 +96,7 @@ impl<'p> Takers<'p> {
         ensures gate { IfOk result (IsGateBehind job.now e) }
         ensures cells { IfOk result (λ gate. AreGateCells job.now e (length self.new.own.items) edge.now (cells_in gate.lanes)) }
     {
+        // Only the contract speaks of it.
         let _job = job;
         let own = self.own.take_last();
         let pool_pass = self.pools.take_last();

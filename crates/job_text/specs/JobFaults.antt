@@ -7,7 +7,7 @@ use Rattle.std.specs.Str.{all_ascii_digits}
 use Rattle.std.specs.Str.Parse.{digits_value}
 use Rattle.flow_defs.specs.Lines.{lines}
 use Rattle.flow_defs.specs.Stages.{pieces}
-use Rattle.flow_defs.specs.Limits.{tasks_max, sources_max, stages_max}
+use Rattle.flow_defs.specs.Limits.{token_max, field_max, tasks_max, sources_max, stages_max}
 use Rattle.flow_defs.specs.declared.job.StageKind.{StageKind}
 use Rattle.flow_defs.specs.declared.job.StageKind.TheVariants.{Words, Upper, Keep, Field}
 use Rattle.flow_defs.specs.declared.job.AggKind.{AggKind}
@@ -20,9 +20,9 @@ use Rattle.job_text.specs.declared.fault.JobFault.TheVariants.{Missing, Extra, B
 
 -- ---- what a word may be
 
--- A token: from 1 to 255 bytes, each visible and of ASCII.
+-- A token: at least a byte and at most `token_max`, each visible and of ASCII.
 abbrev pub is_token : List ℕ → Bool
-is_token word = nat_le 1 (length word) && nat_le (length word) 255 && list_all (λ b. nat_le 33 b && nat_le b 126) word
+is_token word = nat_le 1 (length word) && nat_le (length word) token_max && list_all (λ b. nat_le 33 b && nat_le b 126) word
 
 -- The number that a word spells in decimal, where it is from 1 to the most: digits that do not begin
 -- with a zero, whose code is 48, without a sign.
@@ -41,7 +41,7 @@ stage_kind_of word =
     if bytes_eq word (codes "words") then Some (Words, [])
     else if bytes_eq word (codes "upper") then Some (Upper, [])
     else if bytes_eq (take 5 word) (codes "keep:") then (if is_token (drop 5 word) then Some (Keep, drop 5 word) else None)
-    else if bytes_eq (take 6 word) (codes "field:") then (if is_none (number_of 9999 (drop 6 word)) then None else Some (Field, drop 6 word))
+    else if bytes_eq (take 6 word) (codes "field:") then (if is_none (number_of field_max (drop 6 word)) then None else Some (Field, drop 6 word))
     else None
 
 -- The exchange that a word spells.

@@ -9,7 +9,7 @@ use Rattle.clap.specs.declared.parser.ArgMatches.{ArgMatches}
 use Rattle.job_text.specs.declared.words.RunOptions.{RunOptions}
 use Rattle.job_text.specs.declared.words.UsageKind.{UsageKind}
 use Rattle.flow_defs.specs.Limits.{segment_min, segment_max, segments_max}
-use Rattle.job_text.specs.Limits.{every_max}
+use Rattle.job_text.specs.Limits.{every_max, usual_segment, usual_pool}
 use Rattle.job_text.specs.JobFaults.{number_of}
 use Rattle.job_text.specs.Words.{number_within}
 
@@ -89,6 +89,6 @@ lines_values (lines ∷ seed ∷ words) = (codes "lines", lines) ∷ (codes "see
 abbrev pub options_by : (Text → Option Text) → RunOptions
 options_by value = record {
   every = option_and_then (number_of every_max) (value (codes "every"));
-  segment = unwrap_or (option_and_then (number_within segment_min segment_max) (value (codes "segment"))) 32768;
-  pool = unwrap_or (option_and_then (number_within 1 segments_max) (value (codes "pool"))) 2048;
+  segment = unwrap_or (option_and_then (number_within segment_min segment_max) (value (codes "segment"))) usual_segment;
+  pool = unwrap_or (option_and_then (number_within 1 segments_max) (value (codes "pool"))) usual_pool;
 }

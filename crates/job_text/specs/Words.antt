@@ -13,7 +13,7 @@ use Rattle.job_text.specs.declared.options.RunOption.{RunOption}
 use Rattle.job_text.specs.declared.options.RunOption.TheVariants.{Every, Mode, Segment, Pool, Links}
 use Rattle.job_text.specs.declared.options.Given.{Given}
 use Rattle.flow_defs.specs.Limits.{segment_min, segment_max, segments_max}
-use Rattle.job_text.specs.Limits.{every_max, lines_max}
+use Rattle.job_text.specs.Limits.{every_max, lines_max, usual_segment, usual_pool}
 use Rattle.job_text.specs.JobFaults.{number_of}
 
 -- Whether a word begins with `-`, as an option does.
@@ -81,9 +81,9 @@ given_from given [] = Ok given
 given_from given (word ∷ []) = and_then (option_behind given word) (λ option. Err MissingValue)
 given_from given (word ∷ value ∷ words) = and_then (option_behind given word) (λ option. and_then (ok_or (with_value given option value) BadValue) (λ more. given_from more words))
 
--- The options of a run: what was given, and else one checkpoint alone, the last, segments of 32,768 bytes and 2,048 of them in the pool.
+-- The options of a run: what was given, and else one checkpoint alone, the last, and the usual segments and pool.
 abbrev pub with_defaults : Given → RunOptions
-with_defaults given = record { every = given.every; segment = unwrap_or given.segment 32768; pool = unwrap_or given.pool 2048 }
+with_defaults given = record { every = given.every; segment = unwrap_or given.segment usual_segment; pool = unwrap_or given.pool usual_pool }
 
 -- The options of a run that these words behind its operand give, or their first fault.
 abbrev pub run_options : List (List ℕ) → Result RunOptions UsageKind

@@ -18,6 +18,7 @@ fn leave_wrote<E: Named<LinkEntry>>(turn: Turn<Ring>, bytes: &[u8])
     ensures pass { IsPassOf turn.entry.cell.now turn.exit.1.0.now }
     ensures entered { HasEntered (Wrote bytes.now) turn.entry.pass.now turn.exit.1.0.now }
 {
+    // Only the contract speaks of them.
     let _bytes = bytes;
     turn.leave::<E>();
 }
@@ -30,6 +31,7 @@ fn leave_read<E: Named<LinkEntry>>(turn: Turn<Ring>, bytes: &[u8])
     ensures pass { IsPassOf turn.entry.cell.now turn.exit.1.0.now }
     ensures entered { HasEntered (Read bytes.now) turn.entry.pass.now turn.exit.1.0.now }
 {
+    // Only the contract speaks of them.
     let _bytes = bytes;
     turn.leave::<E>();
 }

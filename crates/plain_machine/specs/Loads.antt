@@ -7,16 +7,20 @@ use Rattle.flow_defs.specs.Jobs.{last_edge, tasks}
 use Rattle.plain_machine.specs.Cuts.{Cut, start}
 use Rattle.plain_machine.specs.Worth.{load}
 
--- The keys of a table at the cut and the load of some edge from there on are together above 4,294,967,295.
+-- An image counts at most so many of each: 2^32 - 1.
+abbrev pub count_max : ℕ
+count_max = 4294967295
+
+-- The keys of a table at the cut and the load of some edge from there on are together above `count_max`.
 pub record IsOverloaded (job : Job) (lines : ℕ → List (List ℕ)) (cut : Cut) : Type 0 where
   pub table : ℕ
   pub is_table : table < tasks job (suc (last_edge job))
   pub edge : ℕ
   pub is_edge : edge ≤ last_edge job
-  pub over : 4294967295 < length (entries (cut.tables table)) + load job lines cut edge
+  pub over : count_max < length (entries (cut.tables table)) + load job lines cut edge
 
--- At the start, where no table has a key: the load of some edge is above 4,294,967,295.
+-- At the start, where no table has a key: the load of some edge is above `count_max`.
 pub record HasHeavyEdge (job : Job) (lines : ℕ → List (List ℕ)) : Type 0 where
   pub edge : ℕ
   pub is_edge : edge ≤ last_edge job
-  pub over : 4294967295 < load job lines start edge
+  pub over : count_max < load job lines start edge

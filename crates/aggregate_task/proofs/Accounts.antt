@@ -53,7 +53,7 @@ module _ (job : Job) (b : ℕ) where
       )
 
 pub aggregate_has_account : AggregateHasAccount
-aggregate_has_account job all base b start every gate sent history takes cause parcels more is inside was =
+aggregate_has_account job all base b start every gate takers sent history takes cause parcels more is inside was =
     let from = from_of job start (suc (last_edge job)) b in (
       chapters_of was.groups sent,
       record {

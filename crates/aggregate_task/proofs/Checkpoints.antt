@@ -9,13 +9,14 @@ use Rattle.flow_defs.specs.Tables.{Values}
 use Rattle.checkpoint_laws.specs.Chapters.{RunsTake}
 use Rattle.job_start.specs.Starts.{from_of}
 use Rattle.outside.specs.declared.last_image.Stored.{Stored}
-use Rattle.barriers.specs.Alignments.{is_open}
-use Rattle.input_gate.specs.Gates.{Account}
+use Rattle.channel_cut.specs.Cuts.{Cut}
+use Rattle.gate_account.specs.Accounts.{Account}
 use Rattle.snapshot_channel.specs.Passes.{sent_by}
 use Rattle.task_output.specs.Acking.{base_of}
 use Rattle.task_output.specs.Waiting.{LastIs, KnowsLast, HasWaited, SeenIsWaited, WaitedStays}
 use Rattle.task_taking.specs.Takings.{Taking, HasTaken, IsInStep}
-use Rattle.task_taking.specs.Endings.{ResumedIsGiven, IsTakerEnd}
+use Rattle.task_taking.specs.Endings.{IsTakerEnd}
+use Rattle.task_taking.proofs.Giving.{resumed_is_given}
 use Rattle.aggregate_task.specs.declared.checkpoint.AggregateOutput.{AggregateOutput}
 use Rattle.aggregate_task.specs.Snapshots.{AreSnapshots, SentSnapshot, all_taken, table_with}
 use Rattle.aggregate_task.specs.Acknowledging.{IsSame, IsCountUnderWay, IsAtCheckpoint, BreaksFor, start_at, from_at, next_number}
@@ -36,13 +37,13 @@ broke_end base every history gate groups rest out cause breaks = elim breaks [
   | inr stopped ↦ subst (IsTakerEnd base every history gate groups rest) (sym stopped.0) tt
 ]
 
-module _ (law : ResumedIsGiven) (waits : SeenIsWaited) (stays : WaitedStays) (gate gate' : Account) (taking taking' : Taking) (counts : Values) (out out' : AggregateOutput) (at : IsAtCheckpoint gate taking counts out) (same : IsSame out out') where
+module _ (waits : SeenIsWaited) (stays : WaitedStays) (gate gate' : Account) (shows shows' : ℕ → Cut → Type 0) (taking taking' : Taking) (counts : Values) (out out' : AggregateOutput) (at : IsAtCheckpoint gate shows taking counts out) (same : IsSame out out') where
   many : length (sent_by out.acks.pass) ≡ length at.groups
   many = as_many out.job.now out.index (from_at out).number (from_at out).table at.groups (sent_by out.acks.pass) at.counted.snapshots
 
   -- the channels are resumed, and the runs are those of what was taken
-  module _ (runs : List TakeRun) (takes : RunsTake out.job.now (last_edge out.job.now) out.index runs at.took) (taken : HasTaken out.job.now (last_edge out.job.now) out.index gate' taking' (at.groups ++ at.took ∷ []) []) where
-    pub goes_on : (last : Bool) → IsInStep gate' taking' → SentSnapshot out.job.now out.index (next_number out) counts runs (sent_by out.acks.pass) (sent_by out'.acks.pass) → KnowsLast (base_of (start_at out)) out.every (seen out'.acks.last_pass) (length (sent_by out.acks.pass)) last → IsCountUnderWay gate' taking' counts out' last
+  module _ (runs : List TakeRun) (takes : RunsTake out.job.now (last_edge out.job.now) out.index runs at.took) (taken : HasTaken out.job.now (last_edge out.job.now) out.index gate' shows' taking' (at.groups ++ at.took ∷ []) []) where
+    pub goes_on : (last : Bool) → IsInStep gate' taking' → SentSnapshot out.job.now out.index (next_number out) counts runs (sent_by out.acks.pass) (sent_by out'.acks.pass) → KnowsLast (base_of (start_at out)) out.every (seen out'.acks.last_pass) (length (sent_by out.acks.pass)) last → IsCountUnderWay gate' shows' taking' counts out' last
     goes_on last in_step sent knows =
         let job = out.job.now in
         let from = from_at out in
@@ -53,7 +54,7 @@ module _ (law : ResumedIsGiven) (waits : SeenIsWaited) (stays : WaitedStays) (ga
         record {
           groups = at.groups ++ at.took ∷ [];
           took = [];
-          taken = moved out out' same (λ j b s e. HasTaken j (last_edge j) b gate' taking' (at.groups ++ at.took ∷ []) []) taken;
+          taken = moved out out' same (λ j b s e. HasTaken j (last_edge j) b gate' shows' taking' (at.groups ++ at.took ∷ []) []) taken;
           in_step = in_step;
           counted = record {
             counted = moved out out' same (λ j b s e. counts ≡ table_with j (from_of j s (suc (last_edge j)) b).table (all_taken (at.groups ++ at.took ∷ []) ++ []))
@@ -71,11 +72,11 @@ module _ (law : ResumedIsGiven) (waits : SeenIsWaited) (stays : WaitedStays) (ga
           none_behind = λ is. refl;
         }
 
-    pub breaks_off : (left : List TakeRun) (cause : Cause) → is_open taking'.alignment ≡ false → left ≡ runs → sent_by out'.acks.pass ≡ sent_by out.acks.pass → BreaksFor out' cause → AggregateAccount out'.job.now out'.index (start_at out') out'.every gate' (sent_by out'.acks.pass) (seen out'.acks.last_pass) left cause
-    breaks_off left cause closed are unsent breaks = moved out out' same (λ j b s e. AggregateAccount j b s e gate' (sent_by out'.acks.pass) (seen out'.acks.last_pass) left cause) (record {
+    pub breaks_off : (left : List TakeRun) (cause : Cause) → left ≡ runs → sent_by out'.acks.pass ≡ sent_by out.acks.pass → BreaksFor out' cause → AggregateAccount out'.job.now out'.index (start_at out') out'.every gate' shows' (sent_by out'.acks.pass) (seen out'.acks.last_pass) left cause
+    breaks_off left cause are unsent breaks = moved out out' same (λ j b s e. AggregateAccount j b s e gate' shows' (sent_by out'.acks.pass) (seen out'.acks.last_pass) left cause) (record {
       groups = at.groups;
       rest = at.took;
-      given = law out.job.now (last_edge out.job.now) out.index gate' taking' at.groups at.took taken closed;
+      given = resumed_is_given out.job.now (last_edge out.job.now) out.index gate' shows' taking' at.groups at.took taken;
       snapshots = subst (AreSnapshots out.job.now out.index (from_at out).number (from_at out).table at.groups) (sym unsent) at.counted.snapshots;
       takes_are = subst (λ l. RunsTake out.job.now (last_edge out.job.now) out.index l at.took) (sym are) takes;
       waited = stays (base_of (start_at out)) (length (sent_by out'.acks.pass)) (seen out.acks.last_pass) (seen out'.acks.last_pass) same.acks.later

@@ -1,5 +1,5 @@
 -- An aggregate task takes and counts.
-use Rattle.std.proofs.Common.{◌≡◌, ◌≢◌, ◌⊎◌, ℕ, zero, suc, ◌<◌, Bool, Result, true, false, List, [], ◌∷◌, ◌++◌, length, refl, sym, ap, subst, ◌∙◌, inl, inr, append_assoc, Ok, Err}
+use Rattle.std.proofs.Common.{◌≡◌, ◌≢◌, ◌⊎◌, ℕ, zero, suc, Bool, Result, true, false, List, [], ◌∷◌, ◌++◌, length, refl, sym, ap, subst, ◌∙◌, inl, inr, append_assoc, Ok, Err}
 use Rattle.std.specs.Prelude.{All, slice_get, unwrap_or}
 use Rattle.std.specs.List.{AllByRecursion}
 use Rattle.std.specs.FinMap.{empty}
@@ -14,16 +14,18 @@ use Rattle.flow_defs.specs.Jobs.{last_edge}
 use Rattle.flow_defs.specs.Records.{IsShort}
 use Rattle.flow_defs.specs.Tables.{Values, add}
 use Rattle.plain_machine.specs.Images.{HasShortKeys}
-use Rattle.input_gate.specs.Gates.{Account}
+use Rattle.channel_cut.specs.Cuts.{Cut}
+use Rattle.gate_account.specs.Accounts.{Account}
 use Rattle.snapshot_channel.specs.Passes.{sent_by}
 use Rattle.task_output.specs.Acking.{base_of}
 use Rattle.task_output.specs.Waiting.{LastIs, HasWaited}
 use Rattle.task_taking.specs.declared.taking.Taken.{Taken}
 use Rattle.task_taking.specs.declared.taking.Taken.TheVariants as taken
-use Rattle.task_taking.specs.Takings.{Taking, HasTaken, IsInStep}
+use Rattle.task_taking.specs.Takings.{Taking, HasTaken, HadTaken, IsInStep}
 use Rattle.task_taking.specs.Steps.{TookNext, TakingGoesOn, IsTakerCause}
-use Rattle.task_taking.specs.Endings.{TakenIsGiven, BarrierIsGiven, IsTakerEnd}
-use Rattle.task_taking.proofs.InStep.{all_stopped}
+use Rattle.task_taking.specs.Endings.{IsTakerEnd}
+use Rattle.task_taking.proofs.Groups.{had_taken}
+use Rattle.task_taking.proofs.Giving.{barrier_is_given, barrier_is_told}
 use Rattle.aggregate_task.specs.declared.checkpoint.AggregateOutput.{AggregateOutput}
 use Rattle.aggregate_task.specs.Snapshots.{all_taken, table_with}
 use Rattle.aggregate_task.specs.Acknowledging.{IsAcking, IsCountUnderWay, IsAtCheckpoint, start_at, from_at}
@@ -46,8 +48,8 @@ short_at (t ∷ tables) zero all = all.0
 short_at (t ∷ tables) (suc b) all = short_at tables b all.1
 
 -- it begins
-pub begins : (gate : Account) (taking : Taking) (out : AggregateOutput) (counts : Values) → IsAcking out → counts ≡ (from_at out).table → sent_by out.acks.pass ≡ [] → HasTaken out.job.now (last_edge out.job.now) out.index gate taking [] [] → IsInStep gate taking → IsCountUnderWay gate taking counts out false
-begins gate taking out counts own from unsent taken in_step = record {
+pub begins : (gate : Account) (shows : ℕ → Cut → Type 0) (taking : Taking) (out : AggregateOutput) (counts : Values) → IsAcking out → counts ≡ (from_at out).table → sent_by out.acks.pass ≡ [] → HasTaken out.job.now (last_edge out.job.now) out.index gate shows taking [] [] → IsInStep gate taking → IsCountUnderWay gate shows taking counts out false
+begins gate shows taking out counts own from unsent taken in_step = record {
   groups = [];
   took = [];
   taken = taken;
@@ -63,29 +65,29 @@ begins gate taking out counts own from unsent taken in_step = record {
 }
 
 -- The gate answered so, and the task took it behind what it had counted.
-pub record Gave (gate gate' : Account) (taking taking' : Taking) (counts : Values) (out : AggregateOutput) (last : Bool) (answer : Result Taken Cause) : Type 0 where
-  pub way : IsCountUnderWay gate taking counts out last
-  pub took : TookNext out.job.now (last_edge out.job.now) out.index gate' taking' way.groups way.took answer
+pub record Gave (gate gate' : Account) (shows shows' : ℕ → Cut → Type 0) (taking taking' : Taking) (counts : Values) (out : AggregateOutput) (last : Bool) (answer : Result Taken Cause) : Type 0 where
+  pub way : IsCountUnderWay gate shows taking counts out last
+  pub took : TookNext out.job.now (last_edge out.job.now) out.index gate' shows' taking' way.groups way.took answer
   pub goes_on : TakingGoesOn gate' taking taking' answer
 
 -- ---- it ends
 
 -- it has seen the image before the last snapshot that it sent
-waited_so : (gate : Account) (taking : Taking) (counts : Values) (out : AggregateOutput) (last : Bool) (way : IsCountUnderWay gate taking counts out last) → HasWaited (base_of (start_at out)) (length (sent_by out.acks.pass)) (seen out.acks.last_pass)
-waited_so gate taking counts out last way =
+waited_so : (gate : Account) (shows : ℕ → Cut → Type 0) (taking : Taking) (counts : Values) (out : AggregateOutput) (last : Bool) (way : IsCountUnderWay gate shows taking counts out last) → HasWaited (base_of (start_at out)) (length (sent_by out.acks.pass)) (seen out.acks.last_pass)
+waited_so gate shows taking counts out last way =
     subst (λ n. HasWaited (base_of (start_at out)) n (seen out.acks.last_pass)) (sym (as_many out.job.now out.index (from_at out).number (from_at out).table way.groups (sent_by out.acks.pass) way.counted.snapshots)) way.counted.waited
 
-module _ {gate : Account} (gate' : Account) {taking : Taking} (taking' : Taking) {counts : Values} {out : AggregateOutput} {last : Bool} (way : IsCountUnderWay gate taking counts out last) where
-  ended : TakenIsGiven → (took : List (ℕ × List ℕ)) (end : Ending) → end.takes.items ≡ taking'.runs
-      → HasTaken out.job.now (last_edge out.job.now) out.index gate' taking' way.groups took → IsTakerEnd (base_of (start_at out)) out.every (seen out.acks.last_pass) gate' way.groups took end.cause
-      → HasAccount gate' out end
-  ended law took end are has cause_is = record {
+module _ {gate : Account} (gate' : Account) {shows : ℕ → Cut → Type 0} (shows' : ℕ → Cut → Type 0) {taking : Taking} (taking' : Taking) {counts : Values} {out : AggregateOutput} {last : Bool} (way : IsCountUnderWay gate shows taking counts out last) where
+  ended : (took : List (ℕ × List ℕ)) (end : Ending) → end.takes.items ≡ taking'.runs
+      → HadTaken out.job.now (last_edge out.job.now) out.index gate' shows' taking' way.groups took → IsTakerEnd (base_of (start_at out)) out.every (seen out.acks.last_pass) gate' way.groups took end.cause
+      → HasAccount gate' shows' out end
+  ended took end are has cause_is = record {
     groups = way.groups;
     rest = took;
-    given = law out.job.now (last_edge out.job.now) out.index gate' taking' way.groups took has;
+    given = has.given;
     snapshots = way.counted.snapshots;
     takes_are = rw are has.takes;
-    waited = waited_so gate taking counts out last way;
+    waited = waited_so gate shows taking counts out last way;
     cause_is = cause_is;
   }
 
@@ -97,25 +99,25 @@ module _ {gate : Account} (gate' : Account) {taking : Taking} (taking' : Taking)
   taker_end causes.Memory is other = tt
   taker_end cause is other = absurd is
 
-module _ {gate gate' : Account} {taking taking' : Taking} {counts : Values} {out : AggregateOutput} {last : Bool} where
+module _ {gate gate' : Account} {shows shows' : ℕ → Cut → Type 0} {taking taking' : Taking} {counts : Values} {out : AggregateOutput} {last : Bool} where
   -- it took a record
-  pub line_ended : {line : Items ℕ} → TakenIsGiven → Gave gate gate' taking taking' counts out last (Ok (taken.Line line)) → (end : Ending) → end.takes.items ≡ taking'.runs
-      → (end.cause ≡ causes.Memory) ⊎ ((last ≡ true) × (end.cause ≡ causes.Peer peers.Barrier)) → HasAccount gate' out end
-  line_ended {line} law gave end are why =
+  pub line_ended : {line : Items ℕ} → Gave gate gate' shows shows' taking taking' counts out last (Ok (taken.Line line)) → (end : Ending) → end.takes.items ≡ taking'.runs
+      → (end.cause ≡ causes.Memory) ⊎ ((last ≡ true) × (end.cause ≡ causes.Peer peers.Barrier)) → HasAccount gate' shows' out end
+  line_ended {line} gave end are why =
       let way = gave.way in
       let took = way.took ++ (gave.took.1.0, line.items) ∷ [] in
-      ended gate' taking' way law took end are gave.took.1.1 (elim why [
+      ended gate' shows' taking' way took end are (had_taken _ _ _ gate' shows' taking' way.groups took gave.took.1.1) (elim why [
         | inl memory ↦ subst (IsTakerEnd (base_of (start_at out)) out.every (seen out.acks.last_pass) gate' way.groups took) (sym memory) tt
         | inr behind ↦ subst (IsTakerEnd (base_of (start_at out)) out.every (seen out.acks.last_pass) gate' way.groups took) (sym behind.1)
             (inr (inr (subst (LastIs (base_of (start_at out)) out.every (seen out.acks.last_pass) (length way.groups)) behind.0 way.last_is, inl (some_behind way.took (gave.took.1.0, line.items)))))
       ])
 
   -- its channels ended
-  pub all_ended : TakenIsGiven → Gave gate gate' taking taking' counts out last (Ok taken.AllEnded) → (end : Ending) → end.takes.items ≡ taking'.runs
-      → ((last ≡ true) × (end.cause ≡ causes.Done)) ⊎ ((last ≡ false) × (end.cause ≡ causes.Peer peers.Barrier)) → HasAccount gate' out end
-  all_ended law gave end are why =
+  pub all_ended : Gave gate gate' shows shows' taking taking' counts out last (Ok taken.AllEnded) → (end : Ending) → end.takes.items ≡ taking'.runs
+      → ((last ≡ true) × (end.cause ≡ causes.Done)) ⊎ ((last ≡ false) × (end.cause ≡ causes.Peer peers.Barrier)) → HasAccount gate' shows' out end
+  all_ended gave end are why =
       let way = gave.way in
-      ended gate' taking' way law way.took end are gave.took.0 (elim why [
+      ended gate' shows' taking' way way.took end are (had_taken _ _ _ gate' shows' taking' way.groups way.took gave.took.0) (elim why [
         | inl done ↦ subst (IsTakerEnd (base_of (start_at out)) out.every (seen out.acks.last_pass) gate' way.groups way.took) (sym done.1)
             (gave.took.1, way.none_behind done.0, subst (LastIs (base_of (start_at out)) out.every (seen out.acks.last_pass) (length way.groups)) done.0 way.last_is)
         | inr early ↦ subst (IsTakerEnd (base_of (start_at out)) out.every (seen out.acks.last_pass) gate' way.groups way.took) (sym early.1)
@@ -123,37 +125,34 @@ module _ {gate gate' : Account} {taking taking' : Taking} {counts : Values} {out
       ])
 
   -- the gate gave nothing more
-  pub gate_ended : {cause : Cause} → TakenIsGiven → Gave gate gate' taking taking' counts out last (Err cause) → (end : Ending) → end.takes.items ≡ taking'.runs → end.cause ≡ cause → HasAccount gate' out end
-  gate_ended {cause} law gave end are same =
+  pub gate_ended : {cause : Cause} → Gave gate gate' shows shows' taking taking' counts out last (Err cause) → (end : Ending) → end.takes.items ≡ taking'.runs → end.cause ≡ cause → HasAccount gate' shows' out end
+  gate_ended {cause} gave end are same =
       let way = gave.way in
-      ended gate' taking' way law way.took end are gave.took.0 (subst (IsTakerEnd (base_of (start_at out)) out.every (seen out.acks.last_pass) gate' way.groups way.took) (sym same) (taker_end gate' taking' way cause gave.took.1 gave.took.2))
+      ended gate' shows' taking' way way.took end are gave.took.0 (subst (IsTakerEnd (base_of (start_at out)) out.every (seen out.acks.last_pass) gate' way.groups way.took) (sym same) (taker_end gate' shows' taking' way cause gave.took.1 gave.took.2))
 
   -- it came to the barriers of a checkpoint behind the last one
-  pub barrier_ended : {k : ℕ} → BarrierIsGiven → Gave gate gate' taking taking' counts out last (Ok (taken.Checkpoint k)) → (end : Ending) → end.takes.items ≡ taking'.runs
-      → last ≡ true → end.cause ≡ causes.Peer peers.Barrier → HasAccount gate' out end
-  barrier_ended law gave end are is cause_is =
+  pub barrier_ended : {k : ℕ} → Gave gate gate' shows shows' taking taking' counts out last (Ok (taken.Checkpoint k)) → (end : Ending) → end.takes.items ≡ taking'.runs
+      → last ≡ true → end.cause ≡ causes.Peer peers.Barrier → HasAccount gate' shows' out end
+  barrier_ended gave end are is cause_is =
       let way = gave.way in
       let at = gave.took.0 in
-      let blocked = gave.goes_on.0 in
       record {
         groups = way.groups;
         rest = way.took;
-        given = law out.job.now (last_edge out.job.now) out.index gate' taking' way.groups way.took at;
+        given = barrier_is_given out.job.now (last_edge out.job.now) out.index gate' shows' taking' way.groups way.took at;
         snapshots = way.counted.snapshots;
         takes_are = rw are at.takes;
-        waited = waited_so gate taking counts out last way;
+        waited = waited_so gate shows taking counts out last way;
         cause_is = subst (IsTakerEnd (base_of (start_at out)) out.every (seen out.acks.last_pass) gate' way.groups way.took) (sym cause_is) (inr (inr (
           subst (LastIs (base_of (start_at out)) out.every (seen out.acks.last_pass) (length way.groups)) is way.last_is,
-          inr (λ c within.
-              all_stopped gate' taking' blocked c (subst (λ n. c < n) blocked.counted.channels within)
-              ∙ ap suc (at.resumed c (subst (λ n. c < n) at.takes_for.channels within))),
+          inr (barrier_is_told out.job.now (last_edge out.job.now) out.index gate' shows' taking' way.groups way.took at),
         )));
       }
 
   -- ---- it goes on
 
-  pub counts_line : {line : Items ℕ} → Gave gate gate' taking taking' counts out last (Ok (taken.Line line)) → (counts' : Values)
-      → last ≡ false → counts' ≡ add out.job.now.agg counts line.items → IsCountUnderWay gate' taking' counts' out last
+  pub counts_line : {line : Items ℕ} → Gave gate gate' shows shows' taking taking' counts out last (Ok (taken.Line line)) → (counts' : Values)
+      → last ≡ false → counts' ≡ add out.job.now.agg counts line.items → IsCountUnderWay gate' shows' taking' counts' out last
   counts_line {line} gave counts' going counted =
       let way = gave.way in
       record {
@@ -172,7 +171,7 @@ module _ {gate gate' : Account} {taking taking' : Taking} {counts : Values} {out
         none_behind = λ is. absurd (cc);
       }
 
-  pub comes_to : {k : ℕ} → Gave gate gate' taking taking' counts out last (Ok (taken.Checkpoint k)) → last ≡ false → IsAtCheckpoint gate' taking' counts out
+  pub comes_to : {k : ℕ} → Gave gate gate' shows shows' taking taking' counts out last (Ok (taken.Checkpoint k)) → last ≡ false → IsAtCheckpoint gate' shows' taking' counts out
   comes_to gave going = record {
     groups = gave.way.groups;
     took = gave.way.took;

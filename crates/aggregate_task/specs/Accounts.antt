@@ -12,14 +12,16 @@ use Rattle.checkpoint_laws.specs.Chapters.{Chapter}
 use Rattle.job_start.specs.declared.start.Start.{Start}
 use Rattle.job_start.specs.Starts.{IsBase}
 use Rattle.outside.specs.declared.last_image.Stored.{Stored}
-use Rattle.input_gate.specs.Gates.{Account}
+use Rattle.gate_account.specs.Accounts.{Account}
+use Rattle.input_gate.specs.States.{shows_at}
+use Rattle.input_gate.specs.Turning.{InputPass}
 use Rattle.aggregate_task.specs.Aggregates.{AggregateAccount}
 
 -- Its account is one of chapters from the image on from which the run goes on, whatever its cause, and in each of these it took the group of
 -- records before the barrier. No channel leads on from it, so whatever is said of parcels holds.
 abbrev pub AggregateHasAccount : Type 0
 AggregateHasAccount =
-    (job : Job) (all : ℕ → List (List ℕ)) (base : Image) (b : ℕ) (start : Start) (every : Option ℕ) (gate : Account) (sent : List Snapshot) (history : List (ℕ × Stored)) (takes : List TakeRun) (cause : Cause) (parcels : ℕ → List Parcel) (more : ℕ → List (List ℕ)) →
+    (job : Job) (all : ℕ → List (List ℕ)) (base : Image) (b : ℕ) (start : Start) (every : Option ℕ) (gate : Account) (takers : List InputPass) (sent : List Snapshot) (history : List (ℕ × Stored)) (takes : List TakeRun) (cause : Cause) (parcels : ℕ → List Parcel) (more : ℕ → List (List ℕ)) →
     IsBase job start base → b < tasks job (suc (last_edge job)) →
-    (was : AggregateAccount job b start every gate sent history takes cause) →
+    (was : AggregateAccount job b start every gate (shows_at takers) sent history takes cause) →
     (told : List Chapter) × chapters.Account job all every base (suc (last_edge job)) b told sent parcels more × (map (λ (c : Chapter). c.took) told ≡ was.groups)

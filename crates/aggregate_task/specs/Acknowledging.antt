@@ -12,7 +12,8 @@ use Rattle.plain_machine.specs.Images.{HasShortKeys}
 use Rattle.checkpoint_laws.specs.Chapters.{task_at}
 use Rattle.job_start.specs.declared.start.Start.{Start}
 use Rattle.job_start.specs.Starts.{IsStartFor, from_of}
-use Rattle.input_gate.specs.Gates.{Account}
+use Rattle.channel_cut.specs.Cuts.{Cut}
+use Rattle.gate_account.specs.Accounts.{Account}
 use Rattle.snapshot_channel.specs.Passes.{opening, opening_of, sent_by, task_of}
 use Rattle.task_output.specs.Acking.{HasPasses, IsSameTask, base_of}
 use Rattle.task_output.specs.Looking.{IsSameLook}
@@ -60,20 +61,20 @@ pub record HasCounted (counts : Values) (out : AggregateOutput) (groups : List (
 
 -- It took groups of records, acknowledged a checkpoint behind each, and then took some records. It takes on, and whether it has
 -- acknowledged the last checkpoint is as said. Behind that it took nothing.
-pub record IsCountUnderWay (gate : Account) (taking : Taking) (counts : Values) (out : AggregateOutput) (last : Bool) : Type 0 where
+pub record IsCountUnderWay (gate : Account) (shows : ℕ → Cut → Type 0) (taking : Taking) (counts : Values) (out : AggregateOutput) (last : Bool) : Type 0 where
   pub groups : List (List (ℕ × List ℕ))
   pub took : List (ℕ × List ℕ)
-  pub taken : HasTaken out.job.now (last_edge out.job.now) out.index gate taking groups took
+  pub taken : HasTaken out.job.now (last_edge out.job.now) out.index gate shows taking groups took
   pub in_step : IsInStep gate taking
   pub counted : HasCounted counts out groups took
   pub last_is : LastIs (base_of (start_at out)) out.every (seen out.acks.last_pass) (length groups) last
   pub none_behind : last ≡ true → took ≡ []
 
 -- It came to the barriers of a checkpoint, and has not acknowledged the last one.
-pub record IsAtCheckpoint (gate : Account) (taking : Taking) (counts : Values) (out : AggregateOutput) : Type 0 where
+pub record IsAtCheckpoint (gate : Account) (shows : ℕ → Cut → Type 0) (taking : Taking) (counts : Values) (out : AggregateOutput) : Type 0 where
   pub groups : List (List (ℕ × List ℕ))
   pub took : List (ℕ × List ℕ)
-  pub at_barrier : IsAtBarrier out.job.now (last_edge out.job.now) out.index gate taking groups took
+  pub at_barrier : IsAtBarrier out.job.now (last_edge out.job.now) out.index gate shows taking groups took
   pub blocked : AllBlocked gate taking
   pub counted : HasCounted counts out groups took
   pub not_last : LastIs (base_of (start_at out)) out.every (seen out.acks.last_pass) (length groups) false

@@ -1,12 +1,12 @@
 // The task of the aggregate.
-ghost use Rattle.std.specs.Prelude.{◌≡◌, ◌<◌, suc, length};
+ghost use Rattle.std.specs.Prelude.{◌≡◌, ◌<◌, [], suc, length};
 ghost use Rattle.turn_cell.specs.Passes.{IsPassOf, seen};
 ghost use Rattle.flow_defs.specs.Jobs.{IsJob, last_edge, tasks};
 ghost use Rattle.stage_fns.specs.Kinds.{kinds};
 ghost use Rattle.job_plan.specs.Plans.{CanRun};
 ghost use Rattle.job_start.specs.Starts.{IsStartFor};
 ghost use Rattle.record_writer.specs.Writers.{ways_into};
-ghost use Rattle.input_gate.specs.Gates.{IsNew};
+ghost use Rattle.gate_account.specs.Accounts.{IsNew};
 ghost use Rattle.snapshot_channel.specs.Passes as channels;
 ghost use Rattle.task_output.specs.Acking.{IsLent};
 ghost use Rattle.task_taking.specs.Endings.{ToldStop};
@@ -46,13 +46,13 @@ pub fn run_aggregate<'a, G: Gate, R: Wait>(
     requires is_job { IsJob job.now × CanRun (kinds functions.now) job.now }
     requires task { index < tasks job.now (suc (last_edge job.now)) }
     requires start { IsStartFor job.now start.now }
-    requires gate { IsNew (G.account gate) × ((G.account gate).channels ≡ ways_into job.now (last_edge job.now)) }
+    requires gate { IsNew (λ c. []) (G.account gate) × ((G.account gate).channels ≡ ways_into job.now (last_edge job.now)) }
     requires lent { IsLent job.now (suc (last_edge job.now)) index start.now every world }
     ensures gate { (G.ends result.gate ≡ G.ends gate) × ((G.account result.gate).channels ≡ (G.account gate).channels) }
     ensures snapshots { channels.IsPassOf world.entry.acks.snapshots.now result.passes.snapshots × (channels.task_of result.passes.snapshots ≡ channels.task_of world.entry.acks.pass) }
     ensures last_image { IsPassOf world.entry.acks.last_image.now result.passes.last_image }
     ensures acks { result.acks ≡ length (channels.sent_by result.passes.snapshots) }
-    ensures account { AggregateAccount job.now index start.now every (G.account result.gate) (channels.sent_by result.passes.snapshots) (seen result.passes.last_image) result.takes.items result.cause }
+    ensures account { AggregateAccount job.now index start.now every (G.account result.gate) (G.shows result.gate) (channels.sent_by result.passes.snapshots) (seen result.passes.last_image) result.takes.items result.cause }
     ensures stop { ToldStop world.entry.stop.now (G.saw_stop result.gate) result.cause world.entry.stop_pass result.passes.stop }
 {
     let World {

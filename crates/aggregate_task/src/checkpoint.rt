@@ -14,7 +14,6 @@ use std::sync::Wait;
 use task_output::laws::what_was_seen_stays;
 use task_output::{Acks, StopLook, TaskStopped};
 use task_taking::TaskTaking;
-use task_taking::laws::what_was_taken_was_given;
 
 /// By what a task of the aggregate acknowledges checkpoints.
 #[derive(Drop)]
@@ -46,14 +45,13 @@ pub fn take_checkpoint<G: Gate, R: Wait>(
     counts: &Counts,
     out: &mut AggregateOutput<'_>,
 ) -> Result<bool, Ending>
-    requires at { IsAtCheckpoint (G.account gate.old) taking.old counts.now out.old }
+    requires at { IsAtCheckpoint (G.account gate.old) (G.shows gate.old) taking.old counts.now out.old }
     requires own { IsAcking out.old }
     ensures gate { (G.ends gate.new ≡ G.ends gate.old) × ((G.account gate.new).channels ≡ (G.account gate.old).channels) }
     ensures own { IsAcking out.new × IsSame out.old out.new }
-    ensures taken { MatchResult result (λ last. IsCountUnderWay (G.account gate.new) taking.new counts.now out.new last) (λ end. HasAccount (G.account gate.new) out.new end) }
+    ensures taken { MatchResult result (λ last. IsCountUnderWay (G.account gate.new) (G.shows gate.new) taking.new counts.now out.new last) (λ end. HasAccount (G.account gate.new) (G.shows gate.new) out.new end) }
     ensures breaks { IfErr result (λ end. BreaksFor out.new end.cause) }
 {
-    what_was_taken_was_given();
     what_was_seen_stays();
     let takes = taking.resume_all(rt, gate);
     match acknowledge(rt, alloc, out, counts, takes) {

@@ -6,7 +6,7 @@ ghost use Rattle.flow_defs.specs.declared.cause.PeerFault.TheVariants.{Barrier};
 ghost use Rattle.flow_defs.specs.Jobs.{last_edge, tasks};
 ghost use Rattle.stage_fns.specs.Meets.{MeetsAgg};
 ghost use Rattle.record_writer.specs.Writers.{ways_into};
-ghost use Rattle.input_gate.specs.Gates.{IsNew};
+ghost use Rattle.gate_account.specs.Accounts.{IsNew};
 ghost use Rattle.snapshot_channel.specs.Passes.{sent_by};
 ghost use Rattle.task_taking.specs.Takings.{HasTaken, IsInStep};
 ghost use Rattle.aggregate_task.specs.Acknowledging.{IsAcking, IsSame, from_at, start_at};
@@ -20,7 +20,6 @@ use job_start::Start;
 use stage_fns::AggFn;
 use std::alloc::{AllocError, Global};
 use std::sync::Wait;
-use task_taking::laws::what_was_taken_was_given;
 use task_taking::{Taken, TaskTaking};
 
 /// Takes all that the gate gives, with the checkpoints between, and counts on from the task's table of the
@@ -37,10 +36,10 @@ pub fn take_all<G: Gate, R: Wait>(
     requires own { IsAcking out.old × (sent_by out.old.acks.pass ≡ []) }
     requires start { start.now ≡ start_at out.old }
     requires task { out.old.index < tasks out.old.job.now (suc (last_edge out.old.job.now)) }
-    requires gate { IsNew (G.account gate.old) × ((G.account gate.old).channels ≡ ways_into out.old.job.now (last_edge out.old.job.now)) }
+    requires gate { IsNew (λ c. []) (G.account gate.old) × ((G.account gate.old).channels ≡ ways_into out.old.job.now (last_edge out.old.job.now)) }
     ensures gate { (G.ends gate.new ≡ G.ends gate.old) × ((G.account gate.new).channels ≡ (G.account gate.old).channels) }
     ensures own { IsAcking out.new × IsSame out.old out.new }
-    ensures account { HasAccount (G.account gate.new) out.new result }
+    ensures account { HasAccount (G.account gate.new) (G.shows gate.new) out.new result }
     ensures stopped { result.cause ≡ Cause.Stopped → G.saw_stop gate.new ⊎ (seen out.new.stop.pass ≢ []) }
 {
     let Ok(counts) = counts_of(alloc, start, out.index) else {
@@ -86,13 +85,12 @@ fn count_all<G: Gate, R: Wait>(
     requires function { MeetsAgg out.old.job.now.agg (AggFn.pre f.now) (AggFn.post f.now) }
     requires own { IsAcking out.old × (sent_by out.old.acks.pass ≡ []) }
     requires counts { counts ≡ (from_at out.old).table }
-    requires new { HasTaken out.old.job.now (last_edge out.old.job.now) out.old.index (G.account gate.old) taking [] [] × IsInStep (G.account gate.old) taking }
+    requires new { HasTaken out.old.job.now (last_edge out.old.job.now) out.old.index (G.account gate.old) (G.shows gate.old) taking [] [] × IsInStep (G.account gate.old) taking }
     ensures gate { (G.ends gate.new ≡ G.ends gate.old) × ((G.account gate.new).channels ≡ (G.account gate.old).channels) }
     ensures own { IsAcking out.new × IsSame out.old out.new }
-    ensures account { HasAccount (G.account gate.new) out.new result }
+    ensures account { HasAccount (G.account gate.new) (G.shows gate.new) out.new result }
     ensures stopped { result.cause ≡ Cause.Stopped → G.saw_stop gate.new ⊎ (seen out.new.stop.pass ≢ []) }
 {
-    what_was_taken_was_given();
     let mut taking = taking;
     let mut counts = counts;
     let mut last = false;

@@ -75,6 +75,7 @@ settled_are_ends laws size sends takers takes pushers sender receiver carried =
       sent,
       received,
       record {
+        size = size;
         legal = sender.is_legal;
         sender = sender.later_task;
         all_put = sender.of_task;
@@ -88,11 +89,11 @@ settled_are_ends laws size sends takers takes pushers sender receiver carried =
 -- ---- the cut
 
 pub ends_are_cut : Laws → EndsAreCut
-ends_are_cut laws size sends takes sent received flight k lines ends held records shown =
+ends_are_cut laws sends takes sent received flight k lines ends held records shown =
     let own = parcels_put (by 0 sends) in
-    let numbered = laws.numbers size (entries_of sent) (laws.entries size sent ends.legal) in
+    let numbered = laws.numbers ends.size (entries_of sent) (laws.entries ends.size sent ends.legal) in
     let put : put_before (suc k) (entries_of sent) ≡ puts.put_before (suc k) own =
-    number_is_place (parcels_put (entries_of sent)) k numbered ∙ ap (puts.put_before (suc k)) (parcels_told size sent ends.legal ∙ ap parcels_put ends.all_put) in
+    number_is_place (parcels_put (entries_of sent)) k numbered ∙ ap (puts.put_before (suc k)) (parcels_told ends.size sent ends.legal ∙ ap parcels_put ends.all_put) in
     let seen : entries_of received ≡ entries_of takes ++ entries_of ends.receiver.0 = ap entries_of ends.receiver.1 ∙ entries_of-append takes ends.receiver.0 in
     ap (λ z. flight ++ z) (sym put)
     ∙ cut_of_channel (entries_of sent) (entries_of received) flight (suc k) lines ends.begins held (subst AreSpans (sym put) records)

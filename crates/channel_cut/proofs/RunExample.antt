@@ -322,8 +322,9 @@ collected (suc k) low = absurd (omega arith)
 
 -- ---- the run
 
-ends_there : (e a b : ℕ) → is_channel its_job e a b ≡ true → AreEnds 64 (sends e a b) (takes e a b) (sent e a b) (received e a b)
+ends_there : (e a b : ℕ) → is_channel its_job e a b ≡ true → AreEnds (sends e a b) (takes e a b) (sent e a b) (received e a b)
 ends_there e a b on = record {
+  size = 64;
   legal = legal;
   sender = ((1, Take) ∷ (1, Take) ∷ [], refl);
   all_put = refl;
@@ -331,7 +332,7 @@ ends_there e a b on = record {
   begins = ([], refl);
 }
 
-pub ran : JobRan its_job 64 its_lines None base (stored ∷ []) acks sends takes
+pub ran : JobRan its_job its_lines None base (stored ∷ []) acks sends takes
 ran = record {
   chapters = chapters;
   more = λ i a b. [] ∷ [];
@@ -401,7 +402,7 @@ is_job = record { stages = omega arith; counts = counts; arguments = tt; widths 
 -- ---- so its image is the machine's next one, and its table is what the base is worth
 
 pub its_chain : Laws → Chain its_job its_lines None base (stored ∷ [])
-its_chain laws = ran_is_chain laws its_job 64 its_lines None base (stored ∷ []) acks sends takes positive fits unchanged ran
+its_chain laws = ran_is_chain laws its_job its_lines None base (stored ∷ []) acks sends takes positive fits unchanged ran
 
 pub its_worth : Laws → join Count (its_table ∷ []) ≡ worth its_job its_lines (cut_of its_job base)
-its_worth laws = ran_ends_in_worth laws its_job 64 its_lines None base (stored ∷ []) acks sends takes is_job positive fits unchanged ran refl
+its_worth laws = ran_ends_in_worth laws its_job its_lines None base (stored ∷ []) acks sends takes is_job positive fits unchanged ran refl

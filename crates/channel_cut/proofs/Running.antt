@@ -89,9 +89,9 @@ pub record Laws : Type 0 where
   pub tally : checkpoints.ToldEndsInTally
   pub cut : EndsAreCut
 
-module _ (laws : Laws) (job : Job) (size : ℕ) (lines : ℕ → List (List ℕ)) (every : Option ℕ) (base : Image) (images : List Image)
+module _ (laws : Laws) (job : Job) (lines : ℕ → List (List ℕ)) (every : Option ℕ) (base : Image) (images : List Image)
     (acks : ℕ → ℕ → List Snapshot) (sends : ℕ → ℕ → ℕ → List (ℕ × SendEntry)) (takes : ℕ → ℕ → ℕ → List (ℕ × ReceiveEntry))
-    (fits : Fits job base) (ran : JobRan job size lines every base images acks sends takes) where
+    (fits : Fits job base) (ran : JobRan job lines every base images acks sends takes) where
   abbrev parcels : ℕ → ℕ → ℕ → List Parcel
   parcels i a b = parcels_put (by 0 (sends i a b))
 
@@ -122,7 +122,7 @@ module _ (laws : Laws) (job : Job) (size : ℕ) (lines : ℕ → List (List ℕ)
         let whole = laws.records job lines every base e a (ran.chapters e a) (acks e a) (parcels e a) (ran.more e a) (workers.accounts e a sender_below at.sender) b (suc k) on (omega (arith, from_here.0)) in
         let mine = of_sender a (took_before (suc k) (ran.chapters (suc e) b)) in
         let came_in = piece e a b (ran.snapshot k (suc e) b).saved_in.items in
-        laws.cut size (sends e a b) (takes e a b) (ran.sent e a b) (ran.received e a b) (saved job base e a b) k mine (ran.channels e a b on) (fits.spans e a b on)
+        laws.cut (sends e a b) (takes e a b) (ran.sent e a b) (ran.received e a b) (saved job base e a b) k mine (ran.channels e a b on) (fits.spans e a b on)
         (joined_spans (take (suc k) (stretches (parcels e a b))) whole) ((ran.did (suc e) b taker_below at.receiver).cuts e a k refl on to_here.0)
         ∙ sym (append-nil (all_encoded mine))
         ∙ ap (λ l. all_encoded mine ++ (piece e a b l ++ [])) (sym (no_flight k (suc e) b low taker_below at.receiver).0)
@@ -130,21 +130,21 @@ module _ (laws : Laws) (job : Job) (size : ℕ) (lines : ℕ → List (List ℕ)
   }
 
 pub ran_is_told : Laws → RanIsTold
-ran_is_told laws job size lines every base images acks sends takes fits ran = told laws job size lines every base images acks sends takes fits ran
+ran_is_told laws job lines every base images acks sends takes fits ran = told laws job lines every base images acks sends takes fits ran
 
 -- ---- what comes of it
 
 pub ran_is_chain : Laws → RanIsChain
-ran_is_chain laws job size lines every base images acks sends takes positive fits same ran =
+ran_is_chain laws job lines every base images acks sends takes positive fits same ran =
     laws.chain job lines every base images ran.chapters acks (λ i a b. parcels_put (by 0 (sends i a b))) ran.more ran.snapshot positive fits same
-    (ran_is_told laws job size lines every base images acks sends takes fits ran)
+    (ran_is_told laws job lines every base images acks sends takes fits ran)
 
 pub ran_ends_in_worth : Laws → RanEndsInWorth
-ran_ends_in_worth laws job size lines every base images acks sends takes is positive fits same ran last =
+ran_ends_in_worth laws job lines every base images acks sends takes is positive fits same ran last =
     laws.worth job lines every base images ran.chapters acks (λ i a b. parcels_put (by 0 (sends i a b))) ran.more ran.snapshot is positive fits same
-    (ran_is_told laws job size lines every base images acks sends takes fits ran) last
+    (ran_is_told laws job lines every base images acks sends takes fits ran) last
 
 pub ran_ends_in_tally : Laws → RanEndsInTally
-ran_ends_in_tally laws job size lines every base images acks sends takes is positive start ran last =
+ran_ends_in_tally laws job lines every base images acks sends takes is positive start ran last =
     laws.tally job lines every base images ran.chapters acks (λ i a b. parcels_put (by 0 (sends i a b))) ran.more ran.snapshot is positive start
-    (ran_is_told laws job size lines every base images acks sends takes start.fits ran) last
+    (ran_is_told laws job lines every base images acks sends takes start.fits ran) last

@@ -21,9 +21,10 @@ pub record HaveSettled {E : Type 0} (legal : List (ℕ × E) → Type 0) (task l
   pub later_loop : StartsWith history loop
   pub of_loop : by 1 history ≡ by 1 loop
 
--- The two cells of a channel were closed, and these are their histories. They begin with what the passes of its two tasks had seen, and
+-- The two cells of a channel with data of so many bytes at most were closed, and these are their histories. They begin with what the passes of its two tasks had seen, and
 -- nothing more was put. What came begins what was taken.
-pub record AreEnds (size : ℕ) (sends : List (ℕ × SendEntry)) (takes : List (ℕ × ReceiveEntry)) (sent : List (ℕ × SendEntry)) (received : List (ℕ × ReceiveEntry)) : Type 0 where
+pub record AreEnds (sends : List (ℕ × SendEntry)) (takes : List (ℕ × ReceiveEntry)) (sent : List (ℕ × SendEntry)) (received : List (ℕ × ReceiveEntry)) : Type 0 where
+  pub size : ℕ
   pub legal : IsHistory (MaySendAs size) sent
   pub sender : StartsWith sent sends
   pub all_put : by 0 sent ≡ by 0 sends
@@ -36,13 +37,13 @@ SettledAreEnds =
     (size : ℕ) (sends takers : List (ℕ × SendEntry)) (takes pushers : List (ℕ × ReceiveEntry)) →
     HaveSettled (IsHistory (MaySendAs size)) sends takers → HaveSettled ReceivedByPasses takes pushers →
     StartsWith (taken (entries_of takers)) (pushed (by 1 pushers)) →
-    (sent : List (ℕ × SendEntry)) × (received : List (ℕ × ReceiveEntry)) × AreEnds size sends takes sent received
+    (sent : List (ℕ × SendEntry)) × (received : List (ℕ × ReceiveEntry)) × AreEnds sends takes sent received
 
 -- At the k-th barrier that a task put, the channel is cut by what its own pass had put and the pass of the gate had seen.
 abbrev pub EndsAreCut : Type 0
 EndsAreCut =
-    (size : ℕ) (sends : List (ℕ × SendEntry)) (takes : List (ℕ × ReceiveEntry)) (sent : List (ℕ × SendEntry)) (received : List (ℕ × ReceiveEntry))
+    (sends : List (ℕ × SendEntry)) (takes : List (ℕ × ReceiveEntry)) (sent : List (ℕ × SendEntry)) (received : List (ℕ × ReceiveEntry))
     (flight : List ℕ) (k : ℕ) (lines : List (List ℕ)) →
-    AreEnds size sends takes sent received → AreSpans flight → AreSpans (puts.put_before (suc k) (parcels_put (by 0 sends))) →
+    AreEnds sends takes sent received → AreSpans flight → AreSpans (puts.put_before (suc k) (parcels_put (by 0 sends))) →
     Shows flight (entries_of takes) (InLine (suc k) lines) →
     flight ++ puts.put_before (suc k) (parcels_put (by 0 sends)) ≡ all_encoded lines

@@ -73,7 +73,7 @@ StartIsFrom = (job : Job) (image : Image) (start : Start) (i a : ℕ) → IsStar
 
 -- All workers of a job, by stage and task, which went on from the base, and what is in flight there. These are the images that were stored
 -- behind it, the snapshots that the tasks sent, and what the passes of the tasks had seen of the channels.
-pub record JobRan (job : Job) (size : ℕ) (lines : ℕ → List (List ℕ)) (every : Option ℕ) (base : Image) (images : List Image)
+pub record JobRan (job : Job) (lines : ℕ → List (List ℕ)) (every : Option ℕ) (base : Image) (images : List Image)
     (acks : ℕ → ℕ → List Snapshot) (sends : ℕ → ℕ → ℕ → List (ℕ × SendEntry)) (takes : ℕ → ℕ → ℕ → List (ℕ × ReceiveEntry)) : Type 0 where
   pub chapters : ℕ → ℕ → List Chapter
   pub more : ℕ → ℕ → ℕ → List (List ℕ)
@@ -83,7 +83,7 @@ pub record JobRan (job : Job) (size : ℕ) (lines : ℕ → List (List ℕ)) (ev
       TaskDid job lines every (start i a) (λ e s. saved job base e s a) i a (chapters i a) (acks i a) (sends i a) (λ e s. takes e s a) (more i a)
   pub sent : ℕ → ℕ → ℕ → List (ℕ × SendEntry)
   pub received : ℕ → ℕ → ℕ → List (ℕ × ReceiveEntry)
-  pub channels : (e a b : ℕ) → is_channel job e a b ≡ true → AreEnds size (sends e a b) (takes e a b) (sent e a b) (received e a b)
+  pub channels : (e a b : ℕ) → is_channel job e a b ≡ true → AreEnds (sends e a b) (takes e a b) (sent e a b) (received e a b)
   pub snapshot : ℕ → ℕ → ℕ → Snapshot
   pub acknowledged : (k i a : ℕ) → k < length images → i ≤ suc (last_edge job) → a < tasks job i →
       Contains (acks i a) (snapshot k i a) × ((snapshot k i a).number ≡ (image_at base images (suc k)).number)
@@ -95,30 +95,30 @@ pub record JobRan (job : Job) (size : ℕ) (lines : ℕ → List (List ℕ)) (ev
 -- From a base that fits the job it is a told run, with the cut of each channel at each image,
 abbrev pub RanIsTold : Type 0
 RanIsTold =
-    (job : Job) (size : ℕ) (lines : ℕ → List (List ℕ)) (every : Option ℕ) (base : Image) (images : List Image)
+    (job : Job) (lines : ℕ → List (List ℕ)) (every : Option ℕ) (base : Image) (images : List Image)
     (acks : ℕ → ℕ → List Snapshot) (sends : ℕ → ℕ → ℕ → List (ℕ × SendEntry)) (takes : ℕ → ℕ → ℕ → List (ℕ × ReceiveEntry)) →
-    Fits job base → (ran : JobRan job size lines every base images acks sends takes) →
+    Fits job base → (ran : JobRan job lines every base images acks sends takes) →
     IsToldRun job lines every base images ran.chapters acks (λ i a b. parcels_put (by 0 (sends i a b))) ran.more ran.snapshot
 
 -- so its images are a chain, whatever the causes with which the workers ended,
 abbrev pub RanIsChain : Type 0
 RanIsChain =
-    (job : Job) (size : ℕ) (lines : ℕ → List (List ℕ)) (every : Option ℕ) (base : Image) (images : List Image)
+    (job : Job) (lines : ℕ → List (List ℕ)) (every : Option ℕ) (base : Image) (images : List Image)
     (acks : ℕ → ℕ → List Snapshot) (sends : ℕ → ℕ → ℕ → List (ℕ × SendEntry)) (takes : ℕ → ℕ → ℕ → List (ℕ × ReceiveEntry)) →
-    IsInterval every → Fits job base → IsUnchanged job lines base → JobRan job size lines every base images acks sends takes → Chain job lines every base images
+    IsInterval every → Fits job base → IsUnchanged job lines base → JobRan job lines every base images acks sends takes → Chain job lines every base images
 
 -- and where the last one is marked so, its tables joined are what the base is worth,
 abbrev pub RanEndsInWorth : Type 0
 RanEndsInWorth =
-    (job : Job) (size : ℕ) (lines : ℕ → List (List ℕ)) (every : Option ℕ) (base : Image) (images : List Image)
+    (job : Job) (lines : ℕ → List (List ℕ)) (every : Option ℕ) (base : Image) (images : List Image)
     (acks : ℕ → ℕ → List Snapshot) (sends : ℕ → ℕ → ℕ → List (ℕ × SendEntry)) (takes : ℕ → ℕ → ℕ → List (ℕ × ReceiveEntry)) →
-    IsJob job → IsInterval every → Fits job base → IsUnchanged job lines base → JobRan job size lines every base images acks sends takes →
+    IsJob job → IsInterval every → Fits job base → IsUnchanged job lines base → JobRan job lines every base images acks sends takes →
     (last_of base images).final_one ≡ true → join job.agg (last_of base images).tables.items ≡ worth job lines (cut_of job base)
 
 -- and from the start of the job on the tally of all lines.
 abbrev pub RanEndsInTally : Type 0
 RanEndsInTally =
-    (job : Job) (size : ℕ) (lines : ℕ → List (List ℕ)) (every : Option ℕ) (base : Image) (images : List Image)
+    (job : Job) (lines : ℕ → List (List ℕ)) (every : Option ℕ) (base : Image) (images : List Image)
     (acks : ℕ → ℕ → List Snapshot) (sends : ℕ → ℕ → ℕ → List (ℕ × SendEntry)) (takes : ℕ → ℕ → ℕ → List (ℕ × ReceiveEntry)) →
-    IsJob job → IsInterval every → IsStart job base → JobRan job size lines every base images acks sends takes →
+    IsJob job → IsInterval every → IsStart job base → JobRan job lines every base images acks sends takes →
     (last_of base images).final_one ≡ true → join job.agg (last_of base images).tables.items ≡ tally job lines

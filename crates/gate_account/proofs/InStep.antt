@@ -109,7 +109,7 @@ next_is_in_turn gate now a c k step low next =
       number = let number = next.number in omega (arith, number, many);
     }
 
-append_inlines : (xs ys : List (ℕ × BarrierKind)) → inlines (xs ++ ys) ≡ inlines xs + inlines ys
+pub append_inlines : (xs ys : List (ℕ × BarrierKind)) → inlines (xs ++ ys) ≡ inlines xs + inlines ys
 append_inlines [] ys = omega arith
 append_inlines ((k, Inline) ∷ xs) ys = ap suc (append_inlines xs ys) ∙ (let e : suc (inlines xs + inlines ys) ≡ suc (inlines xs) + inlines ys = omega arith in e)
 append_inlines ((k, Front) ∷ xs) ys = append_inlines xs ys

@@ -1,5 +1,5 @@
 -- What a gate tells of the passes that it has, and what a gate is when it is made.
-use Rattle.std.proofs.Common.{◌≡◌, ◌≢◌, ℕ, zero, suc, ◌+◌, ◌<◌, Bool, true, false, List, [], ◌∷◌, ◌++◌, map, length, get_or, take, drop, reverse, refl, sym, ap, subst, ◌∙◌, arith, Result, Ok, Err, Option, Some, None, true≢false, append-nil}
+use Rattle.std.proofs.Common.{◌≡◌, ◌≢◌, ℕ, zero, suc, ◌+◌, ◌<◌, Bool, true, false, List, [], ◌∷◌, ◌++◌, length, get_or, take, drop, reverse, refl, sym, ap, subst, ◌∙◌, arith, Result, Ok, Err, Option, Some, None, true≢false, append-nil}
 use Rattle.std.specs.Prelude.{slice_get, All, IfSome, IfOk, OnOk, is_some, is_err}
 use Rattle.input_channel.specs.Counts.{freed}
 use Rattle.input_gate.specs.declared.gate.GateEnd.{GateEnd}
@@ -19,10 +19,11 @@ use Rattle.outside.specs.Stops.{first_met}
 use Rattle.input_gate.specs.declared.gate.GateItem.{GateItem}
 use Rattle.input_gate.specs.declared.gate.GateItem.TheVariants as items
 use Rattle.input_gate.specs.declared.lane.Lane.{Lane}
-use Rattle.input_gate.specs.Gates.{Account, IsNew, lines_in}
+use Rattle.gate_account.specs.Accounts.{IsNew}
 use Rattle.input_gate.specs.Turning.{InputCell, InputPass, IsEven, Looked, looks_at, given_in, given_to}
-use Rattle.input_gate.specs.Told.{told, IsRead}
-use Rattle.input_gate.specs.Lanes.{IsLane, polled, left_of, told_by, barriers_by, resumed_by, ready_bytes, spare_bytes, weight, due_back}
+use Rattle.channel_cut.specs.Cuts.{IsRead}
+use Rattle.channel_cut.proofs.Reading.{read_begins}
+use Rattle.input_gate.specs.Lanes.{IsLane, polled, left_of, lines_by, barriers_by, resumed_by, ready_bytes, spare_bytes, weight, due_back}
 use Rattle.input_gate.specs.Channels.{AreLanes, AreQuiet, HaveNoSpare, account_of, at_of, cells_in, passes_in, looks_in, LookedIn}
 use Rattle.input_gate.specs.Making.{IsFreshLane, AreFreshLanes}
 use Rattle.turn_cell.specs.History.{entries_of}
@@ -30,7 +31,7 @@ use Rattle.local_pool.specs.declared.entry.PoolEntry.{PoolEntry}
 use Rattle.std.proofs.lemmas.List.Sums.{sum_by-cons}
 use Rattle.std.proofs.lemmas.Option.{same_Some}
 use Rattle.input_gate.specs.Segments.{freed_by, added_by, freed_in, added_in, LoseNone}
-use Rattle.input_gate.proofs.Growing.{gives-all, all-short, spans-all}
+use Rattle.input_gate.proofs.Reading.{read_told, told_still}
 use Rattle.input_gate.proofs.RoundLaws.{looked_through}
 
 -- ---- passes by their place
@@ -45,9 +46,9 @@ cells_length ls ms e = sym (length-map ms (λ (lane : Lane). lane.cell.now)) ∙
 
 -- ---- what the passes tell
 
-pub bytes_at : (size : ℕ) (ls : List Lane) → AreLanes size ls → (c : ℕ) → data_of (given_in (seen_at c (passes_in ls))) ≡ all_encoded (lines_in ((account_of ls).told c)) ++ (account_of ls).left c
+pub bytes_at : (size : ℕ) (ls : List Lane) → AreLanes size ls → (c : ℕ) → data_of (given_in (seen_at c (passes_in ls))) ≡ all_encoded ((account_of ls).lines c) ++ (account_of ls).left c
 bytes_at size [] h c = refl
-bytes_at size (l ∷ ls) h zero = gives-all (polled l) (left_of l) h.0.read
+bytes_at size (l ∷ ls) h zero = h.0.read.is
 bytes_at size (l ∷ ls) h (suc c) = bytes_at size ls h.1 c
 
 pub ends_of : (size : ℕ) (ls : List Lane) → AreLanes size ls → (c : ℕ) → (account_of ls).ended c ≡ true → has_end (given_in (seen_at c (passes_in ls))) ≡ true
@@ -55,9 +56,9 @@ ends_of size [] h c e = absurd (true≢false (sym e))
 ends_of size (l ∷ ls) h zero e = h.0.ends e
 ends_of size (l ∷ ls) h (suc c) e = ends_of size ls h.1 c e
 
-pub short_at : (size : ℕ) (ls : List Lane) → AreLanes size ls → (c : ℕ) → AllByRecursion IsShort (lines_in ((account_of ls).told c))
+pub short_at : (size : ℕ) (ls : List Lane) → AreLanes size ls → (c : ℕ) → AllByRecursion IsShort ((account_of ls).lines c)
 short_at size [] h c = tt
-short_at size (l ∷ ls) h zero = all-short (polled l) (left_of l) h.0.read
+short_at size (l ∷ ls) h zero = h.0.read.short
 short_at size (l ∷ ls) h (suc c) = short_at size ls h.1 c
 
 pub came_back : (size : ℕ) (ls : List Lane) → AreLanes size ls → HaveNoSpare ls → (c : ℕ) (exclusive : Bool) → returned exclusive (mine_at c (passes_in ls)) ≡ polled_with exclusive (mine_at c (passes_in ls))
@@ -107,20 +108,17 @@ module _ (size : ℕ) (c : InputCell) (p : InputPass) (l : Lane) (f : IsFreshLan
   mine_none : mine l.pass ≡ []
   mine_none = ap mine f.pass_is ∙ no_entry
 
-  read_none : IsRead [] []
-  read_none = record { lines = []; short = tt; is = refl; before = refl; past_short = tt }
+  read_none : IsRead [] (entries_of (seen l.pass)) [] (left_of l)
+  read_none = subst (λ (bytes : List ℕ). IsRead [] (entries_of (seen l.pass)) [] bytes) (sym left_none) (read_begins [] (entries_of (seen l.pass)) given_none)
 
   even_none_yet : IsEven []
   even_none_yet kind = refl
-
-  told_none : told [] [] ≡ []
-  told_none = ap (map Rattle.input_gate.specs.Gates.Line) (spans-all [] tt)
 
   pub lane_fresh : IsLane size l
   lane_fresh = record {
     pass = (subst (λ cell. IsPassOf cell l.pass) (sym f.cell_is) (subst (IsPassOf c) (sym f.pass_is) pass), ap number f.pass_is ∙ first);
     size_is = ap (λ (cell : InputCell). (opened_with cell).size) f.cell_is ∙ fits;
-    read = subst (λ ps. IsRead ps (left_of l)) (sym given_none) (subst (IsRead []) (sym left_none) read_none);
+    read = read_told _ _ _ read_none;
     count = f.barriers_are ∙ ap (λ ps. length (barriers_of ps)) (sym given_none);
     asked = ap (λ es. asks es + weight l.blocked) mine_none ∙ ap (λ b. 0 + weight b) f.blocked_is ∙ ap inline_in (sym given_none);
     ends = λ e. absurd (true≢false (sym e ∙ f.ended_is));
@@ -130,8 +128,8 @@ module _ (size : ℕ) (c : InputCell) (p : InputPass) (l : Lane) (f : IsFreshLan
     clear_is = λ e. absurd (true≢false (sym e ∙ f.clear_is));
   }
 
-  pub new_told : told_by l ≡ []
-  new_told = ap (λ ps. told ps (left_of l)) given_none ∙ ap (told []) left_none ∙ told_none
+  pub new_lines : lines_by l ≡ []
+  new_lines = told_still _ _ _ read_none
 
   pub new_barriers : barriers_by l ≡ []
   new_barriers = ap barriers_of given_none
@@ -189,9 +187,9 @@ module _ {A : Type 0} (w : Lane → A) (z : A) (size : ℕ)
   at_fresh (c ∷ cs) (p ∷ ps) (l ∷ ls) f h zero = none c p l f.0 (h.each 0 c p refl refl) h.first.0 h.no_entry.0 h.unseen.0 h.fits.0
   at_fresh (c ∷ cs) (p ∷ ps) (l ∷ ls) f h (suc d) = at_fresh cs ps ls f.1 (first_rest size c cs p ps h) d
 
-pub is_new : (size : ℕ) (cells : List InputCell) (passes : List InputPass) (ls : List Lane) → AreFreshLanes cells passes ls → AreFirst size cells passes → IsNew (account_of ls)
+pub is_new : (size : ℕ) (cells : List InputCell) (passes : List InputPass) (ls : List Lane) → AreFreshLanes cells passes ls → AreFirst size cells passes → IsNew (λ c. []) (account_of ls)
 is_new size cells passes ls f h = record {
-  told = at_fresh told_by [] size (λ c p l f a b m s k. new_told size c p l f a b m s k) cells passes ls f h;
+  lines = at_fresh lines_by [] size (λ c p l f a b m s k. new_lines size c p l f a b m s k) cells passes ls f h;
   barriers = at_fresh barriers_by [] size (λ c p l f a b m s k. new_barriers size c p l f a b m s k) cells passes ls f h;
   resumed = at_fresh resumed_by 0 size (λ c p l f a b m s k. new_resumed size c p l f a b m s k) cells passes ls f h;
   ended = at_fresh (λ (lane : Lane). lane.ended) false size (λ c p l f a b m s k. f.ended_is) cells passes ls f h;

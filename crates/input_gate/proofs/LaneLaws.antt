@@ -2,14 +2,14 @@
 use Rattle.std.proofs.Common.{Bool, true, false, cond, ◌≡◌, ℕ, suc, ◌+◌, ◌<◌, List, [], ◌∷◌, ◌++◌, length, Option, Some, None, refl, sym, ap, subst, ◌∙◌, arith, append_assoc, append-nil, length-append, true≢false}
 use Rattle.std.specs.Prelude.{if◌then◌else◌, MatchOption, IfSome}
 use Rattle.std.proofs.lemmas.List.Sums.{sum_by-append}
+use Rattle.turn_cell.specs.History.{entries_of}
 use Rattle.turn_cell.specs.Passes.{seen, mine}
 use Rattle.flow_defs.specs.Items.{Items}
 use Rattle.flow_defs.specs.declared.parcel.Parcel.{Parcel}
 use Rattle.flow_defs.specs.declared.parcel.Parcel.TheVariants as parcels
 use Rattle.flow_defs.specs.declared.task.BarrierKind.TheVariants.{Inline, Front}
-use Rattle.flow_defs.specs.Parcels.{barriers_of, has_end}
+use Rattle.flow_defs.specs.Parcels.{barriers_of, data_of, has_end}
 use Rattle.flow_defs.specs.Records.{encoded, IsShort, first_record}
-use Rattle.record_spans.specs.Spans.{HasNoRecord}
 use Rattle.input_channel.specs.declared.entry.Gave.{Gave}
 use Rattle.input_channel.specs.declared.entry.Gave.TheVariants.{NoBuffer, Exclusive, Floating}
 use Rattle.input_channel.specs.declared.entry.ReceiveEntry.{ReceiveEntry}
@@ -21,12 +21,14 @@ use Rattle.input_channel.proofs.CountLemmas.{count-snoc}
 use Rattle.input_channel.proofs.InboxLaws.{inline_in-append}
 use Rattle.flow_defs.proofs.ParcelLemmas.{barriers_of-append}
 use Rattle.input_gate.specs.declared.lane.Lane.{Lane}
-use Rattle.input_gate.specs.Gates.{Line}
-use Rattle.input_gate.specs.Turning.{InputPass, IsGatePass, IsEven, IsLater, NoFront, given_to}
-use Rattle.input_gate.specs.Told.{told, IsRead}
-use Rattle.input_gate.specs.Lanes.{polled, left_of, ready_bytes, spare_bytes, told_by, barriers_by, resumed_by, weight, due_back, IsLane, IsIdle, IsQuiet, Gives, GivesBarrier, IsResumed}
+use Rattle.input_channel.specs.Inboxes.{inbox}
+use Rattle.channel_cut.specs.Cuts.{InLine, IsRead, Shows}
+use Rattle.channel_cut.specs.Lanes.{PollCuts}
+use Rattle.channel_cut.proofs.Reading.{line_is_given}
+use Rattle.input_gate.specs.Turning.{InputPass, IsGatePass, IsEven, IsLater, EndsInPoll, NoFront, given_to}
+use Rattle.input_gate.specs.Lanes.{polled, left_of, ready_bytes, spare_bytes, lines_by, barriers_by, resumed_by, weight, due_back, IsLane, IsIdle, IsQuiet, Gives, GivesBarrier, IsResumed}
 use Rattle.input_gate.proofs.TurnLaws.{later_then, later_refl}
-use Rattle.input_gate.proofs.Growing.{read-data, told-data, read-line, told-line, read-inline, told-inline, read-front, told-front, read-end, told-end, ends_at, ends_still}
+use Rattle.input_gate.proofs.Reading.{read_polled, read_told, told_still, ends_at, ends_still}
 
 -- ---- counts of the gate's own entries
 
@@ -142,10 +144,10 @@ idle_same p q later given same = record { later = later; given = given; asked = 
 -- ---- lanes
 
 pub quiet_refl : (a : Lane) → IsQuiet a a
-quiet_refl a = record { cell = refl; later = later_refl a.pass; told = refl; barriers = refl; resumed = refl; blocked = refl }
+quiet_refl a = record { cell = refl; later = later_refl a.pass; lines = refl; barriers = refl; resumed = refl; blocked = refl }
 
 pub quiet_then : (a b c : Lane) → IsQuiet a b → IsQuiet b c → IsQuiet a c
-quiet_then a b c h k = record { cell = k.cell ∙ h.cell; later = later_then a.pass b.pass c.pass h.later k.later; told = k.told ∙ h.told; barriers = k.barriers ∙ h.barriers; resumed = k.resumed ∙ h.resumed; blocked = k.blocked ∙ h.blocked }
+quiet_then a b c h k = record { cell = k.cell ∙ h.cell; later = later_then a.pass b.pass c.pass h.later k.later; lines = k.lines ∙ h.lines; barriers = k.barriers ∙ h.barriers; resumed = k.resumed ∙ h.resumed; blocked = k.blocked ∙ h.blocked }
 
 apart : (b : Bool) → b ≡ true → b ≡ false → ⊥
 apart b h k = true≢false (sym h ∙ k)
@@ -162,11 +164,16 @@ module _ (size : ℕ) (a : Lane) (p : InputPass) (hold : Bool) (buf : HeldBuf) (
       let e : left_of a ≡ ready_bytes a.ready ++ (a.reader ++ []) = ap (λ s. ready_bytes a.ready ++ (a.reader ++ spare_bytes s)) no_spare in
       sym (append_assoc (ready_bytes a.ready) a.reader (content buf)) ∙ ap (λ z. (ready_bytes a.ready ++ z) ++ content buf) (sym (append-nil a.reader)) ∙ ap (λ z. z ++ content buf) (sym e)
 
+  read_more : IsRead [] (entries_of (seen p)) (lines_by a) (ready_bytes a.ready ++ (a.reader ++ content buf))
+  read_more =
+      subst (λ (bytes : List ℕ). IsRead [] (entries_of (seen p)) (lines_by a) bytes) (ap (λ z. left_of a ++ z) (append-nil (content buf)) ∙ sym rest_is)
+      (read_polled a.pass p (parcels.Data (content buf) ∷ []) (lines_by a) (left_of a) later.0 given h.read)
+
   pub lane_buffer : length buf.segment ≡ size → IsLane size (record a { clear = false; pass = p; spare = Some buf })
   lane_buffer fits = record {
     pass = pass;
     size_is = h.size_is;
-    read = read-data (polled a) (left_of a) (given_to p) (content buf) (ready_bytes a.ready ++ (a.reader ++ content buf)) given rest_is h.read;
+    read = read_told _ _ _ read_more;
     count = h.count ∙ ap length (sym (ap barriers_of given ∙ barriers_of-append (polled a) (parcels.Data (content buf) ∷ []) ∙ append-nil (barriers_by a)));
     asked = asked_same (resumed_by a) (asks (mine p)) a.blocked (polled a) (given_to p) (asks_other (Poll hold (gave_for buf.exclusive)) refl (mine a.pass) (mine p) entered) h.asked
         (ap inline_in given ∙ inline_in-append (polled a) (parcels.Data (content buf) ∷ []) ∙ (let z : inline_in (polled a) + 0 ≡ inline_in (polled a) = omega arith in z));
@@ -181,7 +188,7 @@ module _ (size : ℕ) (a : Lane) (p : InputPass) (hold : Bool) (buf : HeldBuf) (
   quiet_buffer = record {
     cell = refl;
     later = later;
-    told = told-data (polled a) (left_of a) (given_to p) (content buf) (ready_bytes a.ready ++ (a.reader ++ content buf)) given rest_is h.read;
+    lines = told_still _ _ _ read_more;
     barriers = ap barriers_of given ∙ barriers_of-append (polled a) (parcels.Data (content buf) ∷ []) ∙ append-nil (barriers_by a);
     resumed = asks_other (Poll hold (gave_for buf.exclusive)) refl (mine a.pass) (mine p) entered;
     blocked = refl;
@@ -198,12 +205,22 @@ module _ (size : ℕ) (a : Lane) (p : InputPass) (hold : Bool) (h : IsLane size 
   resumed_still : asks (mine p) ≡ resumed_by a
   resumed_still = asks_other (Poll hold NoBuffer) refl (mine a.pass) (mine p) entered
 
+  -- What gave no data leaves the rest as it was.
+  module _ (ps : List Parcel) (given : given_to p ≡ polled a ++ ps) (no_data : data_of ps ≡ []) where
+    read_still : IsRead [] (entries_of (seen p)) (lines_by a) (left_of a)
+    read_still =
+        subst (λ (bytes : List ℕ). IsRead [] (entries_of (seen p)) (lines_by a) bytes) (ap (λ z. left_of a ++ z) no_data ∙ append-nil (left_of a))
+        (read_polled a.pass p ps (lines_by a) (left_of a) later.0 given h.read)
+
+  none_given : given_to p ≡ polled a → given_to p ≡ polled a ++ []
+  none_given given = given ∙ sym (append-nil (polled a))
+
   -- nothing
   pub lane_nothing : given_to p ≡ polled a → IsLane size (record a { clear = false; pass = p })
   lane_nothing given = record {
     pass = pass;
     size_is = h.size_is;
-    read = subst (λ ps. IsRead ps (left_of a)) (sym given) h.read;
+    read = read_told _ _ _ (read_still [] (none_given given) refl);
     count = h.count ∙ ap (λ ps. length (barriers_of ps)) (sym given);
     asked = asked_same (resumed_by a) (asks (mine p)) a.blocked (polled a) (given_to p) resumed_still h.asked (ap inline_in given);
     ends = λ e. ap has_end given ∙ h.ends e;
@@ -214,14 +231,14 @@ module _ (size : ℕ) (a : Lane) (p : InputPass) (hold : Bool) (h : IsLane size 
   }
 
   pub quiet_nothing : given_to p ≡ polled a → IsQuiet a (record a { clear = false; pass = p })
-  quiet_nothing given = record { cell = refl; later = later; told = ap (λ ps. told ps (left_of a)) given; barriers = ap barriers_of given; resumed = resumed_still; blocked = refl }
+  quiet_nothing given = record { cell = refl; later = later; lines = told_still _ _ _ (read_still [] (none_given given) refl); barriers = ap barriers_of given; resumed = resumed_still; blocked = refl }
 
   -- the end
   pub lane_end : given_to p ≡ polled a ++ parcels.End ∷ [] → IsLane size (record a { clear = false; pass = p; ended = true })
   lane_end given = record {
     pass = pass;
     size_is = h.size_is;
-    read = read-end (polled a) (left_of a) (given_to p) given h.read;
+    read = read_told _ _ _ (read_still (parcels.End ∷ []) given refl);
     count = h.count ∙ ap length (sym (ap barriers_of given ∙ barriers_of-append (polled a) (parcels.End ∷ []) ∙ append-nil (barriers_by a)));
     asked = asked_same (resumed_by a) (asks (mine p)) a.blocked (polled a) (given_to p) resumed_still h.asked
         (ap inline_in given ∙ inline_in-append (polled a) (parcels.End ∷ []) ∙ (let z : inline_in (polled a) + 0 ≡ inline_in (polled a) = omega arith in z));
@@ -236,7 +253,7 @@ module _ (size : ℕ) (a : Lane) (p : InputPass) (hold : Bool) (h : IsLane size 
   quiet_end given = record {
     cell = refl;
     later = later;
-    told = told-end (polled a) (left_of a) (given_to p) given;
+    lines = told_still _ _ _ (read_still (parcels.End ∷ []) given refl);
     barriers = ap barriers_of given ∙ barriers_of-append (polled a) (parcels.End ∷ []) ∙ append-nil (barriers_by a);
     resumed = resumed_still;
     blocked = refl;
@@ -251,7 +268,7 @@ module _ (size : ℕ) (a : Lane) (p : InputPass) (hold : Bool) (h : IsLane size 
     lane_front = record {
       pass = pass;
       size_is = h.size_is;
-      read = read-front (polled a) (left_of a) (given_to p) k given h.read;
+      read = read_told _ _ _ (read_still (parcels.Barrier k Front ∷ []) given refl);
       count = number ∙ (let l = ap length barriers_more ∙ length-append (barriers_by a) ((k, Front) ∷ []) in let z : suc (length (barriers_by a)) ≡ length (barriers_of (given_to p)) = omega (arith, l) in z);
       asked = asked_same (resumed_by a) (asks (mine p)) a.blocked (polled a) (given_to p) resumed_still h.asked
           (ap inline_in given ∙ inline_in-append (polled a) (parcels.Barrier k Front ∷ []) ∙ (let z : inline_in (polled a) + 0 ≡ inline_in (polled a) = omega arith in z));
@@ -268,13 +285,14 @@ module _ (size : ℕ) (a : Lane) (p : InputPass) (hold : Bool) (h : IsLane size 
         cell = refl;
         later = later;
         free = free;
-        told = told-front (polled a) (left_of a) (given_to p) k given ∙ sym (append-nil (told_by a));
+        lines = told_still _ _ _ (read_still (parcels.Barrier k Front ∷ []) given refl) ∙ sym (append-nil (lines_by a));
         barriers_are = barriers_more;
         resumed = resumed_still;
       };
       number = number;
       not_held = not_held;
       whole = λ e. absurd (other e);
+      cuts = λ e. absurd (other e);
     }
       where
         other : Front ≡ Inline → ⊥
@@ -282,7 +300,7 @@ module _ (size : ℕ) (a : Lane) (p : InputPass) (hold : Bool) (h : IsLane size 
 
   -- an inline barrier
   module _ (k : ℕ) (given : given_to p ≡ polled a ++ parcels.Barrier k Inline ∷ []) (number : k ≡ suc (length (barriers_by a))) (free : a.blocked ≡ false) (no_ready : a.ready ≡ None)
-      (none : first_record a.reader ≡ None) (no_record : HasNoRecord a.reader) where
+      (none : first_record a.reader ≡ None) where
     reader_left : left_of a ≡ a.reader
     reader_left = ap (λ r. ready_bytes r ++ (a.reader ++ spare_bytes a.spare)) no_ready ∙ ap (λ s. a.reader ++ spare_bytes s) no_spare ∙ append-nil a.reader
 
@@ -293,7 +311,7 @@ module _ (size : ℕ) (a : Lane) (p : InputPass) (hold : Bool) (h : IsLane size 
     lane_inline = record {
       pass = pass;
       size_is = h.size_is;
-      read = read-inline (polled a) (left_of a) (given_to p) k given (ap first_record reader_left ∙ none) h.read;
+      read = read_told _ _ _ (read_still (parcels.Barrier k Inline ∷ []) given refl);
       count = number ∙ (let l = ap length stops_more ∙ length-append (barriers_by a) ((k, Inline) ∷ []) in let z : suc (length (barriers_by a)) ≡ length (barriers_of (given_to p)) = omega (arith, l) in z);
       asked =
           let i = ap inline_in given ∙ inline_in-append (polled a) (parcels.Barrier k Inline ∷ []) in
@@ -307,19 +325,29 @@ module _ (size : ℕ) (a : Lane) (p : InputPass) (hold : Bool) (h : IsLane size 
       clear_is = λ (e : false ≡ true). absurd (cc);
     }
 
-    pub gives_inline : (held : Bool) → held ≡ false → GivesBarrier held a (record a { clear = false; pass = p; barriers = k; blocked = true }) k Inline
-    gives_inline held not_held = record {
+    cuts_here : PollCuts → EndsInPoll a.pass p hold NoBuffer → Shows [] (entries_of (seen p)) (InLine k (lines_by a))
+    cuts_here cuts polling =
+        subst (λ (es : List ReceiveEntry). Shows [] es (InLine k (lines_by a))) (sym polling.ends)
+        (cuts polling.room [] polling.entries hold NoBuffer k (lines_by a) (left_of a) polling.legal
+        (number ∙ ap (λ (ps : List Parcel). suc (length (barriers_of ps))) (sym polling.given))
+        (sym (ap (λ (es : List ReceiveEntry). (inbox es).given) polling.ends) ∙ given ∙ ap (λ (ps : List Parcel). ps ++ parcels.Barrier k Inline ∷ []) (sym polling.given))
+        (record { is = ap data_of polling.given ∙ h.read.is; short = h.read.short })
+        (ap first_record reader_left ∙ none))
+
+    pub gives_inline : PollCuts → EndsInPoll a.pass p hold NoBuffer → (held : Bool) → held ≡ false → GivesBarrier held a (record a { clear = false; pass = p; barriers = k; blocked = true }) k Inline
+    gives_inline cuts polling held not_held = record {
       gives = record {
         cell = refl;
         later = later;
         free = free;
-        told = told-inline (polled a) (left_of a) (given_to p) k given (ap first_record reader_left ∙ none) h.read;
+        lines = told_still _ _ _ (read_still (parcels.Barrier k Inline ∷ []) given refl) ∙ sym (append-nil (lines_by a));
         barriers_are = stops_more;
         resumed = resumed_still;
       };
       number = number;
       not_held = not_held;
-      whole = λ e. subst HasNoRecord (sym reader_left) no_record;
+      whole = λ e. ap first_record reader_left ∙ none;
+      cuts = λ e. cuts_here cuts polling;
     }
 
 -- The bytes of the buffer are read, and it comes back.
@@ -341,11 +369,16 @@ module _ (size : ℕ) (a : Lane) (buf : HeldBuf) (h : IsLane size a) (spare : a.
     resumed_back : asks (mine q) ≡ resumed_by a
     resumed_back = idle.asked ∙ asks_other (Returned buf.exclusive) refl (mine a.pass) (mine p) entered
 
+    read_back : IsRead [] (entries_of (seen q)) (lines_by a) (ready_bytes a.ready ++ (reader ++ []))
+    read_back =
+        subst (λ (bytes : List ℕ). IsRead [] (entries_of (seen q)) (lines_by a) bytes) (append-nil (left_of a) ∙ sym (read_left reader fed))
+        (read_polled a.pass q [] (lines_by a) (left_of a) (later_then a.pass p q later idle.later).0 (given_back ∙ sym (append-nil (polled a))) h.read)
+
     lane_read : IsLane size (record a { clear = false; pass = q; reader = reader; spare = None })
     lane_read = record {
       pass = pass;
       size_is = h.size_is;
-      read = subst (λ ps. IsRead ps (ready_bytes a.ready ++ (reader ++ []))) (sym given_back) (subst (IsRead (polled a)) (sym (read_left reader fed)) h.read);
+      read = read_told _ _ _ read_back;
       count = h.count ∙ ap (λ ps. length (barriers_of ps)) (sym given_back);
       asked = asked_same (resumed_by a) (asks (mine q)) a.blocked (polled a) (given_to q) resumed_back h.asked (ap inline_in given_back);
       ends = λ e. ap has_end given_back ∙ h.ends e;
@@ -362,7 +395,7 @@ module _ (size : ℕ) (a : Lane) (buf : HeldBuf) (h : IsLane size a) (spare : a.
     quiet_back = record {
       cell = refl;
       later = later_then a.pass p q later idle.later;
-      told = ap (λ ps. told ps (ready_bytes a.ready ++ (reader ++ []))) given_back ∙ ap (told (polled a)) (read_left reader fed);
+      lines = told_still _ _ _ read_back;
       barriers = ap barriers_of given_back;
       resumed = resumed_back;
       blocked = refl;
@@ -376,11 +409,16 @@ module _ (size : ℕ) (a : Lane) (line : Items ℕ) (h : IsLane size a) (ready :
   line_short : IsShort line.items
   line_short = subst (λ r. IfSome r (λ line. IsShort line.items)) ready h.short
 
+  read_given : IsRead [] (entries_of (seen a.pass)) (lines_by a ++ line.items ∷ []) (a.reader ++ spare_bytes a.spare)
+  read_given =
+      line_is_given [] (entries_of (seen a.pass)) (lines_by a) line.items (a.reader ++ spare_bytes a.spare) line_short
+      (subst (λ (bytes : List ℕ). IsRead [] (entries_of (seen a.pass)) (lines_by a) bytes) line_left h.read)
+
   pub lane_line : IsLane size (record a { ready = None })
   lane_line = record {
     pass = h.pass;
     size_is = h.size_is;
-    read = read-line (polled a) (left_of a) line.items (a.reader ++ spare_bytes a.spare) line_left line_short h.read;
+    read = read_told _ _ _ read_given;
     count = h.count;
     asked = h.asked;
     ends = h.ends;
@@ -390,13 +428,13 @@ module _ (size : ℕ) (a : Lane) (line : Items ℕ) (h : IsLane size a) (ready :
     clear_is = h.clear_is;
   }
 
-  pub gives_line : a.blocked ≡ false → Gives a (record a { ready = None }) (Line line.items ∷ []) [] × IsShort line.items
+  pub gives_line : a.blocked ≡ false → Gives a (record a { ready = None }) (line.items ∷ []) [] × IsShort line.items
   gives_line free = (
     record {
       cell = refl;
       later = later_refl a.pass;
       free = free;
-      told = told-line (polled a) (left_of a) line.items (a.reader ++ spare_bytes a.spare) line_left line_short h.read;
+      lines = told_still _ _ _ read_given;
       barriers_are = sym (append-nil (barriers_by a));
       resumed = refl;
     },
@@ -408,12 +446,19 @@ lane_given size a None now e n h = subst (λ x. IsLane size (record a { ready = 
 lane_given size a (Some line) now e n h = subst (λ x. IsLane size (record a { ready = x })) (sym n) (lane_line size a line h e)
 
 pub given_line : (size : ℕ) (a : Lane) (r now : Option (Items ℕ)) → a.ready ≡ r → now ≡ None → a.blocked ≡ false → IsLane size a →
-    MatchOption r (record a { ready = now } ≡ a) (λ line. Gives a (record a { ready = now }) (Line line.items ∷ []) [] × IsShort line.items)
+    MatchOption r (record a { ready = now } ≡ a) (λ line. Gives a (record a { ready = now }) (line.items ∷ []) [] × IsShort line.items)
 given_line size a None now e n free h = ap (λ x. record a { ready = x }) (n ∙ sym e)
-given_line size a (Some line) now e n free h = subst (λ x. Gives a (record a { ready = x }) (Line line.items ∷ []) [] × IsShort line.items) (sym n) (gives_line size a line h e free)
+given_line size a (Some line) now e n free h = subst (λ x. Gives a (record a { ready = x }) (line.items ∷ []) [] × IsShort line.items) (sym n) (gives_line size a line h e free)
 
 pub lane_same : (size : ℕ) (a : Lane) (reader : List ℕ) (spare : Option HeldBuf) → reader ≡ a.reader → spare ≡ a.spare → IsLane size a → IsLane size (record a { reader = reader; spare = spare })
 lane_same size a reader spare r s h = subst (λ x. IsLane size (record a { reader = reader; spare = x })) (sym s) (subst (λ x. IsLane size (record a { reader = x })) (sym r) h)
+
+-- ---- turns that give nothing
+
+read_as_it_was : (a : Lane) (p : InputPass) → IsLater a.pass p → given_to p ≡ polled a → IsRead [] (entries_of (seen a.pass)) (lines_by a) (left_of a) → IsRead [] (entries_of (seen p)) (lines_by a) (left_of a)
+read_as_it_was a p later given read =
+    subst (λ (bytes : List ℕ). IsRead [] (entries_of (seen p)) (lines_by a) bytes) (append-nil (left_of a))
+    (read_polled a.pass p [] (lines_by a) (left_of a) later.0 (given ∙ sym (append-nil (polled a))) read)
 
 -- ---- a resumption
 
@@ -436,12 +481,12 @@ even_between es ds now is even kind =
     no_poll true = refl
     no_poll false = refl
 
-module _ (size : ℕ) (a : Lane) (p : InputPass) (h : IsLane size a) (blocked : a.blocked ≡ true) (given : given_to p ≡ polled a) (entered : mine p ≡ mine a.pass ++ Ask ∷ []) where
+module _ (size : ℕ) (a : Lane) (p : InputPass) (h : IsLane size a) (blocked : a.blocked ≡ true) (later : IsLater a.pass p) (given : given_to p ≡ polled a) (entered : mine p ≡ mine a.pass ++ Ask ∷ []) where
   pub lane_resumed : IsGatePass a.cell.now p → IsLane size (record a { clear = false; pass = p; blocked = false })
   lane_resumed pass = record {
     pass = pass;
     size_is = h.size_is;
-    read = subst (λ ps. IsRead ps (left_of a)) (sym given) h.read;
+    read = read_told _ _ _ (read_as_it_was a p later given h.read);
     count = h.count ∙ ap (λ ps. length (barriers_of ps)) (sym given);
     asked =
         let w : resumed_by a + 1 ≡ inline_in (polled a) = ap (λ b. resumed_by a + weight b) (sym blocked) ∙ h.asked in
@@ -456,7 +501,7 @@ module _ (size : ℕ) (a : Lane) (p : InputPass) (h : IsLane size a) (blocked : 
   }
 
   pub is_resumed : IsResumed a (record a { clear = false; pass = p; blocked = false })
-  is_resumed = record { cell = refl; told = ap (λ ps. told ps (left_of a)) given; barriers = ap barriers_of given; resumed = asks_more (mine a.pass) (mine p) entered; ended = refl; left = refl }
+  is_resumed = record { cell = refl; lines = told_still _ _ _ (read_as_it_was a p later given h.read); barriers = ap barriers_of given; resumed = asks_more (mine a.pass) (mine p) entered; ended = refl; left = refl; later = later }
 
 pub owed_at : (size : ℕ) (a : Lane) → IsLane size a → a.blocked ≡ true → asks (mine a.pass) < inline_in (polled a)
 owed_at size a h blocked = let w : resumed_by a + 1 ≡ inline_in (polled a) = ap (λ b. resumed_by a + weight b) (sym blocked) ∙ h.asked in omega (arith, w)
@@ -467,7 +512,7 @@ module _ (size : ℕ) (a : Lane) (p : InputPass) (h : IsLane size a) (later : Is
   lane_looked pass none = record {
     pass = pass;
     size_is = h.size_is;
-    read = subst (λ ps. IsRead ps (left_of a)) (sym given) h.read;
+    read = read_told _ _ _ (read_as_it_was a p later given h.read);
     count = h.count ∙ ap (λ ps. length (barriers_of ps)) (sym given);
     asked = asked_same (resumed_by a) (asks (mine p)) a.blocked (polled a) (given_to p) (ap asks entered) h.asked (ap inline_in given);
     ends = λ e. ap has_end given ∙ h.ends e;
@@ -478,4 +523,4 @@ module _ (size : ℕ) (a : Lane) (p : InputPass) (h : IsLane size a) (later : Is
   }
 
   pub quiet_looked : IsQuiet a (record a { clear = true; pass = p })
-  quiet_looked = record { cell = refl; later = later; told = ap (λ ps. told ps (left_of a)) given; barriers = ap barriers_of given; resumed = ap asks entered; blocked = refl }
+  quiet_looked = record { cell = refl; later = later; lines = told_still _ _ _ (read_as_it_was a p later given h.read); barriers = ap barriers_of given; resumed = ap asks entered; blocked = refl }

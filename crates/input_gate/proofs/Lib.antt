@@ -1,5 +1,5 @@
 pub mod GateLaws
-pub mod Growing
+pub mod Reading
 pub mod LaneLaws
 pub mod RoundLaws
 pub mod SegmentLaws

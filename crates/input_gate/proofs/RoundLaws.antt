@@ -4,11 +4,17 @@ use Rattle.std.specs.Prelude.{slice_set, MatchOption, IfNone, IfErr, OnOk}
 use Rattle.flow_defs.specs.Items.{Items}
 use mathlib.Core.Logic.{dite}
 use native.Mathlib.Decide.{ℕ_discrete}
-use Rattle.turn_cell.specs.History.{StartsWith}
-use Rattle.turn_cell.proofs.Lists.{starts_itself}
+use Rattle.turn_cell.specs.History.{StartsWith, entries_of}
+use Rattle.turn_cell.specs.Passes.{seen}
+use Rattle.turn_cell.proofs.Lists.{starts_itself, starts_on}
+use Rattle.turn_cell.proofs.Histories.{entries_of-append}
+use Rattle.input_channel.specs.declared.entry.ReceiveEntry.{ReceiveEntry}
+use Rattle.channel_cut.specs.Cuts.{Cut, InLine, Shows}
+use Rattle.channel_cut.proofs.Cutting.{cuts_stay}
+use Rattle.gate_account.specs.Accounts.{Account, GaveOf, GaveNothing, CutsInLine, IsNext, IsFree, IsBlocked, Keeps, Resumed, inlines}
 use Rattle.flow_defs.specs.declared.task.BarrierKind.{BarrierKind}
 use Rattle.flow_defs.specs.declared.task.BarrierKind.TheVariants.{Inline, Front}
-use Rattle.flow_defs.specs.Records.{IsShort}
+use Rattle.flow_defs.specs.Records.{IsShort, first_record}
 use Rattle.record_spans.specs.Spans.{HasNoRecord}
 use Rattle.input_channel.specs.declared.held.HeldBuf.{HeldBuf}
 use Rattle.input_gate.specs.declared.gate.GateItem.{GateItem}
@@ -20,11 +26,11 @@ use Rattle.input_gate.specs.declared.lane.LaneFault.{LaneFault}
 use Rattle.input_gate.specs.declared.lane.LaneFault.TheVariants.{Memory, TooLong, Left}
 use Rattle.input_gate.specs.declared.lane.LaneStep.{LaneStep}
 use Rattle.input_gate.specs.declared.lane.LaneStep.TheVariants.{Nothing, Found, Barrier}
-use Rattle.input_gate.specs.Gates.{Told, Line, Account, GaveOf, GaveNothing, Gave, IsNext, Ended, IsFree, Resumed, stops_in}
-use Rattle.input_gate.specs.Turning.{Looks, looks_of, Looked}
-use Rattle.input_gate.specs.Lanes.{IsLane, IsQuiet, Gives, GivesBarrier, IsFault, IsResumed, Came, told_by, barriers_by, resumed_by, left_of, polled, weight}
-use Rattle.input_gate.specs.Channels.{AreLanes, AreQuiet, HaveNoSpare, account_of, at_of, cells_in, looks_in, IsMost, MayGive, CameAt, LookedAt, HasLooked, HaveNoSpareBelow, GaveUp, end_of}
-use Rattle.input_gate.proofs.Growing.{told-stops}
+use Rattle.input_gate.specs.Gates.{Gave, Ended}
+use Rattle.input_gate.specs.Turning.{IsLater, Looks, looks_of, Looked}
+use Rattle.input_gate.specs.Lanes.{IsLane, IsQuiet, Gives, GivesBarrier, IsFault, IsResumed, Came, shows_by, lines_by, barriers_by, resumed_by, left_of, polled, weight}
+use Rattle.input_gate.specs.Channels.{AreLanes, AreLater, AreQuiet, HaveNoSpare, account_of, shows_in, at_of, cells_in, looks_in, IsMost, MayGive, CameAt, LookedAt, HasLooked, HaveNoSpareBelow, GaveUp, end_of}
+use Rattle.input_gate.proofs.Reading.{inlines_of}
 use Rattle.input_gate.proofs.LaneLaws.{quiet_refl, quiet_then}
 
 order : (m b : ℕ) → (m < b) ⊎ (b ≤ m)
@@ -120,30 +126,30 @@ module _ {A : Type 0} (f : Lane → A) (z : A) where
 
 pub record IsSame (g h : Account) : Type 0 where
   pub channels : h.channels ≡ g.channels
-  pub told : (d : ℕ) → h.told d ≡ g.told d
+  pub lines : (d : ℕ) → h.lines d ≡ g.lines d
   pub barriers : (d : ℕ) → h.barriers d ≡ g.barriers d
   pub resumed : (d : ℕ) → h.resumed d ≡ g.resumed d
 
 pub same_of : (ls ms : List Lane) → AreQuiet ls ms → IsSame (account_of ls) (account_of ms)
 same_of ls ms h = record {
   channels = quiet_length ls ms h;
-  told = λ d. at_quiet told_by [] (λ a b q. q.told) ls ms d h;
+  lines = λ d. at_quiet lines_by [] (λ a b q. q.lines) ls ms d h;
   barriers = λ d. at_quiet barriers_by [] (λ a b q. q.barriers) ls ms d h;
   resumed = λ d. at_quiet resumed_by 0 (λ a b q. q.resumed) ls ms d h;
 }
 
 pub nothing_of : (g h : Account) → IsSame g h → GaveNothing g h
-nothing_of g h s = record { told = s.told; barriers = s.barriers; resumed = s.resumed }
+nothing_of g h s = record { lines = s.lines; barriers = s.barriers; resumed = s.resumed }
 
 nothing_then : (g h k : Account) → IsSame g h → GaveNothing h k → GaveNothing g k
-nothing_then g h k s r = record { told = λ d. r.told d ∙ s.told d; barriers = λ d. r.barriers d ∙ s.barriers d; resumed = λ d. r.resumed d ∙ s.resumed d }
+nothing_then g h k s r = record { lines = λ d. r.lines d ∙ s.lines d; barriers = λ d. r.barriers d ∙ s.barriers d; resumed = λ d. r.resumed d ∙ s.resumed d }
 
-of_then : (g h k : Account) (c : ℕ) (told : List Told) (barriers : List (ℕ × BarrierKind)) → IsSame g h → GaveOf h k c told barriers → GaveOf g k c told barriers
-of_then g h k c told barriers s r = record {
+of_then : (g h k : Account) (c : ℕ) (lines : List (List ℕ)) (barriers : List (ℕ × BarrierKind)) → IsSame g h → GaveOf h k c lines barriers → GaveOf g k c lines barriers
+of_then g h k c lines barriers s r = record {
   within = subst (λ n. c < n) s.channels r.within;
-  was_free = ap stops_in (sym (s.told c)) ∙ r.was_free ∙ s.resumed c;
-  told_here = r.told_here ∙ ap (λ t. t ++ told) (s.told c);
-  told_elsewhere = λ d ne. r.told_elsewhere d ne ∙ s.told d;
+  was_free = ap inlines (sym (s.barriers c)) ∙ r.was_free ∙ s.resumed c;
+  lines_here = r.lines_here ∙ ap (λ l. l ++ lines) (s.lines c);
+  lines_elsewhere = λ d ne. r.lines_elsewhere d ne ∙ s.lines d;
   barriers_here = r.barriers_here ∙ ap (λ t. t ++ barriers) (s.barriers c);
   barriers_elsewhere = λ d ne. r.barriers_elsewhere d ne ∙ s.barriers d;
   resumed = λ d. r.resumed d ∙ s.resumed d;
@@ -161,12 +167,15 @@ ended_then g h k ends.Memory s r = tt
 ended_then g h k (ends.TooLong c len) s r = (subst (λ n. c < n) s.channels r.0, r.1)
 ended_then g h k (ends.Left c len) s r = (subst (λ n. c < n) s.channels r.0, r.1, r.2, r.3, r.4)
 
-pub gave_then : (g h k : Account) (hold : Bool) (result : Result GateItem GateEnd) → IsSame g h → Gave h k hold result → Gave g k hold result
-gave_then g h k hold (Ok (items.Line c line)) s r = (r.0, of_then g h k c _ _ s r.1)
-gave_then g h k hold (Ok (items.Barrier c n Inline)) s r = (next_then g h k hold c n s r.0, of_then g h k c _ _ s r.1, r.2)
-gave_then g h k hold (Ok (items.Barrier c n Front)) s r = (next_then g h k hold c n s r.0, of_then g h k c _ _ s r.1)
-gave_then g h k hold (Ok items.AllEnded) s r = (nothing_then g h k s r.0, r.1)
-gave_then g h k hold (Err end) s r = (nothing_then g h k s r.0, ended_then g h k end s r.1)
+cuts_then : (g h k : Account) (shows : ℕ → Cut → Type 0) (c n : ℕ) → IsSame g h → CutsInLine h k shows c n → CutsInLine g k shows c n
+cuts_then g h k shows c n s r = (r.0, subst (λ (l : List (List ℕ)). shows c (InLine n l)) (s.lines c) r.1)
+
+pub gave_then : (g h k : Account) (shows : ℕ → Cut → Type 0) (hold : Bool) (result : Result GateItem GateEnd) → IsSame g h → Gave h k shows hold result → Gave g k shows hold result
+gave_then g h k shows hold (Ok (items.Line c line)) s r = (r.0, of_then g h k c _ _ s r.1)
+gave_then g h k shows hold (Ok (items.Barrier c n Inline)) s r = (next_then g h k hold c n s r.0, of_then g h k c _ _ s r.1, cuts_then g h k shows c n s r.2)
+gave_then g h k shows hold (Ok (items.Barrier c n Front)) s r = (next_then g h k hold c n s r.0, of_then g h k c _ _ s r.1)
+gave_then g h k shows hold (Ok items.AllEnded) s r = (nothing_then g h k s r.0, r.1)
+gave_then g h k shows hold (Err end) s r = (nothing_then g h k s r.0, ended_then g h k end s r.1)
 
 pub most_then : (g h : Account) (most : ℕ) → IsSame g h → IsMost g most → IsMost h most
 most_then g h most s r = record {
@@ -175,7 +184,7 @@ most_then g h most s r = record {
 }
 
 pub free_then : (g h : Account) (c : ℕ) → IsSame g h → IsFree g c → IsFree h c
-free_then g h c s f = ap stops_in (s.told c) ∙ f ∙ sym (s.resumed c)
+free_then g h c s f = ap inlines (s.barriers c) ∙ f ∙ sym (s.resumed c)
 
 pub may_then : (g h : Account) (hold : Bool) (c : ℕ) → IsSame g h → MayGive hold g c → MayGive hold h c
 may_then g h hold c s f e =
@@ -184,8 +193,8 @@ may_then g h hold c s f e =
 
 -- ---- one channel changes
 
-stops_are : (size : ℕ) (y : Lane) → IsLane size y → stops_in (told_by y) ≡ resumed_by y + weight y.blocked
-stops_are size y h = told-stops (polled y) (left_of y) h.read ∙ sym h.asked
+inlines_are : (size : ℕ) (y : Lane) → IsLane size y → inlines (barriers_by y) ≡ resumed_by y + weight y.blocked
+inlines_are size y h = inlines_of (polled y) ∙ sym h.asked
 
 module _ (size : ℕ) (ls : List Lane) (i : ℕ) (x y l : Lane) (e : y ≡ get_or ls i x) (low : i < length ls) (h : AreLanes size ls) where
   here : IsLane size y
@@ -193,28 +202,28 @@ module _ (size : ℕ) (ls : List Lane) (i : ℕ) (x y l : Lane) (e : y ≡ get_o
 
   free_here : y.blocked ≡ false → IsFree (account_of ls) i
   free_here free =
-      ap stops_in (at_get told_by [] ls i x y e low) ∙ stops_are size y here ∙ ap (λ b. resumed_by y + weight b) free
+      ap inlines (at_get barriers_by [] ls i x y e low) ∙ inlines_are size y here ∙ ap (λ b. resumed_by y + weight b) free
       ∙ (let z : resumed_by y + 0 ≡ resumed_by y = omega arith in z) ∙ sym (at_get resumed_by 0 ls i x y e low)
 
   pub not_free : y.blocked ≡ true → IsFree (account_of ls) i → ⊥
   not_free blocked free =
-      let a = ap stops_in (at_get told_by [] ls i x y e low) ∙ stops_are size y here ∙ ap (λ b. resumed_by y + weight b) blocked in
+      let a = ap inlines (at_get barriers_by [] ls i x y e low) ∙ inlines_are size y here ∙ ap (λ b. resumed_by y + weight b) blocked in
       let b = at_get resumed_by 0 ls i x y e low in
       omega (arith, a, b, free)
 
-  pub blocked_here : (b : Bool) → b ≡ y.blocked → stops_in ((account_of ls).told i) ≡ suc ((account_of ls).resumed i) → b ≡ true
+  pub blocked_here : (b : Bool) → b ≡ y.blocked → IsBlocked (account_of ls) i → b ≡ true
   blocked_here true is stopped = refl
   blocked_here false is stopped =
-      let a = ap stops_in (at_get told_by [] ls i x y e low) ∙ stops_are size y here ∙ ap (λ b. resumed_by y + weight b) (sym is) in
+      let a = ap inlines (at_get barriers_by [] ls i x y e low) ∙ inlines_are size y here ∙ ap (λ b. resumed_by y + weight b) (sym is) in
       let b = at_get resumed_by 0 ls i x y e low in
       absurd (omega (arith, a, b, stopped))
 
-  pub gave_of : (more : List Told) (barriers : List (ℕ × BarrierKind)) → Gives y l more barriers → GaveOf (account_of ls) (account_of (slice_set ls i l)) i more barriers
+  pub gave_of : (more : List (List ℕ)) (barriers : List (ℕ × BarrierKind)) → Gives y l more barriers → GaveOf (account_of ls) (account_of (slice_set ls i l)) i more barriers
   gave_of more barriers g = record {
     within = low;
     was_free = free_here g.free;
-    told_here = at_here told_by [] ls i l low ∙ g.told ∙ ap (λ t. t ++ more) (sym (at_get told_by [] ls i x y e low));
-    told_elsewhere = λ d ne. at_there told_by [] ls i d l ne;
+    lines_here = at_here lines_by [] ls i l low ∙ g.lines ∙ ap (λ t. t ++ more) (sym (at_get lines_by [] ls i x y e low));
+    lines_elsewhere = λ d ne. at_there lines_by [] ls i d l ne;
     barriers_here = at_here barriers_by [] ls i l low ∙ g.barriers_are ∙ ap (λ t. t ++ barriers) (sym (at_get barriers_by [] ls i x y e low));
     barriers_elsewhere = λ d ne. at_there barriers_by [] ls i d l ne;
     resumed = λ d. at_same resumed_by 0 ls i d x y l e low g.resumed;
@@ -231,9 +240,14 @@ module _ (size : ℕ) (ls : List Lane) (i : ℕ) (x y l : Lane) (e : y ≡ get_o
           (r.0, r.1, omega (arith, r.2, b, count, number));
     }
 
+    cuts_at : (k : ℕ) → shows_by l (InLine k (lines_by y)) → shows_in (slice_set ls i l) i (InLine k ((account_of ls).lines i))
+    cuts_at k shown =
+        subst (λ (s : Looks). Shows [] (entries_of s.0) (InLine k ((account_of ls).lines i))) (sym (at_here (λ (lane : Lane). looks_of lane.pass) ([], []) ls i l low))
+        (subst (λ (t : List (List ℕ)). shows_by l (InLine k t)) (sym (at_get lines_by [] ls i x y e low)) shown)
+
     pub gave_barrier : (held : Bool) (k : ℕ) (kind : BarrierKind) → GivesBarrier held y l k kind → (held ≡ false → hold ≡ true → y.barriers < most) →
-        Gave (account_of ls) (account_of (slice_set ls i l)) hold (Ok (items.Barrier i k kind))
-    gave_barrier held k Inline g below = (next_of k g.number (below g.not_held), gave_of _ _ g.gives, subst HasNoRecord (sym (at_here left_of [] ls i l low)) (g.whole refl))
+        Gave (account_of ls) (account_of (slice_set ls i l)) (shows_in (slice_set ls i l)) hold (Ok (items.Barrier i k kind))
+    gave_barrier held k Inline g below = (next_of k g.number (below g.not_held), gave_of _ _ g.gives, (ap first_record (at_here left_of [] ls i l low) ∙ g.whole refl, cuts_at k (g.cuts refl)))
     gave_barrier held k Front g below = (next_of k g.number (below g.not_held), gave_of _ _ g.gives)
 
     pub came_at : (held : Bool) (result : Result LaneStep LaneFault) → Came held y result l → (held ≡ false → hold ≡ true → y.barriers < most) → CameAt hold i ls result (slice_set ls i l)
@@ -267,7 +281,7 @@ module _ (size : ℕ) (ls : List Lane) (i : ℕ) (x y l : Lane) (e : y ≡ get_o
 
   pub resumed_of : IsResumed y l → Resumed (account_of ls) (account_of (slice_set ls i l)) i
   resumed_of r = record {
-    told = λ d. at_same told_by [] ls i d x y l e low r.told;
+    lines = λ d. at_same lines_by [] ls i d x y l e low r.lines;
     barriers = λ d. at_same barriers_by [] ls i d x y l e low r.barriers;
     here = at_here resumed_by 0 ls i l low ∙ r.resumed ∙ ap suc (sym (at_get resumed_by 0 ls i x y e low));
     elsewhere = λ d ne. at_there resumed_by 0 ls i d l ne;
@@ -296,12 +310,12 @@ same_lane (l ∷ ls) (suc i) x x' y y' e e' low = same_lane ls i x x' y y' e e' 
 
 -- a line was given, or not
 module _ (size : ℕ) (ls : List Lane) (i : ℕ) (x y l : Lane) (e : y ≡ get_or ls i x) (low : i < length ls) (h : AreLanes size ls) where
-  pub line_given : (r : Option (Items ℕ)) → MatchOption r (l ≡ y) (λ line. Gives y l (Line line.items ∷ []) [] × IsShort line.items) →
-      MatchOption r (AreQuiet ls (slice_set ls i l)) (λ line. GaveOf (account_of ls) (account_of (slice_set ls i l)) i (Line line.items ∷ []) [] × IsShort line.items)
+  pub line_given : (r : Option (Items ℕ)) → MatchOption r (l ≡ y) (λ line. Gives y l (line.items ∷ []) [] × IsShort line.items) →
+      MatchOption r (AreQuiet ls (slice_set ls i l)) (λ line. GaveOf (account_of ls) (account_of (slice_set ls i l)) i (line.items ∷ []) [] × IsShort line.items)
   line_given None m = quiet_set ls i x y l e low (subst (IsQuiet y) (sym m) (quiet_refl y))
-  line_given (Some line) m = (gave_of size ls i x y l e low h (Line line.items ∷ []) [] m.0, m.1)
+  line_given (Some line) m = (gave_of size ls i x y l e low h (line.items ∷ []) [] m.0, m.1)
 
-  pub line_cell : (r : Option (Items ℕ)) → MatchOption r (l ≡ y) (λ line. Gives y l (Line line.items ∷ []) [] × IsShort line.items) → l.cell ≡ y.cell
+  pub line_cell : (r : Option (Items ℕ)) → MatchOption r (l ≡ y) (λ line. Gives y l (line.items ∷ []) [] × IsShort line.items) → l.cell ≡ y.cell
   line_cell None m = ap (λ (lane : Lane). lane.cell) m
   line_cell (Some line) m = m.0.cell
 
@@ -344,8 +358,8 @@ up_of ls ms ns end q r e own = record { quiet = quiet_on ls ms ns q r; ended = e
 pub up_then : (ls ms ns : List Lane) (end : GateEnd) → AreQuiet ls ms → GaveUp ms ns end → GaveUp ls ns end
 up_then ls ms ns end q u = up_of ls ms ns end q u.quiet u.ended u.own
 
-pub gave_on : (ls ms ns : List Lane) (hold : Bool) (item : GateItem) → AreQuiet ls ms → Gave (account_of ms) (account_of ns) hold (Ok item) → Gave (account_of ls) (account_of ns) hold (Ok item)
-gave_on ls ms ns hold item q g = gave_then (account_of ls) (account_of ms) (account_of ns) hold (Ok item) (same_of ls ms q) g
+pub gave_on : (ls ms ns : List Lane) (hold : Bool) (item : GateItem) → AreQuiet ls ms → Gave (account_of ms) (account_of ns) (shows_in ns) hold (Ok item) → Gave (account_of ls) (account_of ns) (shows_in ns) hold (Ok item)
+gave_on ls ms ns hold item q g = gave_then (account_of ls) (account_of ms) (account_of ns) (shows_in ns) hold (Ok item) (same_of ls ms q) g
 
 pub most_on : (ls ms : List Lane) (most : ℕ) → AreQuiet ls ms → IsMost (account_of ls) most → IsMost (account_of ms) most
 most_on ls ms most q m = most_then (account_of ls) (account_of ms) most (same_of ls ms q) m
@@ -356,6 +370,49 @@ looks_later [] (m ∷ ms) h d = absurd h
 looks_later (l ∷ ls) [] h d = absurd h
 looks_later (l ∷ ls) (m ∷ ms) h zero = h.0.later.1
 looks_later (l ∷ ls) (m ∷ ms) h (suc d) = looks_later ls ms h.1 d
+
+-- ---- what the passes have seen
+
+pub quiet_later : (ls ms : List Lane) → AreQuiet ls ms → AreLater ls ms
+quiet_later [] [] h d = starts_itself []
+quiet_later [] (m ∷ ms) h d = absurd h
+quiet_later (l ∷ ls) [] h d = absurd h
+quiet_later (l ∷ ls) (m ∷ ms) h zero = h.0.later.0
+quiet_later (l ∷ ls) (m ∷ ms) h (suc d) = quiet_later ls ms h.1 d
+
+pub later_all : (ls : List Lane) → AreLater ls ls
+later_all ls = quiet_later ls ls (quiet_all ls)
+
+pub later_on : (ls ms ns : List Lane) → AreLater ls ms → AreLater ms ns → AreLater ls ns
+later_on ls ms ns h k d = starts_on (looks_in ns d).0 (looks_in ms d).0 (looks_in ls d).0 (k d) (h d)
+
+pub later_same : (ls ms : List Lane) → ((d : ℕ) → looks_in ms d ≡ looks_in ls d) → AreLater ls ms
+later_same ls ms same d = subst (λ (s : Looks). StartsWith s.0 (looks_in ls d).0) (sym (same d)) (starts_itself (looks_in ls d).0)
+
+pub later_set : (ls : List Lane) (i : ℕ) (x y l : Lane) → y ≡ get_or ls i x → i < length ls → IsLater y.pass l.pass → AreLater ls (slice_set ls i l)
+later_set [] i x y l e low later d = absurd (omega arith)
+later_set (z ∷ ls) zero x y l e low later zero = subst (λ (lane : Lane). StartsWith (seen l.pass) (seen lane.pass)) e later.0
+later_set (z ∷ ls) zero x y l e low later (suc d) = starts_itself (looks_in ls d).0
+later_set (z ∷ ls) (suc i) x y l e low later zero = starts_itself (seen z.pass)
+later_set (z ∷ ls) (suc i) x y l e low later (suc d) = later_set ls i x y l e (omega arith) later d
+
+pub came_later : (held : Bool) (y l : Lane) (r : Result LaneStep LaneFault) → Came held y r l → IsLater y.pass l.pass
+came_later held y l (Ok Nothing) m = m.later
+came_later held y l (Ok Found) m = m.later
+came_later held y l (Ok (Barrier k kind)) m = m.gives.later
+came_later held y l (Err fault) m = m.0.later
+
+pub look_later : (y l : Lane) (r : Option ℕ) → MatchOption r (IsQuiet y l) (λ k. GivesBarrier false y l k Front) → IsLater y.pass l.pass
+look_later y l None m = m.later
+look_later y l (Some k) m = m.gives.later
+
+-- What was shown is shown still.
+pub kept_on : (ls ms : List Lane) → AreLater ls ms → Keeps (shows_in ls) (shows_in ms)
+kept_on ls ms later c cut shown =
+    let before = (looks_in ls c).0 in
+    subst (λ (es : List ReceiveEntry). Shows [] es cut) (sym (ap entries_of (later c).1 ∙ entries_of-append before (later c).0)) (cuts_stay [] (entries_of before) (entries_of (later c).0) cut shown)
+
+-- ---- looks
 
 pub looked_wide : (before since now : Looks) → StartsWith since.1 before.1 → Looked since now → Looked before now
 looked_wide before since now s k = record {

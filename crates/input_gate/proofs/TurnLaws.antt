@@ -27,7 +27,7 @@ use Rattle.input_channel.specs.Theorems.{CallsAreLegal, CallsAddEntries, PassesA
 use Rattle.input_channel.proofs.InboxLaws.{inbox-more}
 use Rattle.flow_defs.proofs.ParcelLemmas.{barriers_of-append}
 use Rattle.input_gate.specs.Segments.{freed_by}
-use Rattle.input_gate.specs.Turning.{InputPass, IsLater, given_in, given_to, looks_of, Fits, NoFront, Looked}
+use Rattle.input_gate.specs.Turning.{InputPass, IsLater, EndsInPoll, given_in, given_to, looks_of, Fits, NoFront, Looked}
 
 -- ---- histories
 
@@ -158,6 +158,16 @@ module _ (p t : InputPass) (state : ChannelState) (b : Begun p t state) where
   polled_given stays kept tells answers q old hold polled gave is answer h =
       ap given_in h.1 ∙ ap (λ es. (inbox es).given) (entries_end (seen t) (number t) (Poll hold gave)) ∙ tells old (seen t) hold gave (subst (λ c. ChannelStandsFor c (seen t)) (sym is) b.stands)
       ∙ ap (λ o. given_in (seen t) ++ option_to_list o) (sym (answers old hold polled answer)) ∙ ap (λ g. g ++ option_to_list (given_by polled)) (begun_given stays kept)
+
+  -- The history ends with the poll.
+  pub ends_in_poll : GivenStays → PassesAreKept → EntriesAreLegal → (q : InputPass) (hold : Bool) (gave : Gave) → HasEntered (Poll hold gave) t q → EndsInPoll p q hold gave
+  ends_in_poll stays kept legal q hold gave h = record {
+    entries = entries_of (seen t);
+    room = state.room;
+    legal = legal state (seen t) b.stands;
+    given = begun_given stays kept;
+    ends = ap entries_of h.1 ∙ entries_end (seen t) (number t) (Poll hold gave);
+  }
 
   pub out_here : PassesAreKept → GateTellsBuffers → (exclusive : Bool) → returned exclusive (mine p) < polled_with exclusive (mine p) → returned exclusive (entries_of (seen t)) < polled_with exclusive (entries_of (seen t))
   out_here kept tell exclusive out =

@@ -15,9 +15,12 @@ use Rattle.input_gate.specs.declared.rounds.Round.{Round}
 use Rattle.input_gate.specs.declared.rounds.Round.TheVariants as rounds
 use Rattle.input_gate.specs.declared.rounds.Taken.{Taken}
 use Rattle.input_gate.specs.declared.rounds.Taken.TheVariants as takes
-use Rattle.input_gate.specs.Gates.{Account, Gave, Ended, IsFree}
+use Rattle.turn_cell.specs.History.{StartsWith, entries_of}
+use Rattle.channel_cut.specs.Cuts.{Cut, Shows}
+use Rattle.gate_account.specs.Accounts.{Account, IsFree}
+use Rattle.input_gate.specs.Gates.{Gave, Ended}
 use Rattle.input_gate.specs.Turning.{InputCell, InputPass, Looks, looks_of, Looked}
-use Rattle.input_gate.specs.Lanes.{IsLane, IsQuiet, told_by, barriers_by, resumed_by, left_of}
+use Rattle.input_gate.specs.Lanes.{IsLane, IsQuiet, lines_by, barriers_by, resumed_by, left_of}
 
 -- What is kept of each fits what its pass tells.
 abbrev pub AreLanes : ℕ → List Lane → Type 0
@@ -40,7 +43,7 @@ at_of f z (lane ∷ lanes) (suc c) = at_of f z lanes c
 abbrev pub account_of : List Lane → Account
 account_of lanes = record {
   channels = length lanes;
-  told = λ c. at_of told_by [] lanes c;
+  lines = λ c. at_of lines_by [] lanes c;
   barriers = λ c. at_of barriers_by [] lanes c;
   resumed = λ c. at_of resumed_by 0 lanes c;
   ended = λ c. at_of (λ lane. lane.ended) false lanes c;
@@ -57,6 +60,14 @@ passes_in lanes = map (λ lane. lane.pass) lanes
 -- What the pass of a channel has seen, and its looks.
 abbrev pub looks_in : List Lane → ℕ → Looks
 looks_in lanes c = at_of (λ lane. looks_of lane.pass) ([], []) lanes c
+
+-- By which cuts they were cut.
+abbrev pub shows_in : List Lane → ℕ → Cut → Type 0
+shows_in lanes c = Shows [] (entries_of (looks_in lanes c).0)
+
+-- The pass of each has seen what it had seen, or more.
+abbrev pub AreLater : List Lane → List Lane → Type 0
+AreLater before after = (c : ℕ) → StartsWith (looks_in after c).0 (looks_in before c).0
 
 -- No buffer is out that was polled.
 abbrev pub HaveNoSpare : List Lane → Type 0
@@ -88,13 +99,13 @@ end_of c (Left len) = ends.Left c len
 abbrev pub CameAt : Bool → ℕ → List Lane → Result LaneStep LaneFault → List Lane → Type 0
 CameAt hold c before (Ok Nothing) after = AreQuiet before after
 CameAt hold c before (Ok Found) after = AreQuiet before after
-CameAt hold c before (Ok (Barrier k kind)) after = Gave (account_of before) (account_of after) hold (Ok (items.Barrier c k kind))
+CameAt hold c before (Ok (Barrier k kind)) after = Gave (account_of before) (account_of after) (shows_in after) hold (Ok (items.Barrier c k kind))
 CameAt hold c before (Err fault) after = AreQuiet before after × Ended (account_of before) (account_of after) (end_of c fault)
 
 -- What a look gave: nothing, or a front barrier.
 abbrev pub LookedAt : Bool → ℕ → List Lane → Option ℕ → List Lane → Type 0
 LookedAt hold c before None after = AreQuiet before after
-LookedAt hold c before (Some k) after = Gave (account_of before) (account_of after) hold (Ok (items.Barrier c k Front))
+LookedAt hold c before (Some k) after = Gave (account_of before) (account_of after) (shows_in after) hold (Ok (items.Barrier c k Front))
 
 -- Where a barrier of the channel may be given and its end was not polled, there was a look between that found no front barrier.
 abbrev pub HasLooked : Bool → Account → List Lane → List Lane → ℕ → Type 0
@@ -112,7 +123,7 @@ pub record GaveUp (before after : List Lane) (end : GateEnd) : Type 0 where
 abbrev pub CameRound : Bool → List Lane → Result Round GateEnd → List Lane → Type 0
 CameRound hold before (Ok rounds.Idle) after = AreQuiet before after
 CameRound hold before (Ok rounds.Moved) after = AreQuiet before after
-CameRound hold before (Ok (rounds.Gave c k kind)) after = Gave (account_of before) (account_of after) hold (Ok (items.Barrier c k kind))
+CameRound hold before (Ok (rounds.Gave c k kind)) after = Gave (account_of before) (account_of after) (shows_in after) hold (Ok (items.Barrier c k kind))
 CameRound hold before (Err end) after = GaveUp before after end
 
 -- Each channel was looked at before a line is given.
@@ -125,5 +136,5 @@ LookedIn hold before items.AllEnded after = ⊤
 abbrev pub Took : Bool → List Lane → Result Taken GateEnd → List Lane → Type 0
 Took hold before (Ok takes.Nothing) after = AreQuiet before after
 Took hold before (Ok takes.More) after = AreQuiet before after
-Took hold before (Ok (takes.Item item)) after = Gave (account_of before) (account_of after) hold (Ok item) × LookedIn hold before item after
+Took hold before (Ok (takes.Item item)) after = Gave (account_of before) (account_of after) (shows_in after) hold (Ok item) × LookedIn hold before item after
 Took hold before (Err end) after = GaveUp before after end

@@ -1,12 +1,13 @@
 -- One channel of a gate, with what was polled there and not given. What a gate keeps of a channel is this project's own choice.
 use Rattle.std.specs.Prelude.{◌≡◌, ℕ, suc, ◌+◌, ◌<◌, Bool, true, false, List, [], ◌∷◌, ◌++◌, length, Option, Some, None, IfSome, IsSomeAnd, Result, Ok, Err}
+use Rattle.turn_cell.specs.History.{entries_of}
 use Rattle.turn_cell.specs.Passes.{IsPassOf, opened_with, seen, mine}
 use Rattle.flow_defs.specs.Items.{Items}
 use Rattle.flow_defs.specs.declared.parcel.Parcel.{Parcel}
 use Rattle.flow_defs.specs.declared.task.BarrierKind.{BarrierKind}
-use Rattle.flow_defs.specs.declared.task.BarrierKind.TheVariants.{Inline, Front}
+use Rattle.flow_defs.specs.declared.task.BarrierKind.TheVariants.{Inline}
 use Rattle.flow_defs.specs.Parcels.{barriers_of, has_end}
-use Rattle.flow_defs.specs.Records.{encoded, IsShort}
+use Rattle.flow_defs.specs.Records.{encoded, first_record, IsShort}
 use Rattle.record_spans.specs.Spans.{HasNoRecord, BeginsTooLong}
 use Rattle.segment_pool.specs.Pools.{size_of}
 use Rattle.local_pool.specs.Helds.{pool_of}
@@ -21,9 +22,9 @@ use Rattle.input_gate.specs.declared.lane.LaneFault.TheVariants.{Memory, TooLong
 use Rattle.input_gate.specs.declared.lane.LaneStep.{LaneStep}
 use Rattle.input_gate.specs.declared.lane.LaneStep.TheVariants.{Nothing, Found, Barrier}
 use Rattle.input_gate.specs.declared.lender.Lender.{Lender}
-use Rattle.input_gate.specs.Gates.{Told, Stop}
+use Rattle.channel_cut.specs.Cuts.{Cut, InLine, Shows, IsRead}
+use Rattle.channel_cut.specs.Lanes.{lines_told}
 use Rattle.input_gate.specs.Turning.{InputPass, IsGatePass, IsEven, IsLater, NoFront, given_to}
-use Rattle.input_gate.specs.Told.{told, IsRead}
 
 -- ---- the gate's pool
 
@@ -54,15 +55,19 @@ spare_bytes (Some buf) = content buf
 abbrev pub left_of : Lane → List ℕ
 left_of lane = ready_bytes lane.ready ++ (lane.reader ++ spare_bytes lane.spare)
 
--- The lines and inline barriers given, all barriers given, and how many inline ones were resumed.
-abbrev pub told_by : Lane → List Told
-told_by lane = told (polled lane) (left_of lane)
+-- The lines and the barriers given, and how many inline barriers were resumed.
+abbrev pub lines_by : Lane → List (List ℕ)
+lines_by lane = lines_told [] (entries_of (seen lane.pass)) (left_of lane)
 
 abbrev pub barriers_by : Lane → List (ℕ × BarrierKind)
 barriers_by lane = barriers_of (polled lane)
 
 abbrev pub resumed_by : Lane → ℕ
 resumed_by lane = asks (mine lane.pass)
+
+-- By which cuts its barriers cut it.
+abbrev pub shows_by : Lane → Cut → Type 0
+shows_by lane = Shows [] (entries_of (seen lane.pass))
 
 abbrev pub weight : Bool → ℕ
 weight true = 1
@@ -77,7 +82,7 @@ due_back (Some buf) = Returned buf.exclusive ∷ []
 pub record IsLane (size : ℕ) (lane : Lane) : Type 0 where
   pub pass : IsGatePass lane.cell.now lane.pass
   pub size_is : (opened_with lane.cell.now).size ≡ size
-  pub read : IsRead (polled lane) (left_of lane)
+  pub read : IsRead [] (entries_of (seen lane.pass)) (lines_by lane) (left_of lane)
   pub count : lane.barriers ≡ length (barriers_by lane)
   pub asked : resumed_by lane + weight lane.blocked ≡ inline_in (polled lane)
   pub ends : lane.ended ≡ true → has_end (polled lane) ≡ true
@@ -99,30 +104,27 @@ pub record IsIdle (p q : InputPass) : Type 0 where
 pub record IsQuiet (a b : Lane) : Type 0 where
   pub cell : b.cell ≡ a.cell
   pub later : IsLater a.pass b.pass
-  pub told : told_by b ≡ told_by a
+  pub lines : lines_by b ≡ lines_by a
   pub barriers : barriers_by b ≡ barriers_by a
   pub resumed : resumed_by b ≡ resumed_by a
   pub blocked : b.blocked ≡ a.blocked
 
 -- This was given of a channel that no inline barrier blocked.
-pub record Gives (a b : Lane) (more : List Told) (barriers : List (ℕ × BarrierKind)) : Type 0 where
+pub record Gives (a b : Lane) (more : List (List ℕ)) (barriers : List (ℕ × BarrierKind)) : Type 0 where
   pub cell : b.cell ≡ a.cell
   pub later : IsLater a.pass b.pass
   pub free : a.blocked ≡ false
-  pub told : told_by b ≡ told_by a ++ more
+  pub lines : lines_by b ≡ lines_by a ++ more
   pub barriers_are : barriers_by b ≡ barriers_by a ++ barriers
   pub resumed : resumed_by b ≡ resumed_by a
 
--- A barrier, which has the next number and was not held back. An inline one is given where no whole record is left.
-abbrev pub stop_of : ℕ → BarrierKind → List Told
-stop_of k Inline = Stop k ∷ []
-stop_of k Front = []
-
+-- A barrier, which has the next number and was not held back. An inline one is given where no whole record is left, and cuts the channel.
 pub record GivesBarrier (hold : Bool) (a b : Lane) (k : ℕ) (kind : BarrierKind) : Type 0 where
-  pub gives : Gives a b (stop_of k kind) ((k, kind) ∷ [])
+  pub gives : Gives a b [] ((k, kind) ∷ [])
   pub number : k ≡ suc (length (barriers_by a))
   pub not_held : hold ≡ false
-  pub whole : kind ≡ Inline → HasNoRecord (left_of b)
+  pub whole : kind ≡ Inline → first_record (left_of b) ≡ None
+  pub cuts : kind ≡ Inline → shows_by b (InLine k (lines_by a))
 
 -- Why nothing is given.
 abbrev pub IsFault : Lane → LaneFault → Type 0
@@ -143,8 +145,9 @@ Came hold a (Err fault) b = IsQuiet a b × IsFault b fault
 -- The channel was resumed.
 pub record IsResumed (a b : Lane) : Type 0 where
   pub cell : b.cell ≡ a.cell
-  pub told : told_by b ≡ told_by a
+  pub lines : lines_by b ≡ lines_by a
   pub barriers : barriers_by b ≡ barriers_by a
   pub resumed : resumed_by b ≡ suc (resumed_by a)
   pub ended : b.ended ≡ a.ended
   pub left : left_of b ≡ left_of a
+  pub later : IsLater a.pass b.pass

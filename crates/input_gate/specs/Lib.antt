@@ -4,5 +4,4 @@ pub mod Lanes
 pub mod Making
 pub mod Segments
 pub mod States
-pub mod Told
 pub mod Turning

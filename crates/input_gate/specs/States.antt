@@ -1,6 +1,7 @@
 -- What contracts see of a gate over cells. That a gate has a cell for each channel, one for its pool and one for what stops all workers is
 -- this project's own choice.
 use Rattle.std.specs.Prelude.{◌≡◌, ℕ, ◌<◌, ◌^◌, Bool, false, List, [], length}
+use Rattle.turn_cell.specs.History.{entries_of}
 use Rattle.turn_cell.specs.Passes.{IsPassOf, number, mine}
 pub use Rattle.local_pool.specs.Lending.{PoolCell, PoolPass}
 use Rattle.flow_defs.specs.declared.parcel.Parcel.{Parcel}
@@ -12,11 +13,12 @@ use Rattle.input_gate.specs.declared.gate.GateItem.TheVariants as items
 use Rattle.input_gate.specs.declared.lane.Lane.{Lane}
 use Rattle.input_gate.specs.declared.lender.Lender.{Lender}
 use Rattle.input_gate.specs.declared.passes.GateEnds.{GateEnds}
-use Rattle.input_gate.specs.Gates.{Account, IsFree}
+use Rattle.gate_account.specs.Accounts.{Account, IsFree}
 use Rattle.input_gate.specs.Turning.{InputCell, InputPass, Looked, looks_at, given_in}
 use Rattle.input_gate.specs.Lanes.{IsLender, lent_size}
 use Rattle.input_gate.specs.Segments.{told_by_lender, LoseNone}
-use Rattle.input_gate.specs.Channels.{AreLanes, account_of, cells_in, passes_in, MayGive}
+use Rattle.channel_cut.specs.Cuts.{Cut, Shows}
+use Rattle.input_gate.specs.Channels.{AreLanes, account_of, shows_in, cells_in, passes_in, MayGive}
 
 -- The channels, the pool, the gate's pass of the pool as it was when the gate was made, and the cell that stops all workers, with the gate's
 -- pass of it.
@@ -30,6 +32,14 @@ pub record GateState : Type 0 where
 -- What the gate has given.
 abbrev pub account_in : GateState → Account
 account_in gate = account_of gate.lanes
+
+-- By which cuts its channels were cut.
+abbrev pub shows_of : GateState → ℕ → Cut → Type 0
+shows_of gate = shows_in gate.lanes
+
+-- By which cuts the channels were cut that these are the gate's passes of.
+abbrev pub shows_at : List InputPass → ℕ → Cut → Type 0
+shows_at passes c = Shows [] (entries_of (seen_at c passes))
 
 -- Its passes of the channels' cells, in the order of the channels.
 abbrev pub passes_of : GateState → List InputPass

@@ -3,15 +3,17 @@
 use Rattle.std.specs.Prelude.{◌≡◌, ℕ, zero, suc, Bool, false, List, [], ◌∷◌, ◌++◌, length}
 use Rattle.turn_cell.specs.declared.cell.TurnCell.{TurnCell}
 use Rattle.turn_cell.specs.declared.pass.Pass.{Pass}
-use Rattle.turn_cell.specs.History.{StartsWith, entries_of}
+use Rattle.turn_cell.specs.History.{IsHistory, StartsWith, entries_of}
 use Rattle.turn_cell.specs.Passes.{IsPassOf, number, seen, sights}
 use Rattle.flow_defs.specs.declared.parcel.Parcel.{Parcel}
 use Rattle.flow_defs.specs.Parcels.{barriers_of}
+use Rattle.input_channel.specs.declared.entry.Gave.{Gave}
 use Rattle.input_channel.specs.declared.entry.ReceiveEntry.{ReceiveEntry}
+use Rattle.input_channel.specs.declared.entry.ReceiveEntry.TheVariants.{Poll}
 use Rattle.input_channel.specs.declared.polled.Polled.{Polled}
 use Rattle.input_channel.specs.declared.polled.Polled.TheVariants.{Buffer, Barrier, End, Empty, Held}
 use Rattle.input_channel.specs.Inboxes.{inbox, waiting, front_waits}
-use Rattle.input_channel.specs.Legal.{polled_with, returned}
+use Rattle.input_channel.specs.Legal.{MayReceive, polled_with, returned}
 use Rattle.input_channel.specs.States.{ChannelState}
 
 -- An input channel's cell, and a pass of it.
@@ -57,6 +59,14 @@ pub record Looked (before after : Looks) : Type 0 where
 -- The pass has seen what it had seen, or more, and looked as often as it had, or more often.
 abbrev pub IsLater : InputPass → InputPass → Type 0
 IsLater before after = StartsWith (seen after) (seen before) × StartsWith (sights after) (sights before)
+
+-- The history that the pass has seen now ends with its poll. Before it, others' entries gave nothing.
+pub record EndsInPoll (before after : InputPass) (hold : Bool) (gave : Gave) : Type 0 where
+  pub entries : List ReceiveEntry
+  pub room : ℕ
+  pub legal : IsHistory (MayReceive room) entries
+  pub given : (inbox entries).given ≡ given_to before
+  pub ends : entries_of (seen after) ≡ entries ++ Poll hold gave ∷ []
 
 -- Of each kind of buffers as many came back as polls gave.
 abbrev pub IsEven : List ReceiveEntry → Type 0

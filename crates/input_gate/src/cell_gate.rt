@@ -8,12 +8,13 @@ ghost use Rattle.flow_defs.specs.Items.{Items};
 ghost use Rattle.segment_pool.specs.Pools.{size_of};
 ghost use Rattle.local_pool.specs.Helds.{pool_of};
 ghost use Rattle.conn_parts.specs.Shares.{AreOwn, AreNew};
-ghost use Rattle.input_gate.specs.Gates.{Gave, IsNew, Resumed, stops_in};
+ghost use Rattle.gate_account.specs.Accounts.{IsBlocked, IsNew, Keeps, Resumed};
+ghost use Rattle.input_gate.specs.Gates.{Gave};
 ghost use Rattle.input_gate.specs.Turning.{InputCell, InputPass};
 ghost use Rattle.input_gate.specs.Lanes.{IsLender, lent_size};
 ghost use Rattle.input_gate.specs.Segments.{AllStayEven, LoseNone};
-ghost use Rattle.input_gate.specs.Channels.{AreLanes, HaveNoSpare, account_of, cells_in, passes_in, LookedIn};
-ghost use Rattle.input_gate.specs.States.{account_in, passes_of, ends_of, IsGateOf, AllCameBack, LookedFirst};
+ghost use Rattle.input_gate.specs.Channels.{AreLanes, AreLater, HaveNoSpare, account_of, shows_in, cells_in, passes_in, LookedIn};
+ghost use Rattle.input_gate.specs.States.{account_in, shows_of, passes_of, ends_of, IsGateOf, AllCameBack, LookedFirst};
 ghost use Rattle.input_gate.specs.Making.{AreFreshLanes};
 
 use crate::gate::{Gate, GateEnd, GateItem};
@@ -162,7 +163,8 @@ fn next_of<R: Wait>(
     requires stop { IsPassOf stop.now stop_pass.old }
     requires spare { unread ≡ false → HaveNoSpare lanes.old.items }
     ensures lanes { AreLanes (lent_size lender.old) lanes.new.items }
-    ensures gave { Gave (account_of lanes.old.items) (account_of lanes.new.items) hold result }
+    ensures gave { Gave (account_of lanes.old.items) (account_of lanes.new.items) (shows_in lanes.new.items) hold result }
+    ensures later { AreLater lanes.old.items lanes.new.items }
     ensures cells { cells_in lanes.new.items ≡ cells_in lanes.old.items }
     ensures lender { IsLender lender.new × (lender.new.cell ≡ lender.old.cell) }
     ensures stop { IsPassOf stop.now stop_pass.new × IsSamePass stop_pass.old stop_pass.new }
@@ -218,7 +220,7 @@ impl<'a, 'p> CellGate<'a, 'p> {
         requires pool { IsPassOf gate_pool.now pool_pass }
         requires stop { IsPassOf stop.now stop_pass × (mine stop_pass ≡ []) }
         requires sizes { All (λ (cell : InputCell). (opened_with cell).size ≡ size_of (pool_of (opened_with gate_pool.now))) cells.now }
-        ensures account { IfOk result (λ gate. ((account_in gate).channels ≡ length cells.now) × IsNew (account_in gate)) }
+        ensures account { IfOk result (λ gate. ((account_in gate).channels ≡ length cells.now) × IsNew (λ c. []) (account_in gate)) }
         ensures gate { IfOk result (λ gate. IsGateOf cells.now gate_pool.now stop.now gate × (number gate.stop_pass ≡ number stop_pass)) }
         ensures first { IfOk result (λ gate. gate.first ≡ pool_pass.entry) }
         ensures refused { IfErr result (λ r. (r.passes.cells.items ≡ passes.items) × (r.passes.pool ≡ pool_pass.entry) × (r.passes.stop ≡ stop_pass)) }
@@ -285,11 +287,14 @@ impl<'a, 'p> Gate for CellGate<'a, 'p> {
 
     ghost account = { λ gate. account_in gate };
 
+    ghost shows = { λ gate. shows_of gate };
+
     ghost saw_stop = { λ gate. seen gate.stop_pass ≢ [] };
 
     fn next<R: Wait>(&mut self, rt: &R, hold: bool) -> Result<GateItem, GateEnd>
         ensures same { (ends_of self.new ≡ ends_of self.old) × ((account_in self.new).channels ≡ (account_in self.old).channels) }
-        ensures gave { Gave (account_in self.old) (account_in self.new) hold result }
+        ensures gave { Gave (account_in self.old) (account_in self.new) (shows_of self.new) hold result }
+        ensures kept { Keeps (shows_of self.old) (shows_of self.new) }
         ensures stopped { result ≡ Err GateEnd.Stopped → seen self.new.stop_pass ≢ [] }
 
         // Where a line is given, no front barrier waited that may be given.
@@ -315,9 +320,10 @@ impl<'a, 'p> Gate for CellGate<'a, 'p> {
 
     fn resume<R: Wait>(&mut self, rt: &R, channel: u32)
         requires within { channel < (account_in self.old).channels }
-        requires stopped { stops_in ((account_in self.old).told channel) ≡ suc ((account_in self.old).resumed channel) }
+        requires stopped { IsBlocked (account_in self.old) channel }
         ensures same { (ends_of self.new ≡ ends_of self.old) × ((account_in self.new).channels ≡ (account_in self.old).channels) }
         ensures resumed { Resumed (account_in self.old) (account_in self.new) channel }
+        ensures kept { Keeps (shows_of self.old) (shows_of self.new) }
     {
         resume_at(rt, &mut self.lanes, channel as usize);
     }

@@ -1,6 +1,8 @@
 // What a task takes from.
-ghost use Rattle.std.specs.Prelude.{◌≡◌, ◌<◌, suc, Err};
-ghost use Rattle.input_gate.specs.Gates.{Account, Gave, Resumed, stops_in};
+ghost use Rattle.std.specs.Prelude.{◌≡◌, ◌<◌, ℕ, Err};
+ghost use Rattle.channel_cut.specs.Cuts.{Cut};
+ghost use Rattle.gate_account.specs.Accounts.{Account, IsBlocked, Keeps, Resumed};
+ghost use Rattle.input_gate.specs.Gates.{Gave};
 ghost use Rattle.input_gate.specs.declared.gate.GateEnd.TheVariants.{Stopped};
 
 use flow_defs::{BarrierKind, Bytes};
@@ -47,6 +49,9 @@ pub trait Gate {
     /// What it has given so far.
     ghost account: { Self → Account };
 
+    /// By which cuts its channels were cut. What was shown is shown still.
+    ghost shows: { Self → ℕ → Cut → Type 0 };
+
     /// It has seen an entry in the stop cell.
     ghost saw_stop: { Self → Type 0 };
 
@@ -54,13 +59,15 @@ pub trait Gate {
     /// until there is such. With `hold` no barrier of a channel is given that has given as many as any.
     fn next<R: Wait>(&mut self, rt: &R, hold: bool) -> Result<GateItem, GateEnd>
         ensures same { (ends self.new ≡ ends self.old) × ((account self.new).channels ≡ (account self.old).channels) }
-        ensures gave { Gave (account self.old) (account self.new) hold result }
+        ensures gave { Gave (account self.old) (account self.new) (shows self.new) hold result }
+        ensures kept { Keeps (shows self.old) (shows self.new) }
         ensures stopped { result ≡ Err Stopped → saw_stop self.new };
 
     /// Lets a channel go on behind its inline barrier.
     fn resume<R: Wait>(&mut self, rt: &R, channel: u32)
         requires within { channel < (account self.old).channels }
-        requires stopped { stops_in ((account self.old).told channel) ≡ suc ((account self.old).resumed channel) }
+        requires stopped { IsBlocked (account self.old) channel }
         ensures same { (ends self.new ≡ ends self.old) × ((account self.new).channels ≡ (account self.old).channels) }
-        ensures resumed { Resumed (account self.old) (account self.new) channel };
+        ensures resumed { Resumed (account self.old) (account self.new) channel }
+        ensures kept { Keeps (shows self.old) (shows self.new) };
 }

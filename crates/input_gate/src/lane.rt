@@ -5,7 +5,6 @@ ghost use Rattle.flow_defs.specs.declared.task.BarrierKind.TheVariants.{Front};
 ghost use Rattle.record_spans.specs.Spans.{HasNoRecord};
 ghost use Rattle.flow_defs.specs.Records.{IsShort};
 ghost use Rattle.input_channel.specs.Contents.{content};
-ghost use Rattle.input_gate.specs.Gates.{Line};
 ghost use Rattle.input_gate.specs.Segments.{IsUntouched, StaysEven};
 ghost use Rattle.input_gate.specs.Turning.{IsGatePass, Looked, looks_of};
 ghost use Rattle.input_gate.specs.Lanes.{IsLane, IsLender, lent_size, IsIdle, IsQuiet, Gives, GivesBarrier, IsFault, IsResumed, Stepped, Came, left_of};
@@ -14,6 +13,7 @@ use crate::lender::{Lender, give, give_free, request};
 use crate::passes::{InputCell, InputPass};
 use crate::rest::rest_len;
 use crate::turns::{add_in_turn, ask_in_turn, find_front, poll_in_turn, return_in_turn};
+use channel_cut::laws::lanes_are_cut;
 use flow_defs::{BarrierKind, Bytes};
 use input_channel::{HeldBuf, Polled};
 use record_spans::{NextFault, Reader};
@@ -153,7 +153,7 @@ pub(crate) fn give_line(lane: &mut Lane<'_>) -> Option<Bytes>
     requires lane { (size : _) × IsLane size lane.old }
     requires free { lane.old.blocked ≡ false }
     ensures lane { (size : _) → IsLane size lane.old → IsLane size lane.new }
-    ensures given { MatchOption result (lane.new ≡ lane.old) (λ line. Gives lane.old lane.new (Line line.items ∷ []) [] × IsShort line.items) }
+    ensures given { MatchOption result (lane.new ≡ lane.old) (λ line. Gives lane.old lane.new (line.items ∷ []) [] × IsShort line.items) }
     ensures spare { lane.new.spare ≡ lane.old.spare }
     ensures same { (lane.new.pass ≡ lane.old.pass) × (lane.new.ended ≡ lane.old.ended) }
 {
@@ -184,6 +184,7 @@ fn poll_lane<R: Wait>(rt: &R, lane: &mut Lane<'_>, hold: bool) -> LaneStep
         } => {
             // Called for its clause, that no whole record is left.
             let _len = rest_len(lane.reader.rest());
+            lanes_are_cut();
             lane.barriers = k;
             lane.blocked = true;
             LaneStep::Barrier {

@@ -2,11 +2,12 @@
 ghost use Rattle.std.specs.Prelude.{◌≡◌, ◌≢◌, ◌<◌, ◌≤◌, ◌^◌, ℕ, suc, true, false, [], ◌∷◌, length, Ok, None, IfOk, IfErr, IfSome, IfNone, OnOk, OnErr, MatchOption};
 ghost use Rattle.input_gate.specs.Turning.{looks_of};
 ghost use Rattle.input_gate.specs.declared.gate.GateItem.TheVariants as items;
-ghost use Rattle.input_gate.specs.Gates.{Gave, GaveOf, AllOver, Line, Ended, Resumed, stops_in};
+ghost use Rattle.gate_account.specs.Accounts.{GaveOf, IsBlocked, Resumed};
+ghost use Rattle.input_gate.specs.Gates.{Ended};
 ghost use Rattle.flow_defs.specs.Records.{IsShort};
 ghost use Rattle.input_gate.specs.Lanes.{IsLender, lent_size};
 ghost use Rattle.input_gate.specs.Segments.{AllStayEven, AreUntouched};
-ghost use Rattle.input_gate.specs.Channels.{AreLanes, AreQuiet, HaveNoSpare, account_of, cells_in, passes_in, looks_in, at_of, IsMost, MayGive, CameAt, LookedAt, HasLooked, end_of};
+ghost use Rattle.input_gate.specs.Channels.{AreLanes, AreLater, AreQuiet, HaveNoSpare, account_of, cells_in, passes_in, looks_in, at_of, IsMost, MayGive, CameAt, LookedAt, HasLooked, end_of};
 
 use crate::gate::GateEnd;
 use crate::lane::{
@@ -63,7 +64,7 @@ pub(crate) fn line_at(lanes: &mut Vec<Lane<'_>>, at: usize) -> Option<Bytes>
     requires lanes { (size : ℕ) × AreLanes size lanes.old.items }
     requires spare { HaveNoSpare lanes.old.items }
     ensures lanes { (size : ℕ) → AreLanes size lanes.old.items → AreLanes size lanes.new.items }
-    ensures given { MatchOption result (AreQuiet lanes.old.items lanes.new.items) (λ line. GaveOf (account_of lanes.old.items) (account_of lanes.new.items) at (Line line.items ∷ []) [] × IsShort line.items) }
+    ensures given { MatchOption result (AreQuiet lanes.old.items lanes.new.items) (λ line. GaveOf (account_of lanes.old.items) (account_of lanes.new.items) at (line.items ∷ []) [] × IsShort line.items) }
     ensures cells { cells_in lanes.new.items ≡ cells_in lanes.old.items }
     ensures same { (d : ℕ) → (looks_in lanes.new.items d ≡ looks_in lanes.old.items d) × (at_of (λ lane. lane.ended) false lanes.new.items d ≡ at_of (λ lane. lane.ended) false lanes.old.items d) }
     ensures spare { HaveNoSpare lanes.new.items }
@@ -101,6 +102,7 @@ pub(crate) fn step_at<R: Wait>(
     requires most { hold ≡ true → IsMost (account_of lanes.old.items) most }
     ensures lanes { AreLanes (lent_size lender.old) lanes.new.items }
     ensures came { CameAt hold at lanes.old.items result lanes.new.items }
+    ensures later { AreLater lanes.old.items lanes.new.items }
     ensures cells { cells_in lanes.new.items ≡ cells_in lanes.old.items }
     ensures lender { IsLender lender.new × (lender.new.cell ≡ lender.old.cell) }
     ensures spare { OnOk result (HaveNoSpare lanes.new.items) }
@@ -127,6 +129,7 @@ pub(crate) fn look_at<R: Wait>(
     requires most { hold ≡ true → IsMost (account_of lanes.old.items) most }
     ensures lanes { (size : ℕ) → AreLanes size lanes.old.items → AreLanes size lanes.new.items }
     ensures came { LookedAt hold at lanes.old.items result lanes.new.items }
+    ensures later { AreLater lanes.old.items lanes.new.items }
     ensures cells { cells_in lanes.new.items ≡ cells_in lanes.old.items }
     ensures looked { IfNone result (HasLooked hold (account_of lanes.old.items) lanes.old.items lanes.new.items at) }
     ensures others { (d : ℕ) → d ≢ at → (looks_in lanes.new.items d ≡ looks_in lanes.old.items d) × (at_of (λ lane. lane.ended) false lanes.new.items d ≡ at_of (λ lane. lane.ended) false lanes.old.items d) }
@@ -150,9 +153,10 @@ pub(crate) fn look_at<R: Wait>(
 pub(crate) fn resume_at<R: Wait>(rt: &R, lanes: &mut Vec<Lane<'_>>, at: usize)
     requires within { at < length lanes.old.items }
     requires lanes { (size : ℕ) × AreLanes size lanes.old.items }
-    requires stopped { stops_in ((account_of lanes.old.items).told at) ≡ suc ((account_of lanes.old.items).resumed at) }
+    requires stopped { IsBlocked (account_of lanes.old.items) at }
     ensures lanes { (size : ℕ) → AreLanes size lanes.old.items → AreLanes size lanes.new.items }
     ensures resumed { Resumed (account_of lanes.old.items) (account_of lanes.new.items) at }
+    ensures later { AreLater lanes.old.items lanes.new.items }
     ensures cells { cells_in lanes.new.items ≡ cells_in lanes.old.items }
     ensures spare { HaveNoSpare lanes.old.items → HaveNoSpare lanes.new.items }
     ensures segments { AreUntouched lanes.old.items lanes.new.items }

@@ -2,10 +2,11 @@
 ghost use Rattle.std.specs.Prelude.{◌≡◌, ◌≢◌, ◌<◌, ◌^◌, ℕ, true, false, length, Ok, IfOk, IfErr, IfSome, IfNone, OnOk, MatchOption};
 ghost use Rattle.flow_defs.specs.declared.task.BarrierKind.TheVariants.{Front};
 ghost use Rattle.input_gate.specs.declared.gate.GateItem.TheVariants as items;
-ghost use Rattle.input_gate.specs.Gates.{Gave, AllOver};
+ghost use Rattle.gate_account.specs.Accounts.{AllOver};
+ghost use Rattle.input_gate.specs.Gates.{Gave};
 ghost use Rattle.input_gate.specs.Lanes.{IsLender, lent_size};
 ghost use Rattle.input_gate.specs.Segments.{AllStayEven, AreUntouched};
-ghost use Rattle.input_gate.specs.Channels.{AreLanes, AreQuiet, HaveNoSpare, account_of, cells_in, IsMost, HasLooked, end_of, GaveUp, CameRound, Took};
+ghost use Rattle.input_gate.specs.Channels.{AreLanes, AreLater, AreQuiet, HaveNoSpare, account_of, shows_in, cells_in, IsMost, HasLooked, end_of, GaveUp, CameRound, Took};
 
 use crate::gate::{GateEnd, GateItem};
 use crate::lane::{Lane, LaneFault, LaneStep, is_over};
@@ -141,7 +142,8 @@ fn look_round<R: Wait>(
     requires spare { HaveNoSpare lanes.old.items }
     requires most { hold ≡ true → IsMost (account_of lanes.old.items) most }
     ensures lanes { (size : ℕ) → AreLanes size lanes.old.items → AreLanes size lanes.new.items }
-    ensures came { MatchOption result (AreQuiet lanes.old.items lanes.new.items) (λ found. Gave (account_of lanes.old.items) (account_of lanes.new.items) hold (Ok (items.Barrier found.0 found.1 Front))) }
+    ensures came { MatchOption result (AreQuiet lanes.old.items lanes.new.items) (λ found. Gave (account_of lanes.old.items) (account_of lanes.new.items) (shows_in lanes.new.items) hold (Ok (items.Barrier found.0 found.1 Front))) }
+    ensures later { AreLater lanes.old.items lanes.new.items }
     ensures cells { cells_in lanes.new.items ≡ cells_in lanes.old.items }
     ensures looked { IfNone result ((d : ℕ) → d < length lanes.old.items → HasLooked hold (account_of lanes.old.items) lanes.old.items lanes.new.items d) }
     ensures spare { HaveNoSpare lanes.new.items }
@@ -172,6 +174,7 @@ fn poll_round<R: Wait>(
     requires most { hold ≡ true → IsMost (account_of lanes.old.items) most }
     ensures lanes { AreLanes (lent_size lender.old) lanes.new.items }
     ensures came { CameRound hold lanes.old.items result lanes.new.items }
+    ensures later { AreLater lanes.old.items lanes.new.items }
     ensures cells { cells_in lanes.new.items ≡ cells_in lanes.old.items }
     ensures lender { IsLender lender.new × (lender.new.cell ≡ lender.old.cell) }
     ensures spare { OnOk result (HaveNoSpare lanes.new.items) }
@@ -250,6 +253,7 @@ pub(crate) fn take<R: Wait>(
     requires most { hold ≡ true → IsMost (account_of lanes.old.items) most }
     ensures lanes { AreLanes (lent_size lender.old) lanes.new.items }
     ensures took { Took hold lanes.old.items result lanes.new.items }
+    ensures later { AreLater lanes.old.items lanes.new.items }
     ensures cells { cells_in lanes.new.items ≡ cells_in lanes.old.items }
     ensures lender { IsLender lender.new × (lender.new.cell ≡ lender.old.cell) }
     ensures spare { OnOk result (HaveNoSpare lanes.new.items) }

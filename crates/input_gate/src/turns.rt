@@ -11,7 +11,7 @@ ghost use Rattle.input_channel.specs.Answers.{gave_of, given_by};
 ghost use Rattle.input_channel.specs.Legal.{polled_with, returned, asks, inline_in};
 ghost use Rattle.input_channel.specs.States.{ChannelStandsFor};
 ghost use Rattle.input_gate.specs.Segments.{freed_by};
-ghost use Rattle.input_gate.specs.Turning.{IsGatePass, IsLater, Fits, Looked, NoFront, given_to, looks_of};
+ghost use Rattle.input_gate.specs.Turning.{IsGatePass, IsLater, EndsInPoll, Fits, Looked, NoFront, given_to, looks_of};
 
 use crate::passes::{InputCell, InputPass};
 use input_channel::laws::{
@@ -65,6 +65,7 @@ pub(crate) fn poll_in_turn<R: Wait>(
     ensures later { IsLater pass.old pass.new }
     ensures given { given_to pass.new ≡ given_to pass.old ++ option_to_list (given_by result) }
     ensures entered { mine pass.new ≡ mine pass.old ++ Poll hold (gave_of result) ∷ [] }
+    ensures ends { EndsInPoll pass.old pass.new hold (gave_of result) }
     ensures fits { Fits (opened_with cell.now).size hold (given_to pass.old) result }
     ensures freed { freed_by pass.new ≡ freed_by pass.old }
 {

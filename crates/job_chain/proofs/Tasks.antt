@@ -16,9 +16,9 @@ use Rattle.job_start.specs.declared.start.Start.{Start}
 use Rattle.job_start.specs.Starts.{IsBase, from_of, was_ended}
 use Rattle.plain_machine.specs.Emitting.{count_after}
 use Rattle.checkpoint_laws.specs.Chapters.{applied}
-use Rattle.record_writer.specs.Writers.{ways, receiver_at}
+use Rattle.record_writer.specs.Writers.{ways, receiver_at, sender_at}
 use Rattle.task_output.specs.Outputs.{place_to}
-use Rattle.job_chain.specs.Runs.{HasNoFlight}
+use Rattle.channel_cut.specs.Runs.{HasNoFlight}
 use Rattle.source_task.specs.Emitting as source
 use Rattle.stage_task.specs.Snapshots as stage
 use Rattle.aggregate_task.specs.Snapshots as aggregate
@@ -67,9 +67,14 @@ from_first job start base a begins is low = (
   ap (λ (xs : List Bool). unwrap_or (slice_get xs a) false) is.at.ended ∙ none_ended base.ended.items a (recursion_from_All (λ (t : Bool). t ≡ false) base.ended.items begins.ended),
 )
 
--- ---- the channel to a task is at its place
+-- ---- the channel to a task is at its place, and that from a task
 
 pub way_is : (x : Exchange) (a n b way : ℕ) → way < ways x n → receiver_at x a way ≡ b → way ≡ place_to x b
 way_is Hash a n b way below leads = leads
 way_is Rebalance a n b way below leads = leads
 way_is Forward a n b way below leads = omega (arith, below)
+
+pub lane_is : (x : Exchange) (b m a lane : ℕ) → lane < ways x m → sender_at x b lane ≡ a → lane ≡ place_to x a
+lane_is Hash b m a lane below comes = comes
+lane_is Rebalance b m a lane below comes = comes
+lane_is Forward b m a lane below comes = omega (arith, below)

@@ -8,7 +8,7 @@ ghost use Rattle.local_pool.specs.Helds.{pool_of};
 ghost use Rattle.conn_parts.specs.Shares.{AreNew, AreOwn};
 ghost use Rattle.record_writer.specs.Writers.{ways_into};
 ghost use Rattle.input_gate.specs.Channels.{cells_in};
-ghost use Rattle.input_gate.specs.Gates.{IsNew};
+ghost use Rattle.gate_account.specs.Accounts.{IsNew};
 ghost use Rattle.input_gate.specs.States.{account_in};
 ghost use Rattle.input_gate.specs.Turning.{InputCell, InputPass};
 ghost use Rattle.job_workers.specs.Tasks.{IsGateBehind};
@@ -61,7 +61,7 @@ fn gate_of<'a, 'p>(
     requires pool { IsPassOf pool.now pool_pass }
     requires stop { IsStop stop.now stop_pass }
     requires sizes { All (λ (cell : InputCell). (opened_with cell).size ≡ size_of (pool_of (opened_with pool.now))) cells.now }
-    ensures new { IfOk result (λ gate. IsNew (account_in gate) × ((account_in gate).channels ≡ length cells.now)) }
+    ensures new { IfOk result (λ gate. IsNew (λ c. []) (account_in gate) × ((account_in gate).channels ≡ length cells.now)) }
     ensures cells { IfOk result (λ gate. cells_in gate.lanes ≡ cells.now) }
 {
     let flights = flights_of(alloc, cells.len())?;

@@ -13,7 +13,7 @@ use Rattle.conn_parts.specs.Shares.{AreOwn}
 use Rattle.record_writer.specs.Writers.{SendPass}
 use Rattle.input_gate.specs.Turning.{InputPass}
 use Rattle.job_cells.specs.declared.edge.Edge.{Edge}
-use Rattle.job_chain.specs.Ran.{BeginsAt}
+use Rattle.job_chain.specs.Ran.{EndsAt}
 use Rattle.job_workers.specs.declared.task.TaskLeft.{TaskLeft}
 use Rattle.job_workers.specs.Tasks.{gate_in, passes_in}
 use Rattle.job_ends.specs.Edges.{EdgeCarries}
@@ -142,4 +142,4 @@ module _ {S O I : Type 0} {belong : O → I → Type 0} {sent : O → Option (Li
         let n = go.each (suc e) b t.0 t.1 in
         let own : own_at now e a ≡ own_at rows e a = own_of now e a m.0 m.1 ∙ ap passes_in (m.2.partition_stays (omega arith)) ∙ sym (own_of rows e a s.0 s.1) in
         let gate : gate_at now e b ≡ gate_at rows e b = gate_of now e b n.0 n.1 ∙ ap gate_in (n.2.gate_stays (omega arith)) ∙ sym (gate_of rows e b t.0 t.1) in
-        subst (λ (x : List SendPass). BeginsAt job e a b x (gate_at rows e b)) own (subst (λ (y : List InputPass). BeginsAt job e a b (own_at now e a) y) gate (carries a b is_one))
+        subst (λ (x : List SendPass). EndsAt job e a b x (gate_at rows e b)) own (subst (λ (y : List InputPass). EndsAt job e a b (own_at now e a) y) gate (carries a b is_one))

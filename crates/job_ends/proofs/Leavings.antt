@@ -141,14 +141,17 @@ module _ {S : Type 0} (job : Job) (e : ℕ) (edge : Edge) (rows : List (Items (T
       ap (λ (o : Option (TaskLeft S)). option_map_or (λ (left : TaskLeft S). gate_in left.gate) o []) t.1 ∙ ap gate_in t.2.are_there
 
   module _ (sent came : Items (TaskPlace S)) (at : slice_get rows e ≡ Some sent) (next_at : slice_get rows (suc e) ≡ Some came) (takers : List SendPass) (pushers : List InputPass) where
-    pub is_settled : AreOwn 1 edge.subpartitions.items takers →
+    pub is_settled : AreOwn 1 edge.subpartitions.items takers → AreOwn 1 edge.inputs.items pushers →
         ((a : ℕ) (place : TaskPlace S) → slice_get sent.items a ≡ Some place → AllSettled sending.QueueStandsFor a (length sent.items) (sent_in place) takers) →
         ((b : ℕ) (place : TaskPlace S) → slice_get came.items b ≡ Some place → AllSettled receiving.ChannelStandsFor (b * length (taken_in place)) 1 (taken_in place) pushers) →
         HasArrived job e takers pushers → IsSettled job e edge.subpartitions.items edge.inputs.items (own_at rows e) (gate_at rows e) takers pushers
-    is_settled own settled settled_next arrived = record {
+    is_settled own pushed settled settled_next arrived = record {
       cells = has.is_edge.subpartitions ∙ ap length has.is_edge.channels;
+      inputs_many = has.is_edge.inputs ∙ ap length has.is_edge.channels;
       takers_are = own;
+      pushers_are = pushed;
       own_many = λ a low. ap length (own_is a low) ∙ (has.sent_by a low).2.own.many_are;
+      own_are = λ a low. subst (AreTaskAt edge.subpartitions.items a (tasks job e)) (sym (own_is a low)) (has.sent_by a low).2.own.each;
       sent = λ a low.
           let many = has.row_many e sent at in
           let p = stands sent.items a (omega (arith, low, many)) in

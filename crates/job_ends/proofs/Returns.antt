@@ -1,5 +1,5 @@
 -- Wires that are given back one after another.
-use Rattle.std.proofs.Common.{◌≡◌, ℕ, zero, suc, ◌+◌, ◌<◌, Bool, inl, inr, Option, Some, None, List, [], ◌∷◌, ◌++◌, length, refl, sym, ap, subst, ◌∙◌, arith, append_assoc, append-nil, length-append}
+use Rattle.std.proofs.Common.{◌≡◌, ℕ, zero, suc, ◌+◌, Bool, inl, inr, Option, Some, None, List, [], ◌∷◌, ◌++◌, length, refl, sym, ap, subst, ◌∙◌, arith, append_assoc, append-nil, length-append}
 use Rattle.std.specs.Prelude.{slice_get, IfSome}
 use Rattle.std.proofs.lemmas.Bool.{cases_lt}
 use Rattle.std.proofs.lemmas.Option.{same_Some}
@@ -8,7 +8,7 @@ use Rattle.flow_defs.specs.declared.job.Job.{Job}
 use Rattle.outside.specs.declared.wires.Wire.{Wire}
 use Rattle.conn_parts.specs.declared.share.LoopEnd.{LoopEnd}
 use Rattle.job_cells.specs.declared.edge.Edge.{Edge}
-use Rattle.job_workers.specs.declared.connection.LoopLeft.TheVariants.{SentItems, ReadControl, ReadItems, SentControl}
+use Rattle.job_workers.specs.declared.connection.LoopLeft.TheVariants.{ReadControl, ReadItems}
 use Rattle.job_workers.specs.declared.place.Place.TheVariants.{Ended}
 use Rattle.job_ends.specs.declared.left.EdgeLeft.{EdgeLeft}
 use Rattle.job_ends.specs.Ended.{LoopPlace, AreLoopsEnded}

@@ -30,8 +30,7 @@ use Rattle.collecting_worker.specs.Images.{IsMadeFrom, IsNext}
 use Rattle.collecting_worker.specs.Laws.{AreCollected, StoredAreCollected}
 use Rattle.collecting_worker.proofs.Going.{all_more, linked_more}
 use Rattle.collecting_worker.proofs.Told.{made_are_collected, sent_it}
-use Rattle.job_chain.specs.Ran.{JobRan, RanIsChain}
-use Rattle.job_chain.specs.Runs.{HasNoneInFlight, StartIsStill}
+use Rattle.job_chain.specs.Ran.{JobRan, RanIsChain, HasNoneInFlight, StartIsStill}
 use Rattle.job_chain.proofs.Tasks.{contained, source_none, stage_none, aggregate_none}
 use Rattle.job_workers.specs.declared.collecting.CollectTask.{CollectTask}
 use Rattle.job_workers.specs.declared.place.Place.{Place}

@@ -19,7 +19,7 @@ use Rattle.net_frames.specs.Frames.{all_spelled}
 use Rattle.conn_read_control.specs.Controlling.{EndedBy as ControlEndedBy, MetPeer as MetAtControl}
 use Rattle.conn_read_items.specs.Receiving.{EndedBy as ItemsEndedBy, MetPeer as MetAtItems, arrival_with}
 use Rattle.conn_send_control.specs.Announcing.{IsSendCause as IsAnnounceCause}
-use Rattle.input_gate.specs.Gates.{Account}
+use Rattle.gate_account.specs.Accounts.{Account}
 use Rattle.snapshot_channel.specs.Passes.{received_by}
 use Rattle.task_output.specs.Acking.{base_of}
 use Rattle.task_taking.specs.Endings.{IsTakerEnd}
@@ -29,14 +29,13 @@ use Rattle.collecting_worker.specs.Accounts.{IsCollectCause}
 use Rattle.collecting_worker.specs.Images.{IsNext}
 use Rattle.collecting_worker.specs.Laws.{StoredAreCollected}
 use Rattle.job_cells.specs.declared.edge.Edge.{Edge}
-use Rattle.job_chain.specs.Ran.{RanIsChain}
+use Rattle.job_chain.specs.Ran.{RanIsChain, StartIsStill}
 use Rattle.job_workers.specs.declared.connection.LoopLeft.TheVariants as did
 use Rattle.job_workers.specs.declared.place.Place.TheVariants.{Ended}
 use Rattle.job_workers.specs.declared.collecting.CollectTask.{CollectTask}
 use Rattle.job_workers.specs.declared.place.Place.{Place}
 use Rattle.job_ends.specs.Ended.{TaskPlace, LoopPlace, HasLinkFault, faults_in}
 use Rattle.job_outcome.specs.Outcomes.{HasEnded, StandsAt, cause_of_task, cause_of_loop, cause_of_collector}
-use Rattle.job_chain.specs.Runs.{StartIsStill}
 use Rattle.job_outcome.specs.Theorems.{HaveRun, Run, start_of, IsNewWire, AreInputsLeft, AreLeftIn, AreSettledWith, HasGrounds, HasLargeImage, InputsComeBack, CausesHaveGrounds}
 use Rattle.job_outcome.specs.Words.{WorldWords}
 use Rattle.job_outcome.proofs.Chaining.{account_of, same_end, too_large}

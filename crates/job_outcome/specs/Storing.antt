@@ -10,7 +10,7 @@ use Rattle.plain_machine.specs.Chains.{Chain, last_of}
 use Rattle.plain_machine.specs.Spelling.{CanSpell}
 use Rattle.channel_state.specs.ImageFaults.{IsReadable}
 use Rattle.outside.specs.Keepers.{KeptImage}
-use Rattle.job_chain.specs.Runs.{HasNoneInFlight}
+use Rattle.job_chain.specs.Ran.{HasNoneInFlight}
 use Rattle.collecting_worker.specs.Images.{with_images}
 
 -- The images that a keeper told before stay, and these come behind them. Where it doesn't tell its images this holds of every list.

@@ -13,8 +13,8 @@ use Rattle.record_writer.specs.Partitions.{ArePassesOf, IsPartitionOf}
 use Rattle.record_writer.specs.Writers.{SendPass, ways_into}
 use Rattle.input_gate.specs.declared.passes.GatePasses.{GatePasses}
 use Rattle.input_gate.specs.Channels.{cells_in}
-use Rattle.input_gate.specs.Gates.{Account, IsNew}
-use Rattle.input_gate.specs.States.{GateState, account_in}
+use Rattle.gate_account.specs.Accounts.{Account, IsNew}
+use Rattle.input_gate.specs.States.{GateState, account_in, shows_at}
 use Rattle.input_gate.specs.Turning.{InputCell, InputPass}
 use Rattle.checkpoint_laws.specs.Chapters.{task_at}
 use Rattle.job_start.specs.Starts.{IsStartFor}
@@ -25,7 +25,6 @@ use Rattle.task_output.specs.Acking.{IsLent}
 use Rattle.source_task.specs.Sources.{SourceAccount}
 use Rattle.stage_task.specs.Stages.{StageAccount}
 use Rattle.aggregate_task.specs.Aggregates.{AggregateAccount}
-use Rattle.job_chain.specs.Ran.{TellsGiven}
 use Rattle.job_workers.specs.declared.task.SourceTask.{SourceTask}
 use Rattle.job_workers.specs.declared.task.StageTask.{StageTask}
 use Rattle.job_workers.specs.declared.task.AggregateTask.{AggregateTask}
@@ -37,7 +36,7 @@ use Rattle.job_workers.specs.declared.task.TaskLeft.{TaskLeft}
 
 -- The gate of a task behind edge e has given nothing.
 abbrev pub IsGateBehind : Job → ℕ → GateState → Type 0
-IsGateBehind job e gate = IsNew (account_in gate) × ((account_in gate).channels ≡ ways_into job e)
+IsGateBehind job e gate = IsNew (λ c. []) (account_in gate) × ((account_in gate).channels ≡ ways_into job e)
 
 pub record MayRunSource {S : Type 0} (job : Job) (task : SourceTask S) : Type 0 where
   pub partition : IsPartitionOf job 0 task.index task.world.partition
@@ -101,7 +100,7 @@ pub record LeftBySource {S : Type 0} (left : S → Option (List ℕ)) (faults : 
   pub last_image : IsPassOf task.world.acks.last_image.now end.last_image
   pub account : SourceAccount job task.index task.world.partition.size task.start.now task.every (passes_in end.partition) (snapshots_in end.snapshots) (seen end.last_image) (left task.input) (faults task.input) (faults input) end.cause
 
--- A stateless task has its account by what its gate's passes tell.
+-- A stateless task has its account by what its gate's passes show.
 pub record LeftByStage {S : Type 0} (job : Job) (task : StageTask) (end : TaskLeft S) : Type 0 where
   pub no_input : end.input ≡ None
   pub gate : HasGatePasses (cells_in task.gate.lanes) end.gate
@@ -109,9 +108,8 @@ pub record LeftByStage {S : Type 0} (job : Job) (task : StageTask) (end : TaskLe
   pub snapshots : HasSnapshotPass (suc task.edge) task.index task.world.acks.snapshots.now end.snapshots
   pub last_image : IsPassOf task.world.acks.last_image.now end.last_image
   pub given : Account
-  pub tells : TellsGiven (gate_in end.gate) given
   pub takes : List TakeRun
-  pub account : StageAccount job task.edge task.index task.world.partition.size task.start.now task.every given (passes_in end.partition) (snapshots_in end.snapshots) (seen end.last_image) takes end.cause
+  pub account : StageAccount job task.edge task.index task.world.partition.size task.start.now task.every given (shows_at (gate_in end.gate)) (passes_in end.partition) (snapshots_in end.snapshots) (seen end.last_image) takes end.cause
 
 -- So has a task of the aggregate.
 pub record LeftByAggregate {S : Type 0} (job : Job) (task : AggregateTask) (end : TaskLeft S) : Type 0 where
@@ -121,9 +119,8 @@ pub record LeftByAggregate {S : Type 0} (job : Job) (task : AggregateTask) (end 
   pub snapshots : HasSnapshotPass (suc (last_edge job)) task.index task.world.acks.snapshots.now end.snapshots
   pub last_image : IsPassOf task.world.acks.last_image.now end.last_image
   pub given : Account
-  pub tells : TellsGiven (gate_in end.gate) given
   pub takes : List TakeRun
-  pub account : AggregateAccount job task.index task.start.now task.every given (snapshots_in end.snapshots) (seen end.last_image) takes end.cause
+  pub account : AggregateAccount job task.index task.start.now task.every given (shows_at (gate_in end.gate)) (snapshots_in end.snapshots) (seen end.last_image) takes end.cause
 
 abbrev pub LeftByTask : {S : Type 0} → (S → Option (List ℕ)) → (S → ℕ) → Job → Task S → TaskLeft S → Type 0
 LeftByTask left faults job (Source task) end = LeftBySource left faults job task end

@@ -124,7 +124,7 @@ place_of Rebalance a n b within joined = record { inside = within; leads = refl 
 place_of Forward a n b within joined = record { inside = omega arith; leads = eqb-true a b joined }
 
 pub stage_has_account : EmittedAreShort → NoStageLengthens → StageHasAccount
-stage_has_account short_law lengthens job all base e b size start every gate passes sent history takes cause is_base below inside was =
+stage_has_account short_law lengthens job all base e b size start every gate takers passes sent history takes cause is_base below inside was =
     let to = receiver_on job (suc e) b in
     let from = from_of job start (suc e) b in
     let made = all_applied job e was.groups in

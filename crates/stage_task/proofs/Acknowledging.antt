@@ -21,12 +21,14 @@ use Rattle.job_start.specs.declared.start.Start.{Start}
 use Rattle.job_start.specs.Starts.{from_of}
 use Rattle.barriers.specs.Alignments.{is_open}
 use Rattle.outside.specs.declared.last_image.Stored.{Stored}
-use Rattle.input_gate.specs.Gates.{Account}
+use Rattle.channel_cut.specs.Cuts.{Cut}
+use Rattle.gate_account.specs.Accounts.{Account}
 use Rattle.snapshot_channel.specs.declared.opened.SnapshotChannel.{SnapshotChannel}
 use Rattle.snapshot_channel.specs.Snapshots.{AreTakesAt, FitsTask, LeadsTo, ComesFrom, HaveOwnChannels, MaySend}
 use Rattle.snapshot_channel.specs.Passes.{opening_of, sent_by, task_of}
 use Rattle.task_taking.specs.Takings.{Taking, HasTaken, IsAtBarrier}
-use Rattle.task_taking.specs.Endings.{EachTold, IsTakerEnd, ResumedIsGiven}
+use Rattle.task_taking.specs.Endings.{EachTold, IsTakerEnd}
+use Rattle.task_taking.proofs.Giving.{resumed_is_given, resumed_is_told}
 use Rattle.task_output.specs.declared.acks.Acks.{Acks}
 use Rattle.task_output.specs.Acking.{HasPasses, IsSameTask, base_of}
 use Rattle.task_output.specs.Looking.{HasSentNoMore}
@@ -40,7 +42,7 @@ use Rattle.stage_task.specs.Stages.{StageAccount}
 use Rattle.stage_task.specs.Applying.{start_at, base_at, from_at, HasOwnPasses, HasApplied, IsMarked, HasAcknowledged}
 use Rattle.stage_task.proofs.Snapshots.{as_many, applied_more, snapshots_more}
 use Rattle.stage_task.proofs.SameStage.{same_start}
-use Rattle.stage_task.proofs.Ends.{ended_account, all_front_of, told_behind}
+use Rattle.stage_task.proofs.Ends.{ended_account, all_front_of}
 
 -- ---- a snapshot fits its task
 
@@ -65,21 +67,21 @@ fits job e b k emitted x of runs = record {
 
 -- ---- its channels go on, and the snapshot is still to be sent
 
-pub record IsResumed (job : Job) (e b size : ℕ) (start : Start) (gate : Account) (taking : Taking) (out : Output) (sent : List Snapshot) (takes : List TakeRun) : Type 0 where
+pub record IsResumed (job : Job) (e b size : ℕ) (start : Start) (gate : Account) (shows : ℕ → Cut → Type 0) (taking : Taking) (out : Output) (sent : List Snapshot) (takes : List TakeRun) : Type 0 where
   pub groups : List (List (ℕ × List ℕ))
   pub took : List (ℕ × List ℕ)
-  pub taken : HasTaken job e b gate taking (groups ++ took ∷ []) []
+  pub taken : HasTaken job e b gate shows taking (groups ++ took ∷ []) []
   pub closed : is_open taking.alignment ≡ false
   pub takes_are : RunsTake job e b takes took
   pub was : HasSent (from_of job start (suc e) b).emitted job (suc e) b size out (all_applied job e groups ++ applied job e took ∷ []) []
   pub snapshots : AreSnapshots job e b (from_of job start (suc e) b).number (from_of job start (suc e) b).emitted groups sent
 
 -- whatever its end, where it has put nothing since and has the same start
-pub resumed_at : (before after : Account) (t t' : Taking) (out : StageOutput) (start : Start) (o : Output) (sent : List Snapshot) (takes takes' : List TakeRun) (marked : IsMarked before t out) → start ≡ start_at out → HasSentNoMore out.output o
+pub resumed_at : (before after : Account) (showed shows : ℕ → Cut → Type 0) (t t' : Taking) (out : StageOutput) (start : Start) (o : Output) (sent : List Snapshot) (takes takes' : List TakeRun) (marked : IsMarked before showed t out) → start ≡ start_at out → HasSentNoMore out.output o
     → sent ≡ sent_by out.acks.pass → takes' ≡ takes → is_open t'.alignment ≡ false
-    → ((job : Job) (e b : ℕ) (groups : List (List (ℕ × List ℕ))) (took : List (ℕ × List ℕ)) → IsAtBarrier job e b before t groups took → RunsTake job e b takes took × HasTaken job e b after t' (groups ++ took ∷ []) [])
-    → IsResumed out.job.now out.edge out.index o.writer.size start after t' o sent takes'
-resumed_at before after t t' out start o sent takes takes' marked from no_more kept back closed resume =
+    → ((job : Job) (e b : ℕ) (groups : List (List (ℕ × List ℕ))) (took : List (ℕ × List ℕ)) → IsAtBarrier job e b before showed t groups took → RunsTake job e b takes took × HasTaken job e b after shows t' (groups ++ took ∷ []) [])
+    → IsResumed out.job.now out.edge out.index o.writer.size start after shows t' o sent takes'
+resumed_at before after showed shows t t' out start o sent takes takes' marked from no_more kept back closed resume =
     let job = out.job.now in
     let taken = resume job out.edge out.index marked.groups marked.took marked.at in
     let all = all_applied job out.edge marked.groups ++ applied job out.edge marked.took ∷ [] in
@@ -102,10 +104,10 @@ resumed_at before after t t' out start o sent takes takes' marked from no_more k
 pub number_there : (acks acks' : Acks) (k : ℕ) → acks'.base ≡ acks.base → acks'.sent ≡ acks.sent → k ≡ acks.base.number + suc acks.sent → k ≡ acks'.base.number + suc acks'.sent
 number_there acks acks' k base sent is = is ∙ ap (λ (s : Stored). s.number + suc acks.sent) (sym base) ∙ ap (λ n. acks'.base.number + suc n) (sym sent)
 
-pub may_send : (out : StageOutput) (k emitted : ℕ) (x : Snapshot) (takes : List TakeRun) (size : ℕ) (start : Start) (gate : Account) (taking : Taking) → HasOwnPasses out → IsSnapshotOf out.edge out.index k emitted x → x.takes.items ≡ takes
-    → k ≡ out.acks.base.number + suc out.acks.sent → IsResumed out.job.now out.edge out.index size start gate taking out.output (sent_by out.acks.pass) takes
+pub may_send : (out : StageOutput) (k emitted : ℕ) (x : Snapshot) (takes : List TakeRun) (size : ℕ) (start : Start) (gate : Account) (shows : ℕ → Cut → Type 0) (taking : Taking) → HasOwnPasses out → IsSnapshotOf out.edge out.index k emitted x → x.takes.items ≡ takes
+    → k ≡ out.acks.base.number + suc out.acks.sent → IsResumed out.job.now out.edge out.index size start gate shows taking out.output (sent_by out.acks.pass) takes
     → MaySend (opening_of out.acks.snapshots.now) (task_of out.acks.pass) (sent_by out.acks.pass) x
-may_send out k emitted x takes size start gate taking own of takes_is number at =
+may_send out k emitted x takes size start gate shows taking own of takes_is number at =
     let base : out.acks.base.number ≡ (start_at out).number = ap (λ (s : Stored). s.number) own.passes.base_is in
     let many = own.passes.sent_is in
     record {
@@ -128,16 +130,16 @@ own_later stays out o acks has same kept own = record {
 
 -- ---- it ended before its snapshot was sent
 
-pub unacknowledged : BarrierIsLeftAside → ResumedIsGiven → (job : Job) (e b size : ℕ) (start : Start) (every : Option ℕ) (gate : Account) (taking : Taking) (out : Output) (sent : List Snapshot) (history : List (ℕ × Stored)) (takes : List TakeRun) (cause : Cause)
-    → IsResumed job e b size start gate taking out sent takes → cause ≢ causes.Done → ((groups : List (List (ℕ × List ℕ))) (rest : List (ℕ × List ℕ)) → IsTakerEnd (base_of start) every history gate groups rest cause)
-    → StageAccount job e b size start every gate out.writer.passes sent history takes cause
-unacknowledged aside resumed job e b size start every gate taking out sent history takes cause at other ends =
+pub unacknowledged : BarrierIsLeftAside → (job : Job) (e b size : ℕ) (start : Start) (every : Option ℕ) (gate : Account) (shows : ℕ → Cut → Type 0) (taking : Taking) (out : Output) (sent : List Snapshot) (history : List (ℕ × Stored)) (takes : List TakeRun) (cause : Cause)
+    → IsResumed job e b size start gate shows taking out sent takes → cause ≢ causes.Done → ((groups : List (List (ℕ × List ℕ))) (rest : List (ℕ × List ℕ)) → IsTakerEnd (base_of start) every history gate groups rest cause)
+    → StageAccount job e b size start every gate shows out.writer.passes sent history takes cause
+unacknowledged aside job e b size start every gate shows taking out sent history takes cause at other ends =
     let from = (from_of job start (suc e) b).emitted in
     let made = applied job e at.took in
-    ended_account job e b size start every gate out sent history takes cause at.groups at.took made []
-    (resumed job e b gate taking at.groups at.took at.taken at.closed)
+    ended_account job e b size start every gate shows out sent history takes cause at.groups at.took made []
+    (resumed_is_given job e b gate shows taking at.groups at.took at.taken)
     at.snapshots at.takes_are
-    (begun_where ⊤ (EachTold gate (suc (length at.groups))) ⊥ (MayEnd (base_of start) every history at.groups at.took) (λ mark. told_behind job e b gate taking at.groups at.took at.taken at.closed) (λ never. absurd never) from job (suc e) b size out (all_applied job e at.groups) made [] (aside from job (suc e) b size out (all_applied job e at.groups) made at.was))
+    (begun_where ⊤ (EachTold gate (suc (length at.groups))) ⊥ (MayEnd (base_of start) every history at.groups at.took) (λ mark. resumed_is_told job e b gate shows taking at.groups at.took at.taken at.closed) (λ never. absurd never) from job (suc e) b size out (all_applied job e at.groups) made [] (aside from job (suc e) b size out (all_applied job e at.groups) made at.was))
     (all_front_of made)
     other (ends at.groups at.took)
 
@@ -148,16 +150,16 @@ known_last base base' every history history' n m last same later many known =
     subst (λ i. LastIs base' every history' i last) (sym many)
     (subst (λ (s : Stored). KnowsLast s every history' n last) (sym same) (subst (λ (h : List (ℕ × Stored)). KnowsLast base every h n last) (sym later) known))
 
-goes_on : (gate : Account) (taking : Taking) (out : StageOutput) (groups : List (List (ℕ × List ℕ))) (last : Bool) → HasApplied gate taking out groups [] → LastIs (base_at out) out.every (seen out.acks.last_pass) (length groups) last → HasAcknowledged gate taking out last
-goes_on gate taking out groups true has is = record { groups = groups; applied_them = has; last = is }
-goes_on gate taking out groups false has is = record { groups = groups; took = []; applied_them = has; not_last = is }
+goes_on : (gate : Account) (shows : ℕ → Cut → Type 0) (taking : Taking) (out : StageOutput) (groups : List (List (ℕ × List ℕ))) (last : Bool) → HasApplied gate shows taking out groups [] → LastIs (base_at out) out.every (seen out.acks.last_pass) (length groups) last → HasAcknowledged gate shows taking out last
+goes_on gate shows taking out groups true has is = record { groups = groups; applied_them = has; last = is }
+goes_on gate shows taking out groups false has is = record { groups = groups; took = []; applied_them = has; not_last = is }
 
-pub acknowledged : CountedInParts → (gate : Account) (taking : Taking) (out : StageOutput) (before : Output) (acks : Acks) (k size : ℕ) (takes : List TakeRun) (x : Snapshot) (last : Bool)
-    (at : IsResumed out.job.now out.edge out.index size (start_at out) gate taking before (sent_by acks.pass) takes)
+pub acknowledged : CountedInParts → (gate : Account) (shows : ℕ → Cut → Type 0) (taking : Taking) (out : StageOutput) (before : Output) (acks : Acks) (k size : ℕ) (takes : List TakeRun) (x : Snapshot) (last : Bool)
+    (at : IsResumed out.job.now out.edge out.index size (start_at out) gate shows taking before (sent_by acks.pass) takes)
     → HasPasses acks → HasPasses out.acks → IsSameTask acks out.acks → out.acks.last_pass ≡ acks.last_pass → k ≡ acks.base.number + suc acks.sent
     → HasSentNoMore before out.output → IsSnapshotOf out.edge out.index k before.emitted x → x.takes.items ≡ takes → sent_by out.acks.pass ≡ sent_by acks.pass ++ x ∷ [] → KnowsLast acks.base out.every (seen acks.last_pass) acks.sent last
-    → HasAcknowledged gate taking out last
-acknowledged count gate taking out before acks k size takes x last at had has same last_is number no_more of takes_is sent_is known =
+    → HasAcknowledged gate shows taking out last
+acknowledged count gate shows taking out before acks k size takes x last at had has same last_is number no_more of takes_is sent_is known =
     let job = out.job.now in
     let e = out.edge in
     let b = out.index in
@@ -184,7 +186,7 @@ acknowledged count gate taking out before acks k size takes x last at had has sa
       takes = subst (λ l. RunsTake job e b l took) (sym takes_is) at.takes_are;
     } in
     let grown = snapshots_more count job e b took x from.number from.emitted groups (sent_by acks.pass) at.snapshots is in
-    goes_on gate taking out (groups ++ took ∷ []) last
+    goes_on gate shows taking out (groups ++ took ∷ []) last
     (record {
       taken = at.taken;
       sent = subst (λ l. HasSent from.emitted job (suc e) b out.output.writer.size out.output l []) (sym (applied_more job e groups took))

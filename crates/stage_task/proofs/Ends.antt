@@ -1,5 +1,5 @@
 -- Where a stage takes no more.
-use Rattle.std.proofs.Common.{◌≡◌, ◌≢◌, ◌⊎◌, ℕ, suc, ◌<◌, ◌+◌, false, List, [], ◌∷◌, ◌++◌, length, Option, refl, sym, ap, subst, ◌∙◌, inl, inr, append-nil, append_assoc, length-append, arith}
+use Rattle.std.proofs.Common.{◌≡◌, ◌≢◌, ◌⊎◌, ℕ, suc, false, List, [], ◌∷◌, ◌++◌, length, Option, refl, sym, ap, subst, ◌∙◌, inl, inr, append-nil, append_assoc}
 use Rattle.std.specs.Prelude.{⊤}
 use Rattle.std.proofs.lemmas.List.{length-map}
 use Rattle.turn_cell.specs.History.{StartsWith}
@@ -15,17 +15,18 @@ use Rattle.checkpoint_laws.specs.Chapters.{RunsTake, applied}
 use Rattle.job_start.specs.declared.start.Start.{Start}
 use Rattle.job_start.specs.Starts.{from_of}
 use Rattle.outside.specs.declared.last_image.Stored.{Stored}
-use Rattle.barriers.specs.Alignments.{is_open}
 use Rattle.record_writer.specs.Writers.{SendPass, IsNextBarrier, HasSeenFault}
-use Rattle.input_gate.specs.Gates.{Account, AllOver, stops_in}
+use Rattle.channel_cut.specs.Cuts.{Cut}
+use Rattle.gate_account.specs.Accounts.{Account, AllOver}
 use Rattle.snapshot_channel.specs.Passes.{sent_by}
 use Rattle.task_taking.specs.Steps.{IsTakerCause}
-use Rattle.task_taking.specs.Takings.{Taking, HasTaken, IsAtBarrier, start_of, stop_if, told_of}
+use Rattle.task_taking.specs.Takings.{Taking, Gave, HasTaken, HadTaken, IsAtBarrier}
 use Rattle.task_output.specs.Acking.{base_of}
 use Rattle.task_output.specs.Waiting.{LastIs, MayEnd}
 use Rattle.task_output.proofs.Begun.{begun_where}
-use Rattle.task_taking.specs.Endings.{Gave, EachTold, IsTakerEnd, TakenIsGiven, BarrierIsGiven}
-use Rattle.task_taking.proofs.Told.{none_at, stops_told}
+use Rattle.task_taking.specs.Endings.{EachTold, IsTakerEnd}
+use Rattle.task_taking.proofs.Groups.{had_taken}
+use Rattle.task_taking.proofs.Giving.{barrier_is_given, barrier_is_told}
 use Rattle.task_output.specs.Outputs.{Output, HasSent, HasBegun, HasStopped, HasFinished}
 use Rattle.task_output.specs.Laws.{SentIsBegun, FinishedIsBegun}
 use Rattle.stage_task.specs.declared.checkpoints.StageOutput.{StageOutput}
@@ -39,28 +40,13 @@ use Rattle.stage_task.proofs.Records.{applied_line}
 abbrev none_took : List (ℕ × List ℕ)
 none_took = []
 
--- at the barriers of a checkpoint, and behind them, the gate has told one behind each group
-module _ (job : Job) (e b : ℕ) (gate : Account) (t : Taking) (groups : List (List (ℕ × List ℕ))) (took : List (ℕ × List ℕ)) where
-  told_there : (c : ℕ) → gate.told c ≡ told_of (start_of job e b c) 1 (groups ++ took ∷ []) [] → stops_in (gate.told c) ≡ suc (length groups)
-  told_there c is =
-      ap stops_in is ∙ stops_told (start_of job e b c) 1 (groups ++ took ∷ []) ∙ length-append groups (took ∷ []) ∙ (let z : length groups + 1 ≡ suc (length groups) = omega arith in z)
-
-  all_told : IsAtBarrier job e b gate t groups took → EachTold gate (suc (length groups))
-  all_told at = λ c inside. told_there c (at.each c (subst (λ n. c < n) at.takes_for.channels inside))
-
-  pub told_behind : HasTaken job e b gate t (groups ++ took ∷ []) [] → is_open t.alignment ≡ false → EachTold gate (suc (length groups))
-  told_behind taken closed = λ c inside. told_there c (
-      taken.each c (subst (λ n. c < n) taken.takes_for.channels inside)
-      ∙ ap (λ w. told_of (start_of job e b c) 1 (groups ++ took ∷ []) [] ++ stop_if w (suc (length (groups ++ took ∷ [])))) (none_at t.alignment.gave c closed)
-      ∙ append-nil (told_of (start_of job e b c) 1 (groups ++ took ∷ []) []))
-
 -- what was begun is put
-pub ended_account : (job : Job) (e b size : ℕ) (start : Start) (every : Option ℕ) (gate : Account) (out : Output) (sent : List Snapshot) (history : List (ℕ × Stored)) (takes : List TakeRun) (cause : Cause)
+pub ended_account : (job : Job) (e b size : ℕ) (start : Start) (every : Option ℕ) (gate : Account) (shows : ℕ → Cut → Type 0) (out : Output) (sent : List Snapshot) (history : List (ℕ × Stored)) (takes : List TakeRun) (cause : Cause)
     (groups : List (List (ℕ × List ℕ))) (rest : List (ℕ × List ℕ)) (records begun : List (List ℕ))
-    → Gave job e b gate groups rest → AreSnapshots job e b (from_of job start (suc e) b).number (from_of job start (suc e) b).emitted groups sent → RunsTake job e b takes rest → HasBegun (from_of job start (suc e) b).emitted job (suc e) b size out (all_applied job e groups) records begun (EachTold gate (suc (length groups))) (MayEnd (base_of start) every history groups rest)
+    → Gave job e b gate shows groups rest → AreSnapshots job e b (from_of job start (suc e) b).number (from_of job start (suc e) b).emitted groups sent → RunsTake job e b takes rest → HasBegun (from_of job start (suc e) b).emitted job (suc e) b size out (all_applied job e groups) records begun (EachTold gate (suc (length groups))) (MayEnd (base_of start) every history groups rest)
     → StartsWith (applied job e rest) (records ++ begun) → cause ≢ causes.Done → IsTakerEnd (base_of start) every history gate groups rest cause
-    → StageAccount job e b size start every gate out.writer.passes sent history takes cause
-ended_account job e b size start every gate out sent history takes cause groups rest records begun given snapshots takes_are begun_them front other cause_is = record {
+    → StageAccount job e b size start every gate shows out.writer.passes sent history takes cause
+ended_account job e b size start every gate shows out sent history takes cause groups rest records begun given snapshots takes_are begun_them front other cause_is = record {
   groups = groups;
   rest = rest;
   more = records ++ begun;
@@ -125,16 +111,16 @@ among_stopped saw from job e a size out groups records given cause cause' among 
 
 -- ---- by other names
 
-pub named : (job : Job) (e b size : ℕ) (start : Start) (every : Option ℕ) (gate : Account) (passes : List SendPass) (sent : List Snapshot) (history : List (ℕ × Stored)) (takes takes' : List TakeRun) (cause cause' : Cause) → takes' ≡ takes → cause' ≡ cause
-    → StageAccount job e b size start every gate passes sent history takes cause → StageAccount job e b size start every gate passes sent history takes' cause'
-named job e b size start every gate passes sent history takes takes' cause cause' one two was =
-    subst (λ (l : List TakeRun). StageAccount job e b size start every gate passes sent history l cause') (sym one) (subst (StageAccount job e b size start every gate passes sent history takes) (sym two) was)
+pub named : (job : Job) (e b size : ℕ) (start : Start) (every : Option ℕ) (gate : Account) (shows : ℕ → Cut → Type 0) (passes : List SendPass) (sent : List Snapshot) (history : List (ℕ × Stored)) (takes takes' : List TakeRun) (cause cause' : Cause) → takes' ≡ takes → cause' ≡ cause
+    → StageAccount job e b size start every gate shows passes sent history takes cause → StageAccount job e b size start every gate shows passes sent history takes' cause'
+named job e b size start every gate shows passes sent history takes takes' cause cause' one two was =
+    subst (λ (l : List TakeRun). StageAccount job e b size start every gate shows passes sent history l cause') (sym one) (subst (StageAccount job e b size start every gate shows passes sent history takes) (sym two) was)
 
 -- by the names of the end that it answers
-pub ends_so : (gate : Account) (out : StageOutput) (end : TakerEnd) {takes : List TakeRun} {cause : Cause} → (end.takes.items ≡ takes) × (end.cause ≡ cause)
-    → StageAccount out.job.now out.edge out.index out.output.writer.size (start_at out) out.every gate out.output.writer.passes (sent_by out.acks.pass) (seen out.acks.last_pass) takes cause → IsEndOf gate out end
-ends_so gate out end {takes} {cause} is was =
-    named out.job.now out.edge out.index out.output.writer.size (start_at out) out.every gate out.output.writer.passes (sent_by out.acks.pass) (seen out.acks.last_pass) takes end.takes.items cause end.cause is.0 is.1 was
+pub ends_so : (gate : Account) (shows : ℕ → Cut → Type 0) (out : StageOutput) (end : TakerEnd) {takes : List TakeRun} {cause : Cause} → (end.takes.items ≡ takes) × (end.cause ≡ cause)
+    → StageAccount out.job.now out.edge out.index out.output.writer.size (start_at out) out.every gate shows out.output.writer.passes (sent_by out.acks.pass) (seen out.acks.last_pass) takes cause → IsEndOf gate shows out end
+ends_so gate shows out end {takes} {cause} is was =
+    named out.job.now out.edge out.index out.output.writer.size (start_at out) out.every gate shows out.output.writer.passes (sent_by out.acks.pass) (seen out.acks.last_pass) takes end.takes.items cause end.cause is.0 is.1 was
 
 -- ---- where it takes on
 
@@ -146,36 +132,36 @@ module _ (out : StageOutput) where
   size = out.output.writer.size
 
   -- the account where it ends with another output
-  abbrev Ended : Account → Output → List TakeRun → Cause → Type 0
-  Ended gate o takes cause = StageAccount job out.edge out.index o.writer.size (start_at out) out.every gate o.writer.passes (sent_by out.acks.pass) (seen out.acks.last_pass) takes cause
+  abbrev Ended : Account → (ℕ → Cut → Type 0) → Output → List TakeRun → Cause → Type 0
+  Ended gate shows o takes cause = StageAccount job out.edge out.index o.writer.size (start_at out) out.every gate shows o.writer.passes (sent_by out.acks.pass) (seen out.acks.last_pass) takes cause
 
-  module _ (before gate : Account) (t t' : Taking) (groups : List (List (ℕ × List ℕ))) (took : List (ℕ × List ℕ)) (was : HasApplied before t out groups took) where
+  module _ (before gate : Account) (showed shows : ℕ → Cut → Type 0) (t t' : Taking) (groups : List (List (ℕ × List ℕ))) (took : List (ℕ × List ℕ)) (was : HasApplied before showed t out groups took) where
     abbrev made : List (List ℕ)
     made = applied job out.edge took
 
     -- it took nothing more
-    module _ (sent_law : SentIsBegun) (given_law : TakenIsGiven) (taken : HasTaken job out.edge out.index gate t' groups took) where
-      still_ended : (cause : Cause) → cause ≢ causes.Done → IsTakerEnd (base_at out) out.every (seen out.acks.last_pass) gate groups took cause → Ended gate out.output t'.runs cause
-      still_ended cause other is = ended_account job out.edge out.index size (start_at out) out.every gate out.output (sent_by out.acks.pass) (seen out.acks.last_pass) t'.runs cause groups took made [] (given_law job out.edge out.index gate t' groups took taken) was.snapshots taken.takes
+    module _ (sent_law : SentIsBegun) (taken : HadTaken job out.edge out.index gate shows t' groups took) where
+      still_ended : (cause : Cause) → cause ≢ causes.Done → IsTakerEnd (base_at out) out.every (seen out.acks.last_pass) gate groups took cause → Ended gate shows out.output t'.runs cause
+      still_ended cause other is = ended_account job out.edge out.index size (start_at out) out.every gate shows out.output (sent_by out.acks.pass) (seen out.acks.last_pass) t'.runs cause groups took made [] taken.given was.snapshots taken.takes
           (begun_where ⊥ (EachTold gate (suc (length groups))) ⊥ (MayEnd (base_at out) out.every (seen out.acks.last_pass) groups took) (λ never. absurd never) (λ never. absurd never) (from_at out).emitted job (suc out.edge) out.index size out.output (all_applied job out.edge groups) made [] (sent_law (from_at out).emitted job (suc out.edge) out.index size out.output (all_applied job out.edge groups) made was.sent)) (all_front_of made) other is
 
       -- its gate gave nothing more
-      pub gate_ended : (cause : Cause) → IsTakerCause gate cause → cause ≢ causes.Done → Ended gate out.output t'.runs cause
+      pub gate_ended : (cause : Cause) → IsTakerCause gate cause → cause ≢ causes.Done → Ended gate shows out.output t'.runs cause
       gate_ended cause is other = still_ended cause other (taker_end (base_at out) out.every (seen out.acks.last_pass) gate groups took cause is other)
 
       -- all channels ended before the last checkpoint
-      pub ended_early : LastIs (base_at out) out.every (seen out.acks.last_pass) (length groups) false → AllOver gate → Ended gate out.output t'.runs (causes.Peer peers.Barrier)
+      pub ended_early : LastIs (base_at out) out.every (seen out.acks.last_pass) (length groups) false → AllOver gate → Ended gate shows out.output t'.runs (causes.Peer peers.Barrier)
       ended_early not_last over = still_ended (causes.Peer peers.Barrier) barrier_not_done (inr (inl (not_last, over)))
 
     -- it took a line
-    module _ (sender : ℕ) (line : List ℕ) (given : List (List ℕ)) (taken : HasTaken job out.edge out.index gate t' groups (took ++ (sender, line) ∷ [])) (gives : given ≡ apply_behind job out.edge line) where
+    module _ (sender : ℕ) (line : List ℕ) (given : List (List ℕ)) (taken : HasTaken job out.edge out.index gate shows t' groups (took ++ (sender, line) ∷ [])) (gives : given ≡ apply_behind job out.edge line) where
       abbrev more : List (ℕ × List ℕ)
       more = took ++ (sender, line) ∷ []
 
       more_is : applied job out.edge more ≡ made ++ given
       more_is = applied_line job out.edge took sender line ∙ ap (λ l. made ++ l) (sym gives)
 
-      pub line_applied : (o : Output) → LastIs (base_at out) out.every (seen out.acks.last_pass) (length groups) false → HasSent (from_at out).emitted job (suc out.edge) out.index size o (all_applied job out.edge groups) (made ++ given) → IsStageUnderWay gate t' (record out { output = o })
+      pub line_applied : (o : Output) → LastIs (base_at out) out.every (seen out.acks.last_pass) (length groups) false → HasSent (from_at out).emitted job (suc out.edge) out.index size o (all_applied job out.edge groups) (made ++ given) → IsStageUnderWay gate shows t' (record out { output = o })
       line_applied o not_last sent = record {
         groups = groups;
         took = more;
@@ -188,16 +174,16 @@ module _ (out : StageOutput) where
         not_last = not_last;
       }
 
-      pub line_ended : TakenIsGiven → (o : Output) (cause : Cause) → o.writer.size ≡ size → EndedAmong (from_at out).emitted job (suc out.edge) out.index size o (all_applied job out.edge groups) made given cause → Ended gate o t'.runs cause
-      line_ended given_law o cause same among = ended_account job out.edge out.index o.writer.size (start_at out) out.every gate o (sent_by out.acks.pass) (seen out.acks.last_pass) t'.runs cause groups more (made ++ among.done) among.begun (given_law job out.edge out.index gate t' groups more taken) was.snapshots taken.takes
+      pub line_ended : (o : Output) (cause : Cause) → o.writer.size ≡ size → EndedAmong (from_at out).emitted job (suc out.edge) out.index size o (all_applied job out.edge groups) made given cause → Ended gate shows o t'.runs cause
+      line_ended o cause same among = ended_account job out.edge out.index o.writer.size (start_at out) out.every gate shows o (sent_by out.acks.pass) (seen out.acks.last_pass) t'.runs cause groups more (made ++ among.done) among.begun (had_taken job out.edge out.index gate shows t' groups more taken).given was.snapshots taken.takes
           (begun_where ⊥ (EachTold gate (suc (length groups))) ⊥ (MayEnd (base_at out) out.every (seen out.acks.last_pass) groups more) (λ never. absurd never) (λ never. absurd never) (from_at out).emitted job (suc out.edge) out.index o.writer.size o (all_applied job out.edge groups) (made ++ among.done) among.begun (subst (λ n. HasBegun (from_at out).emitted job (suc out.edge) out.index n o (all_applied job out.edge groups) (made ++ among.done) among.begun ⊥ ⊥) (sym same) among.begun_them))
           (among.rest, more_is ∙ ap (λ l. made ++ l) among.parts ∙ sym (append_assoc made among.done (among.begun ++ among.rest)) ∙ sym (append_assoc (made ++ among.done) among.begun among.rest))
           (λ is. elim among.cause_is [ inl full ↦ memory_not_done (sym full ∙ is) | inr stopped ↦ stopped_not_done (sym stopped.0 ∙ is) ])
           (elim among.cause_is [ inl full ↦ subst (IsTakerEnd (base_at out) out.every (seen out.acks.last_pass) gate groups more) (sym full) tt | inr stopped ↦ subst (IsTakerEnd (base_at out) out.every (seen out.acks.last_pass) gate groups more) (sym stopped.0) tt ])
 
     -- it is at a barrier
-    module _ (at : IsAtBarrier job out.edge out.index gate t' groups took) where
-      pub marked : (o : Output) → LastIs (base_at out) out.every (seen out.acks.last_pass) (length groups) false → HasSent (from_at out).emitted job (suc out.edge) out.index size o (all_applied job out.edge groups ++ made ∷ []) [] → IsMarked gate t' (record out { output = o })
+    module _ (at : IsAtBarrier job out.edge out.index gate shows t' groups took) where
+      pub marked : (o : Output) → LastIs (base_at out) out.every (seen out.acks.last_pass) (length groups) false → HasSent (from_at out).emitted job (suc out.edge) out.index size o (all_applied job out.edge groups ++ made ∷ []) [] → IsMarked gate shows t' (record out { output = o })
       marked o not_last sent = record {
         groups = groups;
         took = took;
@@ -207,48 +193,48 @@ module _ (out : StageOutput) where
         not_last = not_last;
       }
 
-      pub mark_ended : BarrierIsGiven → (o : Output) → o.writer.size ≡ size → HasStopped (from_at out).emitted job (suc out.edge) out.index size o (all_applied job out.edge groups) made [] ⊤ ⊥ → Ended gate o t'.runs causes.Stopped
-      mark_ended given_law o same stopped = ended_account job out.edge out.index o.writer.size (start_at out) out.every gate o (sent_by out.acks.pass) (seen out.acks.last_pass) t'.runs causes.Stopped groups took made [] (given_law job out.edge out.index gate t' groups took at) was.snapshots at.takes
-          (begun_where ⊤ (EachTold gate (suc (length groups))) ⊥ (MayEnd (base_at out) out.every (seen out.acks.last_pass) groups took) (λ mark. all_told job out.edge out.index gate t' groups took at) (λ never. absurd never) (from_at out).emitted job (suc out.edge) out.index o.writer.size o (all_applied job out.edge groups) made [] (subst (λ n. HasBegun (from_at out).emitted job (suc out.edge) out.index n o (all_applied job out.edge groups) made [] ⊤ ⊥) (sym same) stopped.begun_them)) (all_front_of made) stopped_not_done tt
+      pub mark_ended : (o : Output) → o.writer.size ≡ size → HasStopped (from_at out).emitted job (suc out.edge) out.index size o (all_applied job out.edge groups) made [] ⊤ ⊥ → Ended gate shows o t'.runs causes.Stopped
+      mark_ended o same stopped = ended_account job out.edge out.index o.writer.size (start_at out) out.every gate shows o (sent_by out.acks.pass) (seen out.acks.last_pass) t'.runs causes.Stopped groups took made [] (barrier_is_given job out.edge out.index gate shows t' groups took at) was.snapshots at.takes
+          (begun_where ⊤ (EachTold gate (suc (length groups))) ⊥ (MayEnd (base_at out) out.every (seen out.acks.last_pass) groups took) (λ mark. barrier_is_told job out.edge out.index gate shows t' groups took at) (λ never. absurd never) (from_at out).emitted job (suc out.edge) out.index o.writer.size o (all_applied job out.edge groups) made [] (subst (λ n. HasBegun (from_at out).emitted job (suc out.edge) out.index n o (all_applied job out.edge groups) made [] ⊤ ⊥) (sym same) stopped.begun_them)) (all_front_of made) stopped_not_done tt
 
 -- ---- behind the last checkpoint
 
-module _ (before gate : Account) (t t' : Taking) (out : StageOutput) (behind : IsBehindLast before t out) where
+module _ (before gate : Account) (showed shows : ℕ → Cut → Type 0) (t t' : Taking) (out : StageOutput) (behind : IsBehindLast before showed t out) where
   abbrev job_of : Job
   job_of = out.job.now
 
-  pub ended_behind : SentIsBegun → TakenIsGiven → (cause : Cause) → HasTaken job_of out.edge out.index gate t' behind.groups [] → IsTakerCause gate cause → cause ≢ causes.Done → Ended out gate out.output t'.runs cause
-  ended_behind sent_law given_law cause taken is other = gate_ended out before gate t t' behind.groups [] behind.applied_them sent_law given_law taken cause is other
+  pub ended_behind : SentIsBegun → (cause : Cause) → HadTaken job_of out.edge out.index gate shows t' behind.groups [] → IsTakerCause gate cause → cause ≢ causes.Done → Ended out gate shows out.output t'.runs cause
+  ended_behind sent_law cause taken is other = gate_ended out before gate showed shows t t' behind.groups [] behind.applied_them sent_law taken cause is other
 
   -- it took a line more
-  pub line_behind : SentIsBegun → TakenIsGiven → (sender : ℕ) (line : List ℕ) → HasTaken job_of out.edge out.index gate t' behind.groups ((sender, line) ∷ []) → Ended out gate out.output t'.runs (causes.Peer peers.Barrier)
-  line_behind sent_law given_law sender line taken = ended_account job_of out.edge out.index out.output.writer.size (start_at out) out.every gate out.output (sent_by out.acks.pass) (seen out.acks.last_pass) t'.runs (causes.Peer peers.Barrier) behind.groups ((sender, line) ∷ []) [] []
-      (given_law job_of out.edge out.index gate t' behind.groups ((sender, line) ∷ []) taken) behind.applied_them.snapshots taken.takes
+  pub line_behind : SentIsBegun → (sender : ℕ) (line : List ℕ) → HasTaken job_of out.edge out.index gate shows t' behind.groups ((sender, line) ∷ []) → Ended out gate shows out.output t'.runs (causes.Peer peers.Barrier)
+  line_behind sent_law sender line taken = ended_account job_of out.edge out.index out.output.writer.size (start_at out) out.every gate shows out.output (sent_by out.acks.pass) (seen out.acks.last_pass) t'.runs (causes.Peer peers.Barrier) behind.groups ((sender, line) ∷ []) [] []
+      (had_taken job_of out.edge out.index gate shows t' behind.groups ((sender, line) ∷ []) taken).given behind.applied_them.snapshots taken.takes
       (begun_where ⊥ (EachTold gate (suc (length behind.groups))) ⊥ (MayEnd (base_at out) out.every (seen out.acks.last_pass) behind.groups ((sender, line) ∷ [])) (λ never. absurd never) (λ never. absurd never) (from_at out).emitted job_of (suc out.edge) out.index out.output.writer.size out.output (all_applied job_of out.edge behind.groups) [] [] (sent_law (from_at out).emitted job_of (suc out.edge) out.index out.output.writer.size out.output (all_applied job_of out.edge behind.groups) [] behind.applied_them.sent)) (applied job_of out.edge ((sender, line) ∷ []), refl)
       barrier_not_done (inr (inr (behind.last, inl (λ is. cc))))
 
   -- a barrier came on all channels
-  pub barrier_behind : SentIsBegun → BarrierIsGiven → IsAtBarrier job_of out.edge out.index gate t' behind.groups [] → Ended out gate out.output t'.runs (causes.Peer peers.Barrier)
-  barrier_behind sent_law given_law at = ended_account job_of out.edge out.index out.output.writer.size (start_at out) out.every gate out.output (sent_by out.acks.pass) (seen out.acks.last_pass) t'.runs (causes.Peer peers.Barrier) behind.groups [] [] []
-      (given_law job_of out.edge out.index gate t' behind.groups [] at) behind.applied_them.snapshots at.takes
+  pub barrier_behind : SentIsBegun → IsAtBarrier job_of out.edge out.index gate shows t' behind.groups [] → Ended out gate shows out.output t'.runs (causes.Peer peers.Barrier)
+  barrier_behind sent_law at = ended_account job_of out.edge out.index out.output.writer.size (start_at out) out.every gate shows out.output (sent_by out.acks.pass) (seen out.acks.last_pass) t'.runs (causes.Peer peers.Barrier) behind.groups [] [] []
+      (barrier_is_given job_of out.edge out.index gate shows t' behind.groups [] at) behind.applied_them.snapshots at.takes
       (begun_where ⊥ (EachTold gate (suc (length behind.groups))) ⊥ (MayEnd (base_at out) out.every (seen out.acks.last_pass) behind.groups none_took) (λ never. absurd never) (λ never. absurd never) (from_at out).emitted job_of (suc out.edge) out.index out.output.writer.size out.output (all_applied job_of out.edge behind.groups) [] [] (sent_law (from_at out).emitted job_of (suc out.edge) out.index out.output.writer.size out.output (all_applied job_of out.edge behind.groups) [] behind.applied_them.sent)) ([], refl)
-      barrier_not_done (inr (inr (behind.last, inr (all_told job_of out.edge out.index gate t' behind.groups [] at))))
+      barrier_not_done (inr (inr (behind.last, inr (barrier_is_told job_of out.edge out.index gate shows t' behind.groups [] at))))
 
   -- all channels ended, and it ends its own
-  module _ (given_law : TakenIsGiven) (taken : HasTaken job_of out.edge out.index gate t' behind.groups []) (o : Output) (same : o.writer.size ≡ out.output.writer.size) where
-    pub finish_ended : HasStopped (from_at out).emitted job_of (suc out.edge) out.index out.output.writer.size o (all_applied job_of out.edge behind.groups) [] [] ⊥ ⊤ → Ended out gate o t'.runs causes.Stopped
-    finish_ended stopped = ended_account job_of out.edge out.index o.writer.size (start_at out) out.every gate o (sent_by out.acks.pass) (seen out.acks.last_pass) t'.runs causes.Stopped behind.groups [] [] []
-        (given_law job_of out.edge out.index gate t' behind.groups [] taken) behind.applied_them.snapshots taken.takes
+  module _ (taken : HasTaken job_of out.edge out.index gate shows t' behind.groups []) (o : Output) (same : o.writer.size ≡ out.output.writer.size) where
+    pub finish_ended : HasStopped (from_at out).emitted job_of (suc out.edge) out.index out.output.writer.size o (all_applied job_of out.edge behind.groups) [] [] ⊥ ⊤ → Ended out gate shows o t'.runs causes.Stopped
+    finish_ended stopped = ended_account job_of out.edge out.index o.writer.size (start_at out) out.every gate shows o (sent_by out.acks.pass) (seen out.acks.last_pass) t'.runs causes.Stopped behind.groups [] [] []
+        (had_taken job_of out.edge out.index gate shows t' behind.groups [] taken).given behind.applied_them.snapshots taken.takes
         (begun_where ⊥ (EachTold gate (suc (length behind.groups))) ⊤ (MayEnd (base_at out) out.every (seen out.acks.last_pass) behind.groups none_took) (λ never. absurd never) (λ all. (behind.last, refl)) (from_at out).emitted job_of (suc out.edge) out.index o.writer.size o (all_applied job_of out.edge behind.groups) [] [] (subst (λ n. HasBegun (from_at out).emitted job_of (suc out.edge) out.index n o (all_applied job_of out.edge behind.groups) [] [] ⊥ ⊤) (sym same) stopped.begun_them)) ([], refl) stopped_not_done tt
 
-    pub finished : FinishedIsBegun → AllOver gate → HasFinished (from_at out).emitted job_of (suc out.edge) out.index out.output.writer.size o (all_applied job_of out.edge behind.groups) [] → Ended out gate o t'.runs causes.Done
+    pub finished : FinishedIsBegun → AllOver gate → HasFinished (from_at out).emitted job_of (suc out.edge) out.index out.output.writer.size o (all_applied job_of out.edge behind.groups) [] → Ended out gate shows o t'.runs causes.Done
     finished law over has =
         let all = subst (λ n. HasFinished (from_at out).emitted job_of (suc out.edge) out.index n o (all_applied job_of out.edge behind.groups) []) (sym same) has in
         record {
           groups = behind.groups;
           rest = [];
           more = [];
-          given = given_law job_of out.edge out.index gate t' behind.groups [] taken;
+          given = (had_taken job_of out.edge out.index gate shows t' behind.groups [] taken).given;
           snapshots = behind.applied_them.snapshots;
           takes_are = taken.takes;
           front = ([], refl);
@@ -258,6 +244,6 @@ module _ (before gate : Account) (t t' : Taking) (out : StageOutput) (behind : I
         }
 
 -- the next barrier has the number of the checkpoint
-pub next_mark : (out : StageOutput) (before : Account) (t : Taking) (groups : List (List (ℕ × List ℕ))) (took : List (ℕ × List ℕ)) → HasApplied before t out groups took → (k : ℕ) → k ≡ suc (length groups) → IsNextBarrier out.output.writer k
-next_mark out before t groups took was k number =
+pub next_mark : (out : StageOutput) (before : Account) (showed : ℕ → Cut → Type 0) (t : Taking) (groups : List (List (ℕ × List ℕ))) (took : List (ℕ × List ℕ)) → HasApplied before showed t out groups took → (k : ℕ) → k ≡ suc (length groups) → IsNextBarrier out.output.writer k
+next_mark out before showed t groups took was k number =
     subst (IsNextBarrier out.output.writer) (ap suc (length-map groups (applied out.job.now out.edge)) ∙ sym number) was.sent.next

@@ -18,15 +18,18 @@ use Rattle.outside.specs.Stops.{told_of}
 use Rattle.conn_parts.specs.Shares.{mine_at, AreNew}
 use Rattle.conn_parts.specs.Stopping.{StopCell, StopPass}
 use Rattle.record_writer.specs.Partitions.{ArePassesOf, IsWriterOf}
-use Rattle.record_writer.specs.Writers.{SendPass, Writer, IsSame, IsNew, IsOpen, AreOwnAt, ways_on, ways_into}
+use Rattle.record_writer.specs.Writers.{SendPass, Writer, IsSame, IsNew, IsOpen, AreOwnAt, ways_on}
 use Rattle.record_writer.specs.declared.partition.Partition.{Partition}
 use Rattle.record_writer.specs.declared.partition.PartitionPasses.{PartitionPasses}
-use Rattle.input_gate.specs.Gates as gates
-use Rattle.input_gate.specs.Gates.{Account}
+use Rattle.channel_cut.specs.Cuts.{Cut}
+use Rattle.channel_cut.proofs.Taking.{taken_begins}
+use Rattle.channel_cut.specs.Takings.{TakenOn}
+use Rattle.gate_account.specs.Accounts as gates
+use Rattle.gate_account.specs.Accounts.{Account}
 use Rattle.snapshot_channel.specs.declared.opened.TaskPass.{TaskPass}
 use Rattle.snapshot_channel.specs.Passes.{sent_by}
 use Rattle.task_taking.specs.Endings.{EachTold, IsTakerEnd}
-use Rattle.task_taking.specs.Takings.{Taking, HasTaken, untaken}
+use Rattle.task_taking.specs.Takings.{Taking, HasTaken, start_of, untaken}
 use Rattle.task_output.specs.declared.acks.Acks.{Acks}
 use Rattle.task_output.specs.Acking.{HasPasses, base_of}
 use Rattle.task_output.specs.Ending.{ArePassesBy, EndsAs, ToldAtEnd}
@@ -48,18 +51,17 @@ counted_from job start start' e b n is same =
     is ∙ ap (λ i. slice_index start.emitted.items (sender_place job i b)) (let z : e + 1 ≡ suc e = omega arith in z)
     ∙ ap (λ (s : Start). slice_index s.emitted.items (sender_place job (suc e) b)) (sym same)
 
-pub under_way : (gate : Account) (taking : Taking) (partition : Partition) (w : Writer) (out : StageOutput) → gates.IsNew gate → gate.channels ≡ ways_into out.job.now out.edge
-    → ((gate : Account) → gates.IsNew gate → gate.channels ≡ ways_into out.job.now out.edge → HasTaken out.job.now out.edge out.index gate taking [] [])
+pub under_way : (gate : Account) (shows : ℕ → Cut → Type 0) (taking : Taking) (partition : Partition) (w : Writer) (out : StageOutput) → HasTaken out.job.now out.edge out.index gate shows taking [] []
     → IsWriterOf out.job.now (out.edge + 1) out.index partition w → IsNew w × IsOpen w → w.emitted ≡ (from_at out).emitted
-    → ((job : Job) (e a size : ℕ) → WritesFor job e a size w → IsNew w → IsOpen w → HasSent w.emitted job e a size out.output [] []) → sent_by out.acks.pass ≡ [] → IsStageUnderWay gate taking out
-under_way gate taking partition w out new channels none writes fresh counted none_sent unsent =
+    → ((job : Job) (e a size : ℕ) → WritesFor job e a size w → IsNew w → IsOpen w → HasSent w.emitted job e a size out.output [] []) → sent_by out.acks.pass ≡ [] → IsStageUnderWay gate shows taking out
+under_way gate shows taking partition w out none writes fresh counted none_sent unsent =
     let sent = subst (λ n. HasSent n out.job.now (suc out.edge) out.index w.size out.output [] []) counted
     (none_sent out.job.now (suc out.edge) out.index w.size (record { job_is = writes.job_is; edge = writes.edge ∙ (let z : out.edge + 1 ≡ suc out.edge = omega arith in z); index = writes.index; size_is = refl }) fresh.0 fresh.1) in
     record {
       groups = [];
       took = [];
       applied_them = record {
-        taken = none gate new channels;
+        taken = none;
         sent = subst (λ n. HasSent (from_at out).emitted out.job.now (suc out.edge) out.index n out.output [] []) (sym sent.writes_for.size_is) sent;
         snapshots = subst (AreSnapshots out.job.now out.edge out.index (from_at out).number (from_at out).emitted []) (sym unsent) tt;
       };
@@ -82,13 +84,13 @@ abbrev none_took : List (ℕ × List ℕ)
 none_took = []
 
 -- it found no memory for what it takes and emits by
-pub unbegun : (job : Job) (e b size : ℕ) (start : Start) (every : Option ℕ) (gate : Account) (passes : List SendPass) (sent : List Snapshot) (history : List (ℕ × Stored)) (takes : List TakeRun) → gates.IsNew gate → AreNew passes → sent ≡ [] → takes ≡ []
-    → StageAccount job e b size start every gate passes sent history takes causes.Memory
-unbegun job e b size start every gate passes sent history takes new none_put none_sent none_taken = record {
+pub unbegun : (job : Job) (e b size : ℕ) (start : Start) (every : Option ℕ) (gate : Account) (shows : ℕ → Cut → Type 0) (passes : List SendPass) (sent : List Snapshot) (history : List (ℕ × Stored)) (takes : List TakeRun) → gates.IsNew (λ c. []) gate → AreNew passes → sent ≡ [] → takes ≡ []
+    → StageAccount job e b size start every gate shows passes sent history takes causes.Memory
+unbegun job e b size start every gate shows passes sent history takes new none_put none_sent none_taken = record {
   groups = [];
   rest = [];
   more = [];
-  given = λ c inside. (false, new.told c);
+  given = λ c inside. (false, subst (λ ls. TakenOn (shows c) ls (start_of job e b c) [] [] false) (sym (new.lines c)) (taken_begins (shows c) (start_of job e b c)));
   snapshots = subst (AreSnapshots job e b (from_of job start (suc e) b).number (from_of job start (suc e) b).emitted []) (sym none_sent) tt;
   takes_are = subst (λ (l : List TakeRun). RunsTake job e b l []) (sym none_taken) (record { senders_are = refl; are_runs = tt; short = tt });
   front = ([], refl);
@@ -106,9 +108,9 @@ unbegun job e b size start every gate passes sent history takes new none_put non
 -- ---- where it ends
 
 -- it was stopped where it was done
-pub account_ended : (job : Job) (e b size : ℕ) (start : Start) (every : Option ℕ) (gate : Account) (passes : List SendPass) (sent : List Snapshot) (history : List (ℕ × Stored)) (takes : List TakeRun) (cause cause' : Cause) → EndsAs cause cause'
-    → StageAccount job e b size start every gate passes sent history takes cause → StageAccount job e b size start every gate passes sent history takes cause'
-account_ended job e b size start every gate passes sent history takes cause cause' ends was = record {
+pub account_ended : (job : Job) (e b size : ℕ) (start : Start) (every : Option ℕ) (gate : Account) (shows : ℕ → Cut → Type 0) (passes : List SendPass) (sent : List Snapshot) (history : List (ℕ × Stored)) (takes : List TakeRun) (cause cause' : Cause) → EndsAs cause cause'
+    → StageAccount job e b size start every gate shows passes sent history takes cause → StageAccount job e b size start every gate shows passes sent history takes cause'
+account_ended job e b size start every gate shows passes sent history takes cause cause' ends was = record {
   groups = was.groups;
   rest = was.rest;
   more = was.more;
@@ -122,20 +124,19 @@ account_ended job e b size start every gate passes sent history takes cause caus
 }
 
 -- the account of what is the same is the same
-pub account_of_same : (out out' : StageOutput) (size : ℕ) (start : Start) (gate gate' : Account) (passes : List SendPass) (sent : List Snapshot) (history : List (ℕ × Stored)) (takes : List TakeRun) (end : TakerEnd) → IsSameStage out out' → out'.output.writer.size ≡ size → start_at out' ≡ start → gate' ≡ gate
-    → passes ≡ out'.output.writer.passes → sent ≡ sent_by out'.acks.pass → history ≡ seen out'.acks.last_pass → takes ≡ end.takes.items → IsEndOf gate out' end → StageAccount out.job.now out.edge out.index size start out.every gate' passes sent history takes end.cause
-account_of_same out out' size start gate gate' passes sent history takes end same size_is start_is gate_is passes_are sent_is history_is takes_are was =
-    subst (λ (j : Bor Job). StageAccount j.now out.edge out.index size start out.every gate' passes sent history takes end.cause) same.job
-    (subst (λ n. StageAccount out'.job.now n out.index size start out.every gate' passes sent history takes end.cause) same.edge
-    (subst (λ n. StageAccount out'.job.now out'.edge n size start out.every gate' passes sent history takes end.cause) same.index
-    (subst (λ n. StageAccount out'.job.now out'.edge out'.index n start out.every gate' passes sent history takes end.cause) size_is
-    (subst (λ (s : Start). StageAccount out'.job.now out'.edge out'.index out'.output.writer.size s out.every gate' passes sent history takes end.cause) start_is
-    (subst (λ (x : Option ℕ). StageAccount out'.job.now out'.edge out'.index out'.output.writer.size (start_at out') x gate' passes sent history takes end.cause) same.every_is
-    (subst (λ (x : Account). StageAccount out'.job.now out'.edge out'.index out'.output.writer.size (start_at out') out'.every x passes sent history takes end.cause) (sym gate_is)
-    (subst (λ (l : List SendPass). StageAccount out'.job.now out'.edge out'.index out'.output.writer.size (start_at out') out'.every gate l sent history takes end.cause) (sym passes_are)
-    (subst (λ (l : List Snapshot). StageAccount out'.job.now out'.edge out'.index out'.output.writer.size (start_at out') out'.every gate out'.output.writer.passes l history takes end.cause) (sym sent_is)
-    (subst (λ (l : List (ℕ × Stored)). StageAccount out'.job.now out'.edge out'.index out'.output.writer.size (start_at out') out'.every gate out'.output.writer.passes (sent_by out'.acks.pass) l takes end.cause) (sym history_is)
-    (subst (λ (l : List TakeRun). StageAccount out'.job.now out'.edge out'.index out'.output.writer.size (start_at out') out'.every gate out'.output.writer.passes (sent_by out'.acks.pass) (seen out'.acks.last_pass) l end.cause) (sym takes_are) was))))))))))
+pub account_of_same : (out out' : StageOutput) (size : ℕ) (start : Start) (gate : Account) (shows : ℕ → Cut → Type 0) (passes : List SendPass) (sent : List Snapshot) (history : List (ℕ × Stored)) (takes : List TakeRun) (end : TakerEnd) → IsSameStage out out' → out'.output.writer.size ≡ size → start_at out' ≡ start
+    → passes ≡ out'.output.writer.passes → sent ≡ sent_by out'.acks.pass → history ≡ seen out'.acks.last_pass → takes ≡ end.takes.items → IsEndOf gate shows out' end → StageAccount out.job.now out.edge out.index size start out.every gate shows passes sent history takes end.cause
+account_of_same out out' size start gate shows passes sent history takes end same size_is start_is passes_are sent_is history_is takes_are was =
+    subst (λ (j : Bor Job). StageAccount j.now out.edge out.index size start out.every gate shows passes sent history takes end.cause) same.job
+    (subst (λ n. StageAccount out'.job.now n out.index size start out.every gate shows passes sent history takes end.cause) same.edge
+    (subst (λ n. StageAccount out'.job.now out'.edge n size start out.every gate shows passes sent history takes end.cause) same.index
+    (subst (λ n. StageAccount out'.job.now out'.edge out'.index n start out.every gate shows passes sent history takes end.cause) size_is
+    (subst (λ (s : Start). StageAccount out'.job.now out'.edge out'.index out'.output.writer.size s out.every gate shows passes sent history takes end.cause) start_is
+    (subst (λ (x : Option ℕ). StageAccount out'.job.now out'.edge out'.index out'.output.writer.size (start_at out') x gate shows passes sent history takes end.cause) same.every_is
+    (subst (λ (l : List SendPass). StageAccount out'.job.now out'.edge out'.index out'.output.writer.size (start_at out') out'.every gate shows l sent history takes end.cause) (sym passes_are)
+    (subst (λ (l : List Snapshot). StageAccount out'.job.now out'.edge out'.index out'.output.writer.size (start_at out') out'.every gate shows out'.output.writer.passes l history takes end.cause) (sym sent_is)
+    (subst (λ (l : List (ℕ × Stored)). StageAccount out'.job.now out'.edge out'.index out'.output.writer.size (start_at out') out'.every gate shows out'.output.writer.passes (sent_by out'.acks.pass) l takes end.cause) (sym history_is)
+    (subst (λ (l : List TakeRun). StageAccount out'.job.now out'.edge out'.index out'.output.writer.size (start_at out') out'.every gate shows out'.output.writer.passes (sent_by out'.acks.pass) (seen out'.acks.last_pass) l end.cause) (sym takes_are) was)))))))))
 
 -- it has waited by the names of what it hands back
 pub waited_as : (out : StageOutput) (start : Start) (sent : List Snapshot) (history : List (ℕ × Stored)) → start_at out ≡ start → sent ≡ sent_by out.acks.pass → history ≡ seen out.acks.last_pass

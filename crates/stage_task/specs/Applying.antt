@@ -12,7 +12,8 @@ use Rattle.job_start.specs.declared.start.Start.{Start}
 use Rattle.job_start.specs.Starts.{from_of}
 use Rattle.outside.specs.declared.last_image.Stored.{Stored}
 use Rattle.record_writer.specs.Writers.{IsSame, HasSeenFault}
-use Rattle.input_gate.specs.Gates.{Account}
+use Rattle.channel_cut.specs.Cuts.{Cut}
+use Rattle.gate_account.specs.Accounts.{Account}
 use Rattle.snapshot_channel.specs.Passes.{opening_of, sent_by, task_of}
 use Rattle.task_taking.specs.Takings.{Taking, HasTaken, IsAtBarrier}
 use Rattle.task_output.specs.Acking.{HasPasses, IsSameTask, base_of}
@@ -57,37 +58,37 @@ pub record IsSameStage (out out' : StageOutput) : Type 0 where
 
 -- It has taken these groups of records and then these, and emitted what its stage gives for them, with a barrier and a snapshot behind each
 -- group.
-pub record HasApplied (gate : Account) (taking : Taking) (out : StageOutput) (groups : List (List (ℕ × List ℕ))) (took : List (ℕ × List ℕ)) : Type 0 where
-  pub taken : HasTaken out.job.now out.edge out.index gate taking groups took
+pub record HasApplied (gate : Account) (shows : ℕ → Cut → Type 0) (taking : Taking) (out : StageOutput) (groups : List (List (ℕ × List ℕ))) (took : List (ℕ × List ℕ)) : Type 0 where
+  pub taken : HasTaken out.job.now out.edge out.index gate shows taking groups took
   pub sent : HasSent (from_at out).emitted out.job.now (suc out.edge) out.index out.output.writer.size out.output (all_applied out.job.now out.edge groups) (applied out.job.now out.edge took)
   pub snapshots : AreSnapshots out.job.now out.edge out.index (from_at out).number (from_at out).emitted groups (sent_by out.acks.pass)
 
 -- It takes on: the last checkpoint is still to come.
-pub record IsStageUnderWay (gate : Account) (taking : Taking) (out : StageOutput) : Type 0 where
+pub record IsStageUnderWay (gate : Account) (shows : ℕ → Cut → Type 0) (taking : Taking) (out : StageOutput) : Type 0 where
   pub groups : List (List (ℕ × List ℕ))
   pub took : List (ℕ × List ℕ)
-  pub applied_them : HasApplied gate taking out groups took
+  pub applied_them : HasApplied gate shows taking out groups took
   pub not_last : LastIs (base_at out) out.every (seen out.acks.last_pass) (length groups) false
 
 -- It has acknowledged the last checkpoint, and has taken nothing behind it.
-pub record IsBehindLast (gate : Account) (taking : Taking) (out : StageOutput) : Type 0 where
+pub record IsBehindLast (gate : Account) (shows : ℕ → Cut → Type 0) (taking : Taking) (out : StageOutput) : Type 0 where
   pub groups : List (List (ℕ × List ℕ))
-  pub applied_them : HasApplied gate taking out groups []
+  pub applied_them : HasApplied gate shows taking out groups []
   pub last : LastIs (base_at out) out.every (seen out.acks.last_pass) (length groups) true
 
 -- The barriers of a checkpoint have come, and were put behind all that it emitted. The snapshot is still to be sent.
-pub record IsMarked (gate : Account) (taking : Taking) (out : StageOutput) : Type 0 where
+pub record IsMarked (gate : Account) (shows : ℕ → Cut → Type 0) (taking : Taking) (out : StageOutput) : Type 0 where
   pub groups : List (List (ℕ × List ℕ))
   pub took : List (ℕ × List ℕ)
-  pub at : IsAtBarrier out.job.now out.edge out.index gate taking groups took
+  pub at : IsAtBarrier out.job.now out.edge out.index gate shows taking groups took
   pub sent : HasSent (from_at out).emitted out.job.now (suc out.edge) out.index out.output.writer.size out.output (all_applied out.job.now out.edge groups ++ applied out.job.now out.edge took ∷ []) []
   pub snapshots : AreSnapshots out.job.now out.edge out.index (from_at out).number (from_at out).emitted groups (sent_by out.acks.pass)
   pub not_last : LastIs (base_at out) out.every (seen out.acks.last_pass) (length groups) false
 
 -- It has acknowledged a checkpoint, the last one or another.
-abbrev pub HasAcknowledged : Account → Taking → StageOutput → Bool → Type 0
-HasAcknowledged gate taking out true = IsBehindLast gate taking out
-HasAcknowledged gate taking out false = IsStageUnderWay gate taking out
+abbrev pub HasAcknowledged : Account → (ℕ → Cut → Type 0) → Taking → StageOutput → Bool → Type 0
+HasAcknowledged gate shows taking out true = IsBehindLast gate shows taking out
+HasAcknowledged gate shows taking out false = IsStageUnderWay gate shows taking out
 
 -- ---- one record
 
@@ -109,6 +110,6 @@ EmittedAll from job e a size out groups records given (Err cause) = EndedAmong f
 -- ---- where it ends
 
 -- It has its account where it takes no more.
-abbrev pub IsEndOf : Account → StageOutput → TakerEnd → Type 0
-IsEndOf gate out end =
-    StageAccount out.job.now out.edge out.index out.output.writer.size (start_at out) out.every gate out.output.writer.passes (sent_by out.acks.pass) (seen out.acks.last_pass) end.takes.items end.cause
+abbrev pub IsEndOf : Account → (ℕ → Cut → Type 0) → StageOutput → TakerEnd → Type 0
+IsEndOf gate shows out end =
+    StageAccount out.job.now out.edge out.index out.output.writer.size (start_at out) out.every gate shows out.output.writer.passes (sent_by out.acks.pass) (seen out.acks.last_pass) end.takes.items end.cause

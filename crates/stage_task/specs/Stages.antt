@@ -15,8 +15,10 @@ use Rattle.job_start.specs.Starts.{from_of}
 use Rattle.outside.specs.declared.last_image.Stored.{Stored}
 use Rattle.conn_parts.specs.Shares.{mine_at}
 use Rattle.record_writer.specs.Writers.{SendPass, ways_on, ways_into}
-use Rattle.input_gate.specs.Gates.{Account, IsNew}
-use Rattle.task_taking.specs.Endings.{Gave, EachTold, IsTakerEnd}
+use Rattle.channel_cut.specs.Cuts.{Cut}
+use Rattle.gate_account.specs.Accounts.{Account, IsNew}
+use Rattle.task_taking.specs.Takings.{Gave}
+use Rattle.task_taking.specs.Endings.{EachTold, IsTakerEnd}
 use Rattle.task_output.specs.Acking.{base_of}
 use Rattle.task_output.specs.Outputs.{BegunOn, FinishedOn, end_of}
 use Rattle.task_output.specs.Waiting.{MayEnd}
@@ -24,17 +26,17 @@ use Rattle.stage_task.specs.Snapshots.{AreSnapshots, all_applied}
 
 -- ---- what it did
 
--- What task b behind edge e did from this start on by its gate and its passes: it took these groups of records and sent a snapshot for each,
+-- What task b behind edge e did from this start on by its gate, which shows these cuts, and its passes: it took these groups of records and sent a snapshot for each,
 -- and then took the rest, of which the runs tell. It put what its stage gives for each group before a barrier, and behind the last one what
 -- it gives for the rest, from the first record on. The numbers of its snapshots, and how many records it has emitted, go on from those of the
 -- start. It was done only where it had acknowledged the last checkpoint, and then ended its channels. Whatever its cause, it put at most one
 -- barrier more than it sent snapshots, and that one only where each channel of its gate had told it; and an end only behind the barrier of
 -- the last checkpoint.
-pub record StageAccount (job : Job) (e b size : ℕ) (start : Start) (every : Option ℕ) (gate : Account) (passes : List SendPass) (sent : List Snapshot) (history : List (ℕ × Stored)) (takes : List TakeRun) (cause : Cause) : Type 0 where
+pub record StageAccount (job : Job) (e b size : ℕ) (start : Start) (every : Option ℕ) (gate : Account) (shows : ℕ → Cut → Type 0) (passes : List SendPass) (sent : List Snapshot) (history : List (ℕ × Stored)) (takes : List TakeRun) (cause : Cause) : Type 0 where
   pub groups : List (List (ℕ × List ℕ))
   pub rest : List (ℕ × List ℕ)
   pub more : List (List ℕ)
-  pub given : Gave job e b gate groups rest
+  pub given : Gave job e b gate shows groups rest
   pub snapshots : AreSnapshots job e b (from_of job start (suc e) b).number (from_of job start (suc e) b).emitted groups sent
   pub takes_are : RunsTake job e b takes rest
   pub front : StartsWith (applied job e rest) more
@@ -49,5 +51,5 @@ pub record IsStageTask (job : Job) (e b : ℕ) (gate : Account) : Type 0 where
   pub is_job : IsJob job
   pub edge : e < last_edge job
   pub index : b < tasks job (suc e)
-  pub gate_new : IsNew gate
+  pub gate_new : IsNew (λ c. []) gate
   pub channels_are : gate.channels ≡ ways_into job e

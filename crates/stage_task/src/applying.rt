@@ -8,7 +8,6 @@ ghost use Rattle.stage_fns.specs.Kinds.{kinds};
 ghost use Rattle.stage_fns.specs.Meets.{MeetsStage};
 ghost use Rattle.job_plan.specs.Plans.{CanRun};
 ghost use Rattle.record_writer.specs.Writers.{IsOpen, IsSame, HasSeenFault};
-ghost use Rattle.input_gate.specs.Gates.{Account};
 ghost use Rattle.task_taking.specs.Takings.{IsInStep};
 ghost use Rattle.task_output.specs.Outputs.{HasSent};
 ghost use Rattle.stage_task.specs.Applying.{IsSameStage, HasOwnPasses, IsStageUnderWay, IsBehindLast, EmittedAll, IsEndOf};
@@ -24,7 +23,6 @@ use std::alloc::Global;
 use std::sync::Wait;
 use task_output::TaskOutput;
 use task_output::laws::what_was_sent_was_begun;
-use task_taking::laws::what_was_taken_was_given;
 use task_taking::{Taken, TaskTaking};
 
 // What a task ends with where its channels end before the last checkpoint, or give more behind it.
@@ -44,16 +42,15 @@ pub fn apply_all<G: Gate, R: Wait>(
 ) -> TakerEnd
     requires can_run { CanRun (kinds functions.now) out.old.job.now × (out.old.edge < last_edge out.old.job.now) }
     requires in_step { IsInStep (G.account gate.old) taking }
-    requires under_way { IsStageUnderWay (G.account gate.old) taking out.old }
+    requires under_way { IsStageUnderWay (G.account gate.old) (G.shows gate.old) taking out.old }
     requires own { HasOwnPasses out.old }
     ensures gate { (G.ends gate.new ≡ G.ends gate.old) × ((G.account gate.new).channels ≡ (G.account gate.old).channels) }
     ensures same { IsSameStage out.old out.new }
     ensures own { HasOwnPasses out.new }
-    ensures ended { IsEndOf (G.account gate.new) out.new result }
+    ensures ended { IsEndOf (G.account gate.new) (G.shows gate.new) out.new result }
     ensures stopped { result.cause ≡ Cause.Stopped → G.saw_stop gate.new ⊎ HasSeenFault out.new.output.writer }
 {
     what_was_sent_was_begun();
-    what_was_taken_was_given();
     let Some(stage) = out.job.stages.as_slice().get(out.edge as usize) else {
         unreachable!()
     };
@@ -107,15 +104,14 @@ fn end_behind_last<G: Gate, R: Wait>(
     out: &mut StageOutput<'_, '_>,
 ) -> TakerEnd
     requires in_step { IsInStep (G.account gate.old) taking }
-    requires behind { IsBehindLast (G.account gate.old) taking out.old }
+    requires behind { IsBehindLast (G.account gate.old) (G.shows gate.old) taking out.old }
     ensures gate { (G.ends gate.new ≡ G.ends gate.old) × ((G.account gate.new).channels ≡ (G.account gate.old).channels) }
     ensures same { IsSameStage out.old out.new }
     ensures kept { out.new.acks ≡ out.old.acks }
-    ensures ended { IsEndOf (G.account gate.new) out.new result }
+    ensures ended { IsEndOf (G.account gate.new) (G.shows gate.new) out.new result }
     ensures stopped { result.cause ≡ Cause.Stopped → G.saw_stop gate.new ⊎ HasSeenFault out.new.output.writer }
 {
     what_was_sent_was_begun();
-    what_was_taken_was_given();
     let mut taking = taking;
     match taking.next(rt, gate) {
         Ok(Taken::AllEnded) => match out.output.finish(rt) {

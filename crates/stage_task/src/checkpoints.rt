@@ -1,7 +1,6 @@
 // How a stage takes checkpoints.
 ghost use Rattle.std.specs.Prelude.{◌≡◌, ◌^◌, ◌<◌, suc, IfOk, IfErr, OnOk};
 ghost use Rattle.record_writer.specs.Writers.{HasSeenFault};
-ghost use Rattle.input_gate.specs.Gates.{Account};
 ghost use Rattle.task_taking.specs.Takings.{AllBlocked, IsInStep};
 ghost use Rattle.stage_task.specs.Applying.{IsSameStage, HasOwnPasses, IsMarked, HasAcknowledged, IsEndOf};
 ghost use Rattle.stage_task.specs.Snapshots.{IsSnapshotOf};
@@ -14,7 +13,6 @@ use std::sync::Wait;
 use task_output::laws::{what_was_seen_stays, what_was_sent_was_begun};
 use task_output::{Acks, TaskOutput};
 use task_taking::TaskTaking;
-use task_taking::laws::what_was_taken_was_given;
 
 /// What a stage emits by, and by what it acknowledges checkpoints.
 #[derive(Drop)]
@@ -51,19 +49,18 @@ pub fn acknowledge<G: Gate, R: Wait>(
     out: &mut StageOutput<'_, '_>,
 ) -> Result<bool, TakerEnd>
     requires blocked { AllBlocked (G.account gate.old) taking.old }
-    requires marked { IsMarked (G.account gate.old) taking.old out.old }
+    requires marked { IsMarked (G.account gate.old) (G.shows gate.old) taking.old out.old }
     requires own { HasOwnPasses out.old }
     ensures gate { (G.ends gate.new ≡ G.ends gate.old) × ((G.account gate.new).channels ≡ (G.account gate.old).channels) }
     ensures same { IsSameStage out.old out.new }
     ensures own { HasOwnPasses out.new }
     ensures in_step { OnOk result (IsInStep (G.account gate.new) taking.new) }
-    ensures acknowledged { IfOk result (λ last. HasAcknowledged (G.account gate.new) taking.new out.new last) }
-    ensures ended { IfErr result (λ end. IsEndOf (G.account gate.new) out.new end) }
+    ensures acknowledged { IfOk result (λ last. HasAcknowledged (G.account gate.new) (G.shows gate.new) taking.new out.new last) }
+    ensures ended { IfErr result (λ end. IsEndOf (G.account gate.new) (G.shows gate.new) out.new end) }
     ensures stopped { IfErr result (λ end. end.cause ≡ Cause.Stopped → HasSeenFault out.new.output.writer) }
 {
     what_was_sent_was_begun();
     what_was_seen_stays();
-    what_was_taken_was_given();
     emits_in_parts();
     let takes = taking.resume_all(rt, gate);
     let Some(number) = out.acks.next_number() else {

@@ -6,7 +6,6 @@ ghost use Rattle.job_plan.specs.Plans.{CanRun};
 ghost use Rattle.record_writer.specs.Partitions.{ArePassesOf, IsPartitionOf};
 ghost use Rattle.task_output.specs.Acking.{IsLent, base_of};
 ghost use Rattle.task_output.specs.Waiting.{HasWaited};
-ghost use Rattle.input_gate.specs.Gates.{Account};
 ghost use Rattle.snapshot_channel.specs.Passes as channels;
 ghost use Rattle.stage_task.specs.Stages.{StageAccount, IsStageTask};
 ghost use Rattle.task_taking.specs.Endings.{ToldStop};
@@ -53,7 +52,7 @@ pub fn run_stage<'a, 'p, G: Gate, R: Wait>(
     ensures last_image { IsPassOf world.entry.acks.last_image.now result.passes.last_image }
     ensures waited { HasWaited (base_of start.now) (length (channels.sent_by result.passes.snapshots)) (seen result.passes.last_image) }
     ensures acks { result.acks ≡ length (channels.sent_by result.passes.snapshots) }
-    ensures account { StageAccount job.now edge index world.entry.partition.size start.now every (G.account result.gate) result.passes.partition.subpartitions.items (channels.sent_by result.passes.snapshots) (seen result.passes.last_image) result.takes.items result.cause }
+    ensures account { StageAccount job.now edge index world.entry.partition.size start.now every (G.account result.gate) (G.shows result.gate) result.passes.partition.subpartitions.items (channels.sent_by result.passes.snapshots) (seen result.passes.last_image) result.takes.items result.cause }
     ensures stop { ToldStop world.entry.stop.now (G.saw_stop result.gate) result.cause world.entry.stop_pass result.passes.stop }
 {
     let World {

@@ -1,9 +1,5 @@
 -- What was taken, as a gate gives more.
-use Rattle.std.proofs.Common.{◌≡◌, ◌≢◌, ℕ, suc, ◌+◌, ◌<◌, ◌≤◌, Bool, true, false, get_or, IsTrue, List, [], ◌∷◌, ◌++◌, length, refl, sym, ap, subst, ◌∙◌, append-nil, length-append, arith, inl, inr}
-use Rattle.std.specs.Prelude.{map}
-use Rattle.std.proofs.lemmas.List.{length-replicate, get_or-replicate, get_or-set_same, get_or-set_other}
-use mathlib.Core.Logic.{dite}
-use native.Mathlib.Decide.{ℕ_discrete}
+use Rattle.std.proofs.Common.{◌≡◌, ◌≢◌, ℕ, suc, ◌<◌, ◌≤◌, Bool, true, false, IsTrue, List, [], ◌∷◌, ◌++◌, refl, sym, subst, ◌∙◌, inl, inr}
 use Rattle.flow_defs.specs.declared.image.TakeRun.{TakeRun}
 use Rattle.flow_defs.specs.declared.job.Job.{Job}
 use Rattle.flow_defs.specs.declared.cause.Cause.TheVariants as causes
@@ -15,162 +11,135 @@ use Rattle.plain_machine.specs.Histories.{run_senders}
 use Rattle.plain_machine.specs.Images.{AreRuns}
 use Rattle.checkpoint_laws.specs.Chapters.{RunsTake}
 use Rattle.checkpoint_laws.specs.Growing.{OneIsTaken}
-use Rattle.barriers.specs.Alignments.{Alignment, barrier, gave_with, is_open}
+use Rattle.barriers.specs.Alignments.{Alignment, alignment_next, barrier, is_last, is_open, unaligned}
 use Rattle.record_writer.specs.Writers.{ways_into}
-use Rattle.input_gate.specs.Gates.{Account, IsNew, GaveOf, GaveBarrier, Ended}
-use Rattle.input_gate.specs.Gates.Told.{Line, Stop}
+use Rattle.channel_cut.specs.Cuts.{Cut}
+use Rattle.gate_account.specs.Accounts.{Account, IsNew, Keeps, GaveNothing, GaveOf, GaveBarrier, ResumedAll}
+use Rattle.gate_account.specs.Aligning as aligning
+use Rattle.gate_account.specs.Aligning.{gave_at}
+use Rattle.gate_account.specs.Taking.{AreApart, IsTaking, IsAtSnapshot}
+use Rattle.gate_account.proofs.InStep.{new_are_in_step}
+use Rattle.gate_account.proofs.Takings.{has_at_barrier, new_is_taking, takes_nothing, takes_line, takes_barrier, takes_last_barrier, goes_on_aligned}
+use Rattle.input_gate.specs.Gates.{Ended}
 use Rattle.input_gate.specs.declared.gate.GateEnd.{GateEnd}
 use Rattle.input_gate.specs.declared.gate.GateEnd.TheVariants as ends
-use Rattle.task_taking.specs.Takings.{Taking, IsSame, IsInStep, ResumedAll, told_of, stop_if, start_of, untaken, TakesFor, HasTaken, IsAtBarrier}
+use Rattle.task_taking.specs.Takings.{Taking, IsSame, IsInStep, start_of, untaken, TakesFor, Gave, HasTaken, HadTaken, IsAtBarrier}
 use Rattle.task_taking.specs.Steps.{IsTakerCause, cause_of}
-use Rattle.task_taking.proofs.Told.{one-of, none-of, told-more, told-closed, none_at}
 use Rattle.task_taking.proofs.Senders.{apart_at, leads_here}
-use Rattle.task_taking.proofs.InStep.{step_new}
 
 -- ---- before the first item
 
 -- of a new gate nothing was taken
-pub taken_none : (job : Job) (e b : ℕ) (gate : Account) (t : Taking) → IsJob job → e ≤ last_edge job → b < tasks job (suc e) → IsNew gate → gate.channels ≡ ways_into job e → t ≡ untaken job e b
-    → HasTaken job e b gate t [] [] × IsInStep gate t
-taken_none job e b gate t is_job edge within new channels is = subst (λ (x : Taking). HasTaken job e b gate x [] [] × IsInStep gate x) (sym is) (
-  record {
-    takes_for = record {
-      is_job = is_job;
-      edge = edge;
-      within = within;
-      exchange_is = refl;
-      index_is = refl;
-      channels = channels;
-      width = length-replicate (ways_into job e) false ∙ sym channels;
-    };
-    closed = refl;
-    each = λ c inside. new.told c ∙ ap (λ g. stop_if g 1) (sym (get_or-replicate (ways_into job e) c false false inside));
-    resumed = λ c inside. new.resumed c;
-    takes = record { senders_are = refl; are_runs = tt; short = tt };
-  },
-  step_new gate (untaken job e b) (ways_into job e) new channels refl refl,
-)
+pub taken_none : (job : Job) (e b : ℕ) (gate : Account) (shows : ℕ → Cut → Type 0) (t : Taking) → IsJob job → e ≤ last_edge job → b < tasks job (suc e) → IsNew (λ c. []) gate → gate.channels ≡ ways_into job e → t ≡ untaken job e b
+    → HasTaken job e b gate shows t [] []
+taken_none job e b gate shows t is_job edge within new channels is = subst (λ (x : Taking). HasTaken job e b gate shows x [] []) (sym is) (record {
+  takes_for = record {
+    is_job = is_job;
+    edge = edge;
+    within = within;
+    exchange_is = refl;
+    index_is = refl;
+    channels = channels;
+  };
+  taking = subst (λ n. IsTaking gate shows (start_of job e b) (unaligned n) [] []) channels (new_is_taking (λ c. []) gate shows (start_of job e b) new);
+  takes = record { senders_are = refl; are_runs = tt; short = tt };
+})
+
+-- and it is in step
+pub step_none : (job : Job) (e b : ℕ) (gate : Account) (t : Taking) → IsNew (λ c. []) gate → gate.channels ≡ ways_into job e → t ≡ untaken job e b → IsInStep gate t
+step_none job e b gate t new channels is = subst (λ (x : Taking). IsInStep gate x) (sym is) (record {
+  channels = channels;
+  step = subst (λ n. aligning.IsInStep gate (unaligned n)) channels (new_are_in_step (λ c. []) gate new);
+})
+
+-- ---- what was given where a task ends
+
+module _ (job : Job) (e b : ℕ) (gate : Account) (shows : ℕ → Cut → Type 0) (t : Taking) (groups : List (List (ℕ × List ℕ))) (took : List (ℕ × List ℕ)) where
+  pub taken_is_given : HasTaken job e b gate shows t groups took → Gave job e b gate shows groups took
+  taken_is_given has c inside = (gave_at t.alignment c, has.taking.has c (subst (λ n. c < n) (sym has.takes_for.channels) inside))
+
+  pub had_taken : HasTaken job e b gate shows t groups took → HadTaken job e b gate shows t groups took
+  had_taken has = record { given = taken_is_given has; takes = has.takes }
 
 -- ---- at an item
 
-for_same : (job : Job) (e b : ℕ) (before after : Account) (t t' : Taking) → after.channels ≡ before.channels → IsSame t t' → length t'.alignment.gave ≡ length t.alignment.gave
-    → TakesFor job e b before t → TakesFor job e b after t'
-for_same job e b before after t t' channels same width was = record {
+for_same : (job : Job) (e b : ℕ) (before after : Account) (t t' : Taking) → after.channels ≡ before.channels → IsSame t t' → TakesFor job e b before t → TakesFor job e b after t'
+for_same job e b before after t t' channels same was = record {
   is_job = was.is_job;
   edge = was.edge;
   within = was.within;
   exchange_is = same.exchange ∙ was.exchange_is;
   index_is = same.index ∙ was.index_is;
   channels = channels ∙ was.channels;
-  width = width ∙ was.width ∙ sym channels;
 }
 
-module _ (job : Job) (e b : ℕ) (before after : Account) (t t' : Taking) (groups : List (List (ℕ × List ℕ))) (took : List (ℕ × List ℕ))
-    (channels : after.channels ≡ before.channels) (same : IsSame t t') (was : HasTaken job e b before t groups took) where
+module _ (job : Job) (e b : ℕ) (before after : Account) (shows shown : ℕ → Cut → Type 0) (kept : Keeps shows shown) (t t' : Taking) (groups : List (List (ℕ × List ℕ))) (took : List (ℕ × List ℕ))
+    (channels : after.channels ≡ before.channels) (same : IsSame t t') (was : HasTaken job e b before shows t groups took) where
   abbrev start : ℕ → ℕ
   start c = start_of job e b c
 
-  abbrev next : ℕ
-  next = suc (length groups)
+  takes_same : t'.runs ≡ t.runs → RunsTake job e b t'.runs took
+  takes_same runs = subst (λ (runs : List TakeRun). RunsTake job e b runs took) (sym runs) was.takes
+
+  apart : AreApart before.channels start
+  apart c d low other ne same =
+      let inside = λ (x : ℕ) (h : x < before.channels). subst (λ n. x < n) was.takes_for.channels h in
+      ne (apart_at (exchange job e) b (tasks job e) c d (inside c low) (inside d other) same)
 
   -- nothing was taken
-  pub taken_same : ((d : ℕ) → after.told d ≡ before.told d) → ((d : ℕ) → after.resumed d ≡ before.resumed d) → t'.alignment ≡ t.alignment → t'.runs ≡ t.runs → HasTaken job e b after t' groups took
-  taken_same told resumed aligned runs = record {
-    takes_for = for_same job e b before after t t' channels same (ap (λ (a : Alignment). length a.gave) aligned) was.takes_for;
-    closed = ap (λ (a : Alignment). a.closed) aligned ∙ was.closed;
-    each = λ c inside. told c ∙ was.each c inside ∙ ap (λ (a : Alignment). told_of (start c) 1 groups took ++ stop_if (get_or a.gave c false) next) (sym aligned);
-    resumed = λ c inside. resumed c ∙ was.resumed c inside;
-    takes = subst (λ (runs : List TakeRun). RunsTake job e b runs took) (sym runs) was.takes;
+  pub taken_same : GaveNothing before after → t'.alignment ≡ t.alignment → t'.runs ≡ t.runs → HasTaken job e b after shown t' groups took
+  taken_same gave aligned runs = record {
+    takes_for = for_same job e b before after t t' channels same was.takes_for;
+    taking = subst (λ (a : Alignment). IsTaking after shown start a groups took) (sym aligned) (takes_nothing before after shows shown kept channels start t.alignment groups took was.taking gave);
+    takes = takes_same runs;
   }
 
-  module _ (c : ℕ) (inside : c < ways_into job e) (free : get_or t.alignment.gave c false ≡ false) where
-    -- what was told of a channel that has not given the next barrier
-    told_before : before.told c ≡ told_of (start c) 1 groups took
-    told_before = was.each c inside ∙ ap (λ g. told_of (start c) 1 groups took ++ stop_if g next) free ∙ append-nil (told_of (start c) 1 groups took)
-
-    -- ---- a line
-
-    module _ (line : List ℕ) (gave : GaveOf before after c (Line line ∷ []) []) (aligned : t'.alignment ≡ t.alignment) where
-      abbrev more : List (ℕ × List ℕ)
-      more = (start c, line) ∷ []
-
-      line_here : after.told c ≡ told_of (start c) 1 groups (took ++ more) ++ stop_if (get_or t'.alignment.gave c false) next
-      line_here =
-          gave.told_here ∙ ap (λ l. l ++ Line line ∷ []) told_before
-          ∙ ap (λ l. told_of (start c) 1 groups took ++ map Line l) (sym (one-of (start c) (start c) line refl)) ∙ sym (told-more (start c) 1 groups took more)
-          ∙ sym (append-nil (told_of (start c) 1 groups (took ++ more)))
-          ∙ ap (λ g. told_of (start c) 1 groups (took ++ more) ++ stop_if g next) (sym (ap (λ (a : Alignment). get_or a.gave c false) aligned ∙ free))
-
-      line_elsewhere : (d : ℕ) → d < ways_into job e → d ≢ c → after.told d ≡ told_of (start d) 1 groups (took ++ more) ++ stop_if (get_or t'.alignment.gave d false) next
-      line_elsewhere d low other =
-          gave.told_elsewhere d other ∙ was.each d low
-          ∙ ap (λ l. l ++ stop_if (get_or t.alignment.gave d false) next)
-          (sym (told-more (start d) 1 groups took more ∙ ap (λ l. told_of (start d) 1 groups took ++ map Line l) (none-of (start d) (start c) line (λ one. other (sym (apart_at (exchange job e) b (tasks job e) c d inside low one))))
-          ∙ append-nil (told_of (start d) 1 groups took)))
-          ∙ ap (λ (a : Alignment). told_of (start d) 1 groups (took ++ more) ++ stop_if (get_or a.gave d false) next) (sym aligned)
-
-      -- it was noted
-      pub taken_line : OneIsTaken → IsShort line → run_senders t'.runs ≡ run_senders t.runs ++ start c ∷ [] → (IsTrue (is_channel job e (start c) b) → AreRuns job e b t.runs → AreRuns job e b t'.runs)
-          → HasTaken job e b after t' groups (took ++ more)
-      taken_line law short noted are = record {
-        takes_for = for_same job e b before after t t' channels same (ap (λ (a : Alignment). length a.gave) aligned) was.takes_for;
-        closed = ap (λ (a : Alignment). a.closed) aligned ∙ was.closed;
-        each = λ d low. dite (ℕ_discrete d c)
-            (λ here. subst (λ x. after.told x ≡ told_of (start x) 1 groups (took ++ more) ++ stop_if (get_or t'.alignment.gave x false) next) (sym here) line_here)
-            (line_elsewhere d low);
-        resumed = λ d low. gave.resumed d ∙ was.resumed d low;
+  -- a line was taken and noted
+  pub taken_line : (c : ℕ) (line : List ℕ) → GaveOf before after c (line ∷ []) [] → t'.alignment ≡ t.alignment → OneIsTaken → IsShort line → run_senders t'.runs ≡ run_senders t.runs ++ start c ∷ []
+      → (IsTrue (is_channel job e (start c) b) → AreRuns job e b t.runs → AreRuns job e b t'.runs) → HasTaken job e b after shown t' groups (took ++ (start c, line) ∷ [])
+  taken_line c line gave aligned law short noted are =
+      let inside = subst (λ n. c < n) was.takes_for.channels gave.within in
+      record {
+        takes_for = for_same job e b before after t t' channels same was.takes_for;
+        taking = subst (λ (a : Alignment). IsTaking after shown start a groups (took ++ (start c, line) ∷ [])) (sym aligned) (takes_line before after shows shown kept channels start t.alignment groups took was.taking c line apart gave);
         takes = law job e b (start c) line t.runs t'.runs took was.takes short noted (are (leads_here job e b c was.takes_for.is_job was.takes_for.edge was.takes_for.within inside) was.takes.are_runs);
       }
 
-    -- ---- a barrier
+  -- ---- a barrier
 
-    module _ (k : ℕ) (gave : GaveOf before after c (Stop k ∷ []) ((k, Inline) ∷ [])) (number : k ≡ t.alignment.closed + 1) (width : length t'.alignment.gave ≡ length t.alignment.gave) (runs : t'.runs ≡ t.runs) where
-      is_next : k ≡ next
-      is_next = let closed = was.closed in omega (arith, number, closed)
+  module _ (c k : ℕ) (answer : GaveBarrier before after shown (is_open t.alignment) c k Inline) (now : t'.alignment ≡ alignment_next t.alignment (barrier c k)) (runs : t'.runs ≡ t.runs) where
+    -- others of its checkpoint are to come
+    pub taken_block : is_last t.alignment (barrier c k) ≡ false → HasTaken job e b after shown t' groups took
+    taken_block others = record {
+      takes_for = for_same job e b before after t t' channels same was.takes_for;
+      taking = subst (λ (a : Alignment). IsTaking after shown start a groups took) (sym now) (takes_barrier before after shows shown kept channels start t.alignment groups took was.taking c k answer others);
+      takes = takes_same runs;
+    }
 
-      stop_here : after.told c ≡ told_of (start c) 1 groups took ++ Stop next ∷ []
-      stop_here = gave.told_here ∙ ap (λ l. l ++ Stop k ∷ []) told_before ∙ ap (λ m. told_of (start c) 1 groups took ++ Stop m ∷ []) is_next
+    -- it is the last one of its checkpoint
+    pub at_barrier : is_last t.alignment (barrier c k) ≡ true → IsAtBarrier job e b after shown t' groups took
+    at_barrier last = record {
+      takes_for = for_same job e b before after t t' channels same was.takes_for;
+      at = subst (λ (a : Alignment). IsAtSnapshot after shown start a (groups ++ took ∷ [])) (sym now) (takes_last_barrier before after shows shown kept channels start t.alignment groups took was.taking c k answer last);
+      takes = takes_same runs;
+    }
 
-      -- others of its checkpoint are to come
-      pub taken_block : t'.alignment.closed ≡ t.alignment.closed → t'.alignment.gave ≡ gave_with t.alignment (barrier c k) → HasTaken job e b after t' groups took
-      taken_block closed now = record {
-        takes_for = for_same job e b before after t t' channels same width was.takes_for;
-        closed = closed ∙ was.closed;
-        each = λ d low. dite (ℕ_discrete d c)
-            (λ here. subst (λ x. after.told x ≡ told_of (start x) 1 groups took ++ stop_if (get_or t'.alignment.gave x false) next) (sym here)
-            (stop_here ∙ ap (λ g. told_of (start c) 1 groups took ++ stop_if g next) (sym (ap (λ gs. get_or gs c false) now ∙ get_or-set_same t.alignment.gave c true false (subst (λ n. c < n) (sym was.takes_for.width) gave.within)))))
-            (λ other. gave.told_elsewhere d other ∙ was.each d low ∙ ap (λ g. told_of (start d) 1 groups took ++ stop_if g next) (sym (ap (λ gs. get_or gs d false) now ∙ get_or-set_other t.alignment.gave c d true false other)));
-        resumed = λ d low. gave.resumed d ∙ was.resumed d low;
-        takes = subst (λ (runs : List TakeRun). RunsTake job e b runs took) (sym runs) was.takes;
-      }
-
-      -- it is the last one of its checkpoint
-      pub at_barrier : t'.alignment.closed ≡ k → ((d : ℕ) → d < ways_into job e → d ≢ c → get_or t.alignment.gave d false ≡ true) → IsAtBarrier job e b after t' groups took
-      at_barrier closed had = record {
-        takes_for = for_same job e b before after t t' channels same width was.takes_for;
-        closed = closed ∙ is_next;
-        each = λ d low. dite (ℕ_discrete d c)
-            (λ here. subst (λ x. after.told x ≡ told_of (start x) 1 (groups ++ took ∷ []) []) (sym here) (stop_here ∙ sym (told-closed (start c) groups took)))
-            (λ other. gave.told_elsewhere d other ∙ was.each d low ∙ ap (λ g. told_of (start d) 1 groups took ++ stop_if g next) (had d low other) ∙ sym (told-closed (start d) groups took));
-        resumed = λ d low. gave.resumed d ∙ was.resumed d low;
-        takes = subst (λ (runs : List TakeRun). RunsTake job e b runs took) (sym runs) was.takes;
-      }
+  -- a front one ends the task
+  pub had_at_front : (hold : Bool) (c k : ℕ) → GaveBarrier before after shown hold c k Front → t'.runs ≡ t.runs → HadTaken job e b after shown t' groups took
+  had_at_front hold c k answer runs =
+      let has = has_at_barrier before after shows shown kept channels start groups took (gave_at t.alignment) was.taking.has c ((k, Front) ∷ []) answer.1 in
+      record { given = λ d inside. (gave_at t.alignment d, has d (subst (λ n. d < n) (sym (channels ∙ was.takes_for.channels)) inside)); takes = takes_same runs }
 
 -- ---- at a resumption
 
-pub taken_resumed : (job : Job) (e b : ℕ) (before after : Account) (t t' : Taking) (groups : List (List (ℕ × List ℕ))) (took : List (ℕ × List ℕ)) → after.channels ≡ before.channels → IsSame t t' → t'.alignment ≡ t.alignment → t'.runs ≡ []
-    → ResumedAll before after → is_open t.alignment ≡ false → IsAtBarrier job e b before t groups took → HasTaken job e b after t' (groups ++ took ∷ []) []
-taken_resumed job e b before after t t' groups took channels same aligned runs resumed closed was =
-    let many : suc (length groups) ≡ length (groups ++ took ∷ []) = (let z : suc (length groups) ≡ length groups + 1 = omega arith in z) ∙ sym (length-append groups (took ∷ [])) in
-    record {
-      takes_for = for_same job e b before after t t' channels same (ap (λ (a : Alignment). length a.gave) aligned) was.takes_for;
-      closed = ap (λ (a : Alignment). a.closed) aligned ∙ was.closed ∙ many;
-      each = λ c inside.
-          resumed.told c ∙ was.each c inside ∙ sym (append-nil (told_of (start_of job e b c) 1 (groups ++ took ∷ []) []))
-          ∙ ap (λ g. told_of (start_of job e b c) 1 (groups ++ took ∷ []) [] ++ stop_if g (suc (length (groups ++ took ∷ [])))) (sym (ap (λ (a : Alignment). get_or a.gave c false) aligned ∙ none_at t.alignment.gave c closed));
-      resumed = λ c inside. resumed.resumed c (subst (λ n. c < n) (sym was.takes_for.channels) inside) ∙ ap suc (was.resumed c inside) ∙ many;
-      takes = subst (λ (runs : List TakeRun). RunsTake job e b runs []) (sym runs) (record { senders_are = refl; are_runs = tt; short = tt });
-    }
+pub taken_resumed : (job : Job) (e b : ℕ) (before after : Account) (shows shown : ℕ → Cut → Type 0) → Keeps shows shown → (t t' : Taking) (groups : List (List (ℕ × List ℕ))) (took : List (ℕ × List ℕ)) → after.channels ≡ before.channels → IsSame t t'
+    → t'.alignment ≡ t.alignment → t'.runs ≡ [] → ResumedAll before after → IsAtBarrier job e b before shows t groups took → HasTaken job e b after shown t' (groups ++ took ∷ []) []
+taken_resumed job e b before after shows shown kept t t' groups took channels same aligned runs resumed was = record {
+  takes_for = for_same job e b before after t t' channels same was.takes_for;
+  taking = subst (λ (a : Alignment). IsTaking after shown (start_of job e b) a (groups ++ took ∷ []) []) (sym aligned)
+      (goes_on_aligned before after shows shown kept channels (start_of job e b) t.alignment (groups ++ took ∷ []) was.at resumed);
+  takes = subst (λ (runs : List TakeRun). RunsTake job e b runs []) (sym runs) (record { senders_are = refl; are_runs = tt; short = tt });
+}
 
 -- ---- causes
 
@@ -181,11 +150,6 @@ end_cause before after ends.Memory same ended = (tt, λ is. cc)
 end_cause before after (ends.TooLong c len) same ended = ((c, subst (λ n. c < n) (sym same) ended.0, inl (len, ended.1)), λ is. cc)
 end_cause before after (ends.Left c len) same ended = ((c, subst (λ n. c < n) (sym same) ended.0, inr (ended.1, subst (λ n. 0 < n) (sym ended.2) ended.3)), λ is. cc)
 
--- a front barrier was given, and nothing was told
-pub front_cause : (before after : Account) (hold : Bool) (c k : ℕ) → after.channels ≡ before.channels → GaveBarrier before after hold c k Front → IsTakerCause after (causes.Peer peers.Barrier) × (causes.Peer peers.Barrier ≢ causes.Done)
-front_cause before after hold c k same gave = ((c, k, before.barriers c, subst (λ n. c < n) (sym same) gave.1.within, gave.1.barriers_here), λ is. cc)
-
-pub front_told : (before after : Account) (hold : Bool) (c k : ℕ) → GaveBarrier before after hold c k Front → (d : ℕ) → after.told d ≡ before.told d
-front_told before after hold c k gave d = dite (ℕ_discrete d c)
-    (λ here. ap (λ x. after.told x) here ∙ gave.1.told_here ∙ append-nil (before.told c) ∙ ap (λ x. before.told x) (sym here))
-    (λ other. gave.1.told_elsewhere d other)
+-- a front barrier was given
+pub front_cause : (before after : Account) (shows : ℕ → Cut → Type 0) (hold : Bool) (c k : ℕ) → after.channels ≡ before.channels → GaveBarrier before after shows hold c k Front → IsTakerCause after (causes.Peer peers.Barrier) × (causes.Peer peers.Barrier ≢ causes.Done)
+front_cause before after shows hold c k same gave = ((c, k, before.barriers c, subst (λ n. c < n) (sym same) gave.1.within, gave.1.barriers_here), λ is. cc)

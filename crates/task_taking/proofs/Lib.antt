@@ -1,5 +1,4 @@
 pub mod Noting
-pub mod Told
 pub mod Senders
 pub mod InStep
 pub mod Groups

@@ -11,28 +11,24 @@ use Rattle.flow_defs.specs.declared.task.BarrierKind.{BarrierKind}
 use Rattle.flow_defs.specs.declared.task.BarrierKind.TheVariants.{Inline}
 use Rattle.flow_defs.specs.Jobs.{tasks}
 use Rattle.flow_defs.specs.Records.{IsShort}
-use Rattle.record_spans.proofs.Lengths.{none_short}
 use Rattle.record_writer.specs.Writers.{ways, ways_into}
-use Rattle.input_gate.specs.Gates.{stops_in, GaveItem, Resumed, IsNew}
-use Rattle.input_gate.specs.Gates.Told.{Line, Stop}
+use Rattle.channel_cut.specs.Cuts.{Cut, InLine}
+use Rattle.gate_account.specs.Accounts.{inlines, IsNew, Resumed}
+use Rattle.gate_account.proofs.InStep.{append_inlines}
+use Rattle.input_gate.specs.Gates.{GaveItem}
 use Rattle.input_gate.specs.declared.gate.GateItem.{GateItem}
 use Rattle.input_gate.specs.declared.gate.GateItem.TheVariants as items
-use Rattle.input_gate.proofs.Growing.{stops_in-append}
-use Rattle.task_taking.specs.Samples.{told_by, barriers_by, resumed_by, account_of}
+use Rattle.task_taking.specs.Samples.{lines_by, barriers_by, resumed_by, account_of}
 
-told-append : (given more : List GateItem) (c : ℕ) → told_by (given ++ more) c ≡ told_by given c ++ told_by more c
-told-append [] more c = refl
-told-append (items.Line a line ∷ given) more c =
-    elim (eqb a c) as (λ b. cond b (Line line.items ∷ told_by (given ++ more) c) (told_by (given ++ more) c) ≡ cond b (Line line.items ∷ told_by given c) (told_by given c) ++ told_by more c) [
-      | true ↦ ap (λ l. Line line.items ∷ l) (told-append given more c)
-      | false ↦ told-append given more c
+lines-append : (given more : List GateItem) (c : ℕ) → lines_by (given ++ more) c ≡ lines_by given c ++ lines_by more c
+lines-append [] more c = refl
+lines-append (items.Line a line ∷ given) more c =
+    elim (eqb a c) as (λ b. cond b (line.items ∷ lines_by (given ++ more) c) (lines_by (given ++ more) c) ≡ cond b (line.items ∷ lines_by given c) (lines_by given c) ++ lines_by more c) [
+      | true ↦ ap (λ (l : List (List ℕ)). line.items ∷ l) (lines-append given more c)
+      | false ↦ lines-append given more c
     ]
-told-append (items.Barrier a k kind ∷ given) more c =
-    elim (eqb a c) as (λ b. cond b (Stop k ∷ told_by (given ++ more) c) (told_by (given ++ more) c) ≡ cond b (Stop k ∷ told_by given c) (told_by given c) ++ told_by more c) [
-      | true ↦ ap (λ l. Stop k ∷ l) (told-append given more c)
-      | false ↦ told-append given more c
-    ]
-told-append (items.AllEnded ∷ given) more c = told-append given more c
+lines-append (items.Barrier a k kind ∷ given) more c = lines-append given more c
+lines-append (items.AllEnded ∷ given) more c = lines-append given more c
 
 barriers-append : (given more : List GateItem) (c : ℕ) → barriers_by (given ++ more) c ≡ barriers_by given c ++ barriers_by more c
 barriers-append [] more c = refl
@@ -44,49 +40,49 @@ barriers-append (items.Barrier a k kind ∷ given) more c =
     ]
 barriers-append (items.AllEnded ∷ given) more c = barriers-append given more c
 
--- as many barriers as stops
-many_same : (given : List GateItem) (c : ℕ) → length (barriers_by given c) ≡ stops_in (told_by given c)
-many_same [] c = refl
-many_same (items.Line a line ∷ given) c = elim (eqb a c) as (λ b. length (barriers_by given c) ≡ stops_in (cond b (Line line.items ∷ told_by given c) (told_by given c))) [ true ↦ many_same given c | false ↦ many_same given c ]
-many_same (items.Barrier a k kind ∷ given) c =
-    elim (eqb a c) as (λ b. length (cond b ((k, Inline) ∷ barriers_by given c) (barriers_by given c)) ≡ stops_in (cond b (Stop k ∷ told_by given c) (told_by given c))) [ true ↦ ap suc (many_same given c) | false ↦ many_same given c ]
-many_same (items.AllEnded ∷ given) c = many_same given c
+-- all barriers are inline
+all_inline : (given : List GateItem) (c : ℕ) → length (barriers_by given c) ≡ inlines (barriers_by given c)
+all_inline [] c = refl
+all_inline (items.Line a line ∷ given) c = all_inline given c
+all_inline (items.Barrier a k kind ∷ given) c =
+    elim (eqb a c) as (λ b. length (cond b ((k, Inline) ∷ barriers_by given c) (barriers_by given c)) ≡ inlines (cond b ((k, Inline) ∷ barriers_by given c) (barriers_by given c))) [ true ↦ ap suc (all_inline given c) | false ↦ all_inline given c ]
+all_inline (items.AllEnded ∷ given) c = all_inline given c
 
-module _ (given : List GateItem) (first second : ℕ) (over : Bool) (c : ℕ) (within : c < 2) (free : stops_in (told_by given c) ≡ resumed_by first second c) where
-  pub line_given : (hold : Bool) (line copy : Items ℕ) → copy.items ≡ line.items → IsShort line.items → GaveItem (account_of given first second over) (account_of (given ++ items.Line c copy ∷ []) first second over) hold (items.Line c line)
-  line_given hold line copy same short = (
+module _ (given : List GateItem) (first second : ℕ) (over : Bool) (c : ℕ) (within : c < 2) (free : inlines (barriers_by given c) ≡ resumed_by first second c) where
+  pub line_given : (shows : ℕ → Cut → Type 0) (hold : Bool) (line copy : Items ℕ) → copy.items ≡ line.items → IsShort line.items → GaveItem (account_of given first second over) (account_of (given ++ items.Line c copy ∷ []) first second over) shows hold (items.Line c line)
+  line_given shows hold line copy same short = (
     short,
     record {
       within = within;
       was_free = free;
-      told_here = told-append given (items.Line c copy ∷ []) c ∙ ap (λ t. told_by given c ++ cond t (Line copy.items ∷ []) []) (eq-eqb c c refl) ∙ ap (λ (l : List ℕ). told_by given c ++ Line l ∷ []) same;
-      told_elsewhere = λ d other. told-append given (items.Line c copy ∷ []) d ∙ ap (λ t. told_by given d ++ cond t (Line copy.items ∷ []) []) (ne_eqb c d (λ e. other (sym e))) ∙ append-nil (told_by given d);
+      lines_here = lines-append given (items.Line c copy ∷ []) c ∙ ap (λ t. lines_by given c ++ cond t (copy.items ∷ []) []) (eq-eqb c c refl) ∙ ap (λ (l : List ℕ). lines_by given c ++ l ∷ []) same;
+      lines_elsewhere = λ d other. lines-append given (items.Line c copy ∷ []) d ∙ ap (λ t. lines_by given d ++ cond t (copy.items ∷ []) []) (ne_eqb c d (λ e. other (sym e))) ∙ append-nil (lines_by given d);
       barriers_here = barriers-append given (items.Line c copy ∷ []) c;
       barriers_elsewhere = λ d other. barriers-append given (items.Line c copy ∷ []) d ∙ append-nil (barriers_by given d);
       resumed = λ d. refl;
     },
   )
 
-  pub barrier_given : (hold : Bool) (k : ℕ) → k ≡ suc (stops_in (told_by given c)) → (hold ≡ true → (d : ℕ) × (d < 2) × (k ≤ stops_in (told_by given d))) →
-      GaveItem (account_of given first second over) (account_of (given ++ items.Barrier c k Inline ∷ []) first second over) hold (items.Barrier c k Inline)
-  barrier_given hold k next held = (
-    record { number = next ∙ ap suc (sym (many_same given c)); held = λ is. let h = held is in (h.0, h.1, subst (λ n. k ≤ n) (sym (many_same given h.0)) h.2) },
+  pub barrier_given : (shows : ℕ → Cut → Type 0) (hold : Bool) (k : ℕ) → shows c (InLine k (lines_by given c)) → k ≡ suc (inlines (barriers_by given c)) → (hold ≡ true → (d : ℕ) × (d < 2) × (k ≤ inlines (barriers_by given d))) →
+      GaveItem (account_of given first second over) (account_of (given ++ items.Barrier c k Inline ∷ []) first second over) shows hold (items.Barrier c k Inline)
+  barrier_given shows hold k cut next held = (
+    record { number = next ∙ ap suc (sym (all_inline given c)); held = λ is. let h = held is in (h.0, h.1, subst (λ n. k ≤ n) (sym (all_inline given h.0)) h.2) },
     record {
       within = within;
       was_free = free;
-      told_here = told-append given (items.Barrier c k Inline ∷ []) c ∙ ap (λ t. told_by given c ++ cond t (Stop k ∷ []) []) (eq-eqb c c refl);
-      told_elsewhere = λ d other. told-append given (items.Barrier c k Inline ∷ []) d ∙ ap (λ t. told_by given d ++ cond t (Stop k ∷ []) []) (ne_eqb c d (λ e. other (sym e))) ∙ append-nil (told_by given d);
+      lines_here = lines-append given (items.Barrier c k Inline ∷ []) c;
+      lines_elsewhere = λ d other. lines-append given (items.Barrier c k Inline ∷ []) d ∙ append-nil (lines_by given d);
       barriers_here = barriers-append given (items.Barrier c k Inline ∷ []) c ∙ ap (λ t. barriers_by given c ++ cond t ((k, Inline) ∷ []) []) (eq-eqb c c refl);
       barriers_elsewhere = λ d other. barriers-append given (items.Barrier c k Inline ∷ []) d ∙ ap (λ t. barriers_by given d ++ cond t ((k, Inline) ∷ []) []) (ne_eqb c d (λ e. other (sym e))) ∙ append-nil (barriers_by given d);
       resumed = λ d. refl;
     },
-    none_short [] (omega arith),
+    (refl, cut),
   )
 
 module _ (given : List GateItem) (first second : ℕ) (over : Bool) (n c : ℕ) (is : n ≡ suc (resumed_by first second c)) where
   pub first_resumed : c ≡ 0 → Resumed (account_of given first second over) (account_of given n second over) c
   first_resumed none = record {
-    told = λ d. refl;
+    lines = λ d. refl;
     barriers = λ d. refl;
     here = ap (resumed_by n second) none ∙ is;
     elsewhere = λ d other.
@@ -99,7 +95,7 @@ module _ (given : List GateItem) (first second : ℕ) (over : Bool) (n c : ℕ) 
   second_resumed within some =
       let one : c ≡ 1 = omega (arith, within, some) in
       record {
-        told = λ d. refl;
+        lines = λ d. refl;
         barriers = λ d. refl;
         here = ap (resumed_by first n) one ∙ is;
         elsewhere = λ d other.
@@ -110,20 +106,20 @@ module _ (given : List GateItem) (first second : ℕ) (over : Bool) (n c : ℕ) 
 
 -- ---- how many barriers
 
-pub barrier_weight : (a c k : ℕ) (kind : BarrierKind) → a ≡ c → stops_in (told_by (items.Barrier a k kind ∷ []) c) ≡ 1
-barrier_weight a c k kind same = ap (λ t. stops_in (cond t (Stop k ∷ []) [])) (eq-eqb a c same)
+pub barrier_weight : (a c k : ℕ) (kind : BarrierKind) → a ≡ c → inlines (barriers_by (items.Barrier a k kind ∷ []) c) ≡ 1
+barrier_weight a c k kind same = ap (λ t. inlines (cond t ((k, Inline) ∷ []) [])) (eq-eqb a c same)
 
-pub other_weight : (a c k : ℕ) (kind : BarrierKind) → a ≢ c → stops_in (told_by (items.Barrier a k kind ∷ []) c) ≡ 0
-other_weight a c k kind other = ap (λ t. stops_in (cond t (Stop k ∷ []) [])) (ne_eqb a c other)
+pub other_weight : (a c k : ℕ) (kind : BarrierKind) → a ≢ c → inlines (barriers_by (items.Barrier a k kind ∷ []) c) ≡ 0
+other_weight a c k kind other = ap (λ t. inlines (cond t ((k, Inline) ∷ []) [])) (ne_eqb a c other)
 
-pub line_weight : (a c : ℕ) (line : Items ℕ) → stops_in (told_by (items.Line a line ∷ []) c) ≡ 0
-line_weight a c line = elim (eqb a c) as (λ t. stops_in (cond t (Line line.items ∷ []) []) ≡ 0) [ true ↦ refl | false ↦ refl ]
+pub line_weight : (a c : ℕ) (line : Items ℕ) → inlines (barriers_by (items.Line a line ∷ []) c) ≡ 0
+line_weight a c line = refl
 
-pub counted_more : (given : List GateItem) (i c n w : ℕ) (x : GateItem) → i < length given → x ≡ get_or given i x → n ≡ stops_in (told_by (take i given) c) → w ≡ stops_in (told_by (x ∷ []) c) → n + w ≡ stops_in (told_by (take (i + 1) given) c)
+pub counted_more : (given : List GateItem) (i c n w : ℕ) (x : GateItem) → i < length given → x ≡ get_or given i x → n ≡ inlines (barriers_by (take i given) c) → w ≡ inlines (barriers_by (x ∷ []) c) → n + w ≡ inlines (barriers_by (take (i + 1) given) c)
 counted_more given i c n w x within is old one =
-    ap (λ m. m + w) old ∙ ap (λ m. stops_in (told_by (take i given) c) + m) one
-    ∙ sym (ap (λ l. stops_in (told_by l c)) (take_more given i x within) ∙ ap (λ (y : GateItem). stops_in (told_by (take i given ++ y ∷ []) c)) (sym is)
-    ∙ ap stops_in (told-append (take i given) (x ∷ []) c) ∙ stops_in-append (told_by (take i given) c) (told_by (x ∷ []) c))
+    ap (λ m. m + w) old ∙ ap (λ m. inlines (barriers_by (take i given) c) + m) one
+    ∙ sym (ap (λ l. inlines (barriers_by l c)) (take_more given i x within) ∙ ap (λ (y : GateItem). inlines (barriers_by (take i given ++ y ∷ []) c)) (sym is)
+    ∙ ap inlines (barriers-append (take i given) (x ∷ []) c) ∙ append_inlines (barriers_by (take i given) c) (barriers_by (x ∷ []) c))
 
 pub first_free : (first second n s c : ℕ) → c ≡ 0 → n ≡ s → n ≡ first → (c < 2) × (s ≡ resumed_by first second c)
 first_free first second n s c none is all = (omega (arith, none), sym is ∙ all ∙ sym (ap (resumed_by first second) none))
@@ -137,9 +133,9 @@ zero_either : (t : Bool) (n : ℕ) → n ≡ 0 → cond t 0 n ≡ 0
 zero_either true n is = refl
 zero_either false n is = is
 
-pub new_account : (given : List GateItem) (first second : ℕ) (over : Bool) → given ≡ [] → first ≡ 0 → second ≡ 0 → over ≡ false → IsNew (account_of given first second over)
-new_account given first second over none a b off = subst (λ (l : List GateItem). IsNew (account_of l first second over)) (sym none) (subst (λ n. IsNew (account_of [] n second over)) (sym a) (subst (λ n. IsNew (account_of [] 0 n over)) (sym b) (subst (λ o. IsNew (account_of [] 0 0 o)) (sym off) (record {
-  told = λ c. refl;
+pub new_account : (given : List GateItem) (first second : ℕ) (over : Bool) → given ≡ [] → first ≡ 0 → second ≡ 0 → over ≡ false → IsNew (λ c. []) (account_of given first second over)
+new_account given first second over none a b off = subst (λ (l : List GateItem). IsNew (λ c. []) (account_of l first second over)) (sym none) (subst (λ n. IsNew (λ c. []) (account_of [] n second over)) (sym a) (subst (λ n. IsNew (λ c. []) (account_of [] 0 n over)) (sym b) (subst (λ o. IsNew (λ c. []) (account_of [] 0 0 o)) (sym off) (record {
+  lines = λ c. refl;
   barriers = λ c. refl;
   resumed = λ c. zero_either (eqb c 0) (cond (eqb c 1) 0 0) (zero_either (eqb c 1) 0 refl);
   ended = λ c. refl;

@@ -1,47 +1,22 @@
--- How a task that takes ends, and what its gate told it up to there. As in Flink a task goes on until all its channels have ended. That it
+-- How a task that takes ends. As in Flink a task goes on until all its channels have ended. That it
 -- ends only behind the last checkpoint of the job, which it has acknowledged, is this project's own choice.
-use Rattle.std.specs.Prelude.{◌≡◌, ◌≢◌, ℕ, suc, ◌<◌, ◌⊎◌, ⊤, Bool, true, false, List, [], ◌∷◌, ◌++◌, length, Option}
+use Rattle.std.specs.Prelude.{◌≡◌, ◌≢◌, ℕ, suc, ◌<◌, ◌⊎◌, ⊤, true, false, List, [], ◌++◌, length, Option}
 use Rattle.flow_defs.specs.declared.cause.Cause.{Cause}
 use Rattle.flow_defs.specs.declared.cause.Cause.TheVariants as causes
 use Rattle.flow_defs.specs.declared.cause.PeerFault.TheVariants as peers
-use Rattle.flow_defs.specs.declared.job.Job.{Job}
-use Rattle.barriers.specs.Alignments.{is_open}
 use Rattle.turn_cell.specs.Passes.{IsPassOf, number, seen, mine}
 use Rattle.outside.specs.Stops.{told_of}
 use Rattle.conn_parts.specs.Stopping.{StopCell, StopPass}
 use Rattle.outside.specs.declared.last_image.Stored.{Stored}
-use Rattle.record_writer.specs.Writers.{ways_into}
-use Rattle.input_gate.specs.Gates.{Account, AllOver, stops_in}
+use Rattle.gate_account.specs.Accounts.{Account, AllOver}
 use Rattle.task_output.specs.Waiting.{LastIs}
-use Rattle.task_taking.specs.Takings.{Taking, HasTaken, IsAtBarrier, start_of, stop_if}
-use Rattle.task_taking.specs.Takings as takings
 use Rattle.task_taking.specs.Steps.{GaveFront, IsCutShort}
 
--- ---- what the gate told
+-- ---- what the gate gave
 
--- Of each channel the gate told the lines of these groups, with a barrier behind each, and then those of the rest. Some channels may wait
--- behind the next barrier.
-abbrev pub Gave : Job → ℕ → ℕ → Account → List (List (ℕ × List ℕ)) → List (ℕ × List ℕ) → Type 0
-Gave job e b gate groups rest =
-    (c : ℕ) → c < ways_into job e → (waits : Bool) × (gate.told c ≡ takings.told_of (start_of job e b c) 1 groups rest ++ stop_if waits (suc (length groups)))
-
--- So it did where the task takes on,
-abbrev pub TakenIsGiven : Type 0
-TakenIsGiven = (job : Job) (e b : ℕ) (gate : Account) (t : Taking) (groups : List (List (ℕ × List ℕ))) (took : List (ℕ × List ℕ)) → HasTaken job e b gate t groups took → Gave job e b gate groups took
-
--- where it is at the next barrier,
-abbrev pub BarrierIsGiven : Type 0
-BarrierIsGiven = (job : Job) (e b : ℕ) (gate : Account) (t : Taking) (groups : List (List (ℕ × List ℕ))) (took : List (ℕ × List ℕ)) → IsAtBarrier job e b gate t groups took → Gave job e b gate groups took
-
--- and where it has resumed its channels behind that, and has not acknowledged it.
-abbrev pub ResumedIsGiven : Type 0
-ResumedIsGiven =
-    (job : Job) (e b : ℕ) (gate : Account) (t : Taking) (groups : List (List (ℕ × List ℕ))) (took : List (ℕ × List ℕ)) →
-    HasTaken job e b gate t (groups ++ took ∷ []) [] → is_open t.alignment ≡ false → Gave job e b gate groups took
-
--- Each channel of the gate told so many barriers.
+-- It gave so many barriers of each channel.
 abbrev pub EachTold : Account → ℕ → Type 0
-EachTold gate n = (c : ℕ) → c < gate.channels → stops_in (gate.told c) ≡ n
+EachTold gate n = (c : ℕ) → c < gate.channels → length (gate.barriers c) ≡ n
 
 -- ---- why it ends
 

@@ -8,12 +8,13 @@ use Rattle.flow_defs.specs.declared.task.BarrierKind.TheVariants.{Front}
 use Rattle.flow_defs.specs.declared.job.Job.{Job}
 use Rattle.flow_defs.specs.Records.{IsShort}
 use Rattle.record_spans.specs.Spans.{BeginsTooLong}
-use Rattle.input_gate.specs.Gates.{Account, AllOver}
+use Rattle.channel_cut.specs.Cuts.{Cut}
+use Rattle.gate_account.specs.Accounts.{Account, AllOver}
 use Rattle.input_gate.specs.declared.gate.GateEnd.{GateEnd}
 use Rattle.input_gate.specs.declared.gate.GateEnd.TheVariants as ends
 use Rattle.task_taking.specs.declared.taking.Taken.{Taken}
 use Rattle.task_taking.specs.declared.taking.Taken.TheVariants as taken
-use Rattle.task_taking.specs.Takings.{Taking, IsInStep, AllBlocked, HasTaken, IsAtBarrier}
+use Rattle.task_taking.specs.Takings.{Taking, IsInStep, AllBlocked, HasTaken, HadTaken, IsAtBarrier}
 
 -- ---- why it takes nothing more
 
@@ -52,11 +53,11 @@ TakingGoesOn gate t t' (Ok taken.AllEnded) = IsInStep gate t' × (t'.alignment.c
 TakingGoesOn gate t t' (Err cause) = ⊤
 
 -- To what it had taken it took this record, or came to these barriers, or took nothing: all channels had ended, or it has a cause to end.
-abbrev pub TookNext : Job → ℕ → ℕ → Account → Taking → List (List (ℕ × List ℕ)) → List (ℕ × List ℕ) → Result Taken Cause → Type 0
-TookNext job e b gate t groups took (Ok (taken.Line line)) = IsShort line.items × ((a : ℕ) × HasTaken job e b gate t groups (took ++ (a, line.items) ∷ []))
-TookNext job e b gate t groups took (Ok (taken.Checkpoint k)) = IsAtBarrier job e b gate t groups took × (k ≡ suc (length groups))
-TookNext job e b gate t groups took (Ok taken.AllEnded) = HasTaken job e b gate t groups took × AllOver gate
-TookNext job e b gate t groups took (Err cause) = HasTaken job e b gate t groups took × IsTakerCause gate cause × (cause ≢ causes.Done)
+abbrev pub TookNext : Job → ℕ → ℕ → Account → (ℕ → Cut → Type 0) → Taking → List (List (ℕ × List ℕ)) → List (ℕ × List ℕ) → Result Taken Cause → Type 0
+TookNext job e b gate shows t groups took (Ok (taken.Line line)) = IsShort line.items × ((a : ℕ) × HasTaken job e b gate shows t groups (took ++ (a, line.items) ∷ []))
+TookNext job e b gate shows t groups took (Ok (taken.Checkpoint k)) = IsAtBarrier job e b gate shows t groups took × (k ≡ suc (length groups))
+TookNext job e b gate shows t groups took (Ok taken.AllEnded) = HasTaken job e b gate shows t groups took × AllOver gate
+TookNext job e b gate shows t groups took (Err cause) = HadTaken job e b gate shows t groups took × IsTakerCause gate cause × (cause ≢ causes.Done)
 
 -- The same of one item of the gate, of which there may be nothing to tell.
 abbrev pub GoesOnFrom : Account → Taking → Taking → Result (Option Taken) Cause → Type 0
@@ -64,7 +65,7 @@ GoesOnFrom gate t t' (Ok (Some item)) = TakingGoesOn gate t t' (Ok item)
 GoesOnFrom gate t t' (Ok None) = IsInStep gate t' × (t'.alignment.closed ≡ t.alignment.closed)
 GoesOnFrom gate t t' (Err cause) = TakingGoesOn gate t t' (Err cause)
 
-abbrev pub TookItem : Job → ℕ → ℕ → Account → Taking → List (List (ℕ × List ℕ)) → List (ℕ × List ℕ) → Result (Option Taken) Cause → Type 0
-TookItem job e b gate t groups took (Ok (Some item)) = TookNext job e b gate t groups took (Ok item)
-TookItem job e b gate t groups took (Ok None) = HasTaken job e b gate t groups took
-TookItem job e b gate t groups took (Err cause) = TookNext job e b gate t groups took (Err cause)
+abbrev pub TookItem : Job → ℕ → ℕ → Account → (ℕ → Cut → Type 0) → Taking → List (List (ℕ × List ℕ)) → List (ℕ × List ℕ) → Result (Option Taken) Cause → Type 0
+TookItem job e b gate shows t groups took (Ok (Some item)) = TookNext job e b gate shows t groups took (Ok item)
+TookItem job e b gate shows t groups took (Ok None) = HasTaken job e b gate shows t groups took
+TookItem job e b gate shows t groups took (Err cause) = TookNext job e b gate shows t groups took (Err cause)

@@ -1,34 +1,20 @@
 -- What a task took from its gate: records, and the barriers of checkpoints between them. As in Flink a task with several channels aligns
 -- them: one whose barrier has come is read no further until the barriers of all others have come, and then the task snapshots what it took
 -- before. That what a task took is told by what it took from each barrier to the next is this project's own choice.
-use Rattle.std.specs.Prelude.{◌≡◌, ℕ, suc, ◌<◌, ◌≤◌, Bool, true, false, List, [], ◌∷◌, ◌++◌, length, map, slice_index_or}
+use Rattle.std.specs.Prelude.{◌≡◌, ℕ, suc, ◌<◌, ◌≤◌, Bool, true, false, List, [], ◌∷◌, ◌++◌}
 use Rattle.flow_defs.specs.declared.image.TakeRun.{TakeRun}
 use Rattle.flow_defs.specs.declared.job.Exchange.{Exchange}
 use Rattle.flow_defs.specs.declared.job.Job.{Job}
 use Rattle.flow_defs.specs.Jobs.{IsJob, last_edge, tasks, exchange}
-use Rattle.plain_machine.specs.Histories.{of_sender}
-use Rattle.barriers.specs.Alignments.{Alignment, unaligned, is_open, given_by}
+use Rattle.barriers.specs.Alignments.{Alignment, unaligned, is_open}
 use Rattle.checkpoint_laws.specs.Chapters.{RunsTake}
 use Rattle.record_writer.specs.Writers.{ways_into, sender_at}
-use Rattle.input_gate.specs.Gates.{Account, Told, stops_in}
-use Rattle.input_gate.specs.Gates.Told.{Line, Stop}
-
--- ---- what a gate tells
-
--- The lines of one sender among these records.
-abbrev pub lines_of : ℕ → List (ℕ × List ℕ) → List Told
-lines_of s took = map Line (of_sender s took)
-
--- What a gate tells of the channel from sender s, where the task took these groups of records and then these: the lines of each group and
--- its barrier, of which k is the first, and the lines behind the last barrier.
-abbrev pub told_of : ℕ → ℕ → List (List (ℕ × List ℕ)) → List (ℕ × List ℕ) → List Told
-told_of s k [] took = lines_of s took
-told_of s k (group ∷ groups) took = lines_of s group ++ Stop k ∷ told_of s (suc k) groups took
-
--- Barrier k, where it was given.
-abbrev pub stop_if : Bool → ℕ → List Told
-stop_if true k = Stop k ∷ []
-stop_if false k = []
+use Rattle.channel_cut.specs.Cuts.{Cut}
+use Rattle.channel_cut.specs.Takings.{TakenOn}
+use Rattle.gate_account.specs.Accounts.{Account}
+use Rattle.gate_account.specs.Aligning.{IsInStepWhere}
+use Rattle.gate_account.specs.Aligning as aligning
+use Rattle.gate_account.specs.Taking.{IsTaking, IsAtSnapshot}
 
 -- ---- a task that takes
 
@@ -51,37 +37,18 @@ pub record IsSame (t t' : Taking) : Type 0 where
   pub index : t'.index ≡ t.index
   pub channels : t'.channels ≡ t.channels
 
--- Whether channel c has given the barrier of the checkpoint after those closed.
-abbrev pub gave_at : Taking → ℕ → Bool
-gave_at t c = slice_index_or t.alignment.gave c false
-
 -- ---- the gate and the alignment
 
--- The alignment counts the barriers that the gate gave of each channel.
-pub record AreCounted (gate : Account) (t : Taking) : Type 0 where
-  pub channels : gate.channels ≡ t.channels
-  pub width : length t.alignment.gave ≡ t.channels
-  pub stops : (c : ℕ) → c < t.channels → stops_in (gate.told c) ≡ given_by t.alignment c
-  pub barriers : (c : ℕ) → c < t.channels → length (gate.barriers c) ≡ given_by t.alignment c
-
--- The task takes on: each channel was resumed behind each barrier of a closed checkpoint, and behind none of an open one.
+-- The task takes on: its alignment counts the barriers that the gate gave, and those channels wait that gave the one of an open checkpoint.
 pub record IsInStep (gate : Account) (t : Taking) : Type 0 where
-  pub counted : AreCounted gate t
-  pub resumed : (c : ℕ) → c < t.channels → gate.resumed c ≡ t.alignment.closed
+  pub channels : gate.channels ≡ t.channels
+  pub step : aligning.IsInStep gate t.alignment
 
 -- The task is at a checkpoint: all channels wait behind its barrier, and none is open.
 pub record AllBlocked (gate : Account) (t : Taking) : Type 0 where
-  pub counted : AreCounted gate t
+  pub channels : gate.channels ≡ t.channels
+  pub step : IsInStepWhere gate t.alignment (λ c. true)
   pub aligned : is_open t.alignment ≡ false
-  pub resumed : (c : ℕ) → c < t.channels → suc (gate.resumed c) ≡ t.alignment.closed
-
--- Each channel of the gate was resumed once.
-pub record ResumedAll (before after : Account) : Type 0 where
-  pub told : (c : ℕ) → after.told c ≡ before.told c
-  pub barriers : (c : ℕ) → after.barriers c ≡ before.barriers c
-  pub resumed : (c : ℕ) → c < before.channels → after.resumed c ≡ suc (before.resumed c)
-  pub ended : (c : ℕ) → after.ended c ≡ before.ended c
-  pub left : (c : ℕ) → after.left c ≡ before.left c
 
 -- ---- what a task took
 
@@ -97,21 +64,26 @@ pub record TakesFor (job : Job) (e b : ℕ) (gate : Account) (t : Taking) : Type
   pub exchange_is : t.exchange ≡ exchange job e
   pub index_is : t.index ≡ b
   pub channels : gate.channels ≡ ways_into job e
-  pub width : length t.alignment.gave ≡ gate.channels
+
+-- A gate that shows these cuts gave of each channel what the task took of it: these groups of records, each ended by a barrier, and then
+-- these records. Some channels may wait behind the next barrier.
+abbrev pub Gave : Job → ℕ → ℕ → Account → (ℕ → Cut → Type 0) → List (List (ℕ × List ℕ)) → List (ℕ × List ℕ) → Type 0
+Gave job e b gate shows groups rest = (c : ℕ) → c < ways_into job e → (waits : Bool) × TakenOn (shows c) (gate.lines c) (start_of job e b c) groups rest waits
 
 -- The task has taken these groups of records, with a barrier of each channel behind each group, and then these records. Some channels
 -- may have given the next barrier, and wait behind it.
-pub record HasTaken (job : Job) (e b : ℕ) (gate : Account) (t : Taking) (groups : List (List (ℕ × List ℕ))) (took : List (ℕ × List ℕ)) : Type 0 where
+pub record HasTaken (job : Job) (e b : ℕ) (gate : Account) (shows : ℕ → Cut → Type 0) (t : Taking) (groups : List (List (ℕ × List ℕ))) (took : List (ℕ × List ℕ)) : Type 0 where
   pub takes_for : TakesFor job e b gate t
-  pub closed : t.alignment.closed ≡ length groups
-  pub each : (c : ℕ) → c < ways_into job e → gate.told c ≡ told_of (start_of job e b c) 1 groups took ++ stop_if (gave_at t c) (suc (length groups))
-  pub resumed : (c : ℕ) → c < ways_into job e → gate.resumed c ≡ length groups
+  pub taking : IsTaking gate shows (start_of job e b) t.alignment groups took
   pub takes : RunsTake job e b t.runs took
 
 -- Behind these records all channels have given the barrier of the next checkpoint, and wait behind it.
-pub record IsAtBarrier (job : Job) (e b : ℕ) (gate : Account) (t : Taking) (groups : List (List (ℕ × List ℕ))) (took : List (ℕ × List ℕ)) : Type 0 where
+pub record IsAtBarrier (job : Job) (e b : ℕ) (gate : Account) (shows : ℕ → Cut → Type 0) (t : Taking) (groups : List (List (ℕ × List ℕ))) (took : List (ℕ × List ℕ)) : Type 0 where
   pub takes_for : TakesFor job e b gate t
-  pub closed : t.alignment.closed ≡ suc (length groups)
-  pub each : (c : ℕ) → c < ways_into job e → gate.told c ≡ told_of (start_of job e b c) 1 (groups ++ took ∷ []) []
-  pub resumed : (c : ℕ) → c < ways_into job e → gate.resumed c ≡ length groups
+  pub at : IsAtSnapshot gate shows (start_of job e b) t.alignment (groups ++ took ∷ [])
+  pub takes : RunsTake job e b t.runs took
+
+-- So much it had taken when its gate gave nothing more that it takes.
+pub record HadTaken (job : Job) (e b : ℕ) (gate : Account) (shows : ℕ → Cut → Type 0) (t : Taking) (groups : List (List (ℕ × List ℕ))) (took : List (ℕ × List ℕ)) : Type 0 where
+  pub given : Gave job e b gate shows groups took
   pub takes : RunsTake job e b t.runs took

@@ -6,7 +6,6 @@
 //! was taken is told beside the account of the gate, group by group.
 #![tactic(auto)]
 
-pub mod laws;
 mod places;
 mod resuming;
 mod runs;

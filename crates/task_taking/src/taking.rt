@@ -5,8 +5,6 @@ ghost use Rattle.std.specs.Prelude.{◌≡◌, ◌++◌, [], ◌∷◌, ◌<◌,
 ghost use Rattle.flow_defs.specs.declared.job.Job.{Job};
 ghost use Rattle.flow_defs.specs.Jobs.{IsJob, last_edge, tasks};
 ghost use Rattle.checkpoint_laws.specs.Chapters.{RunsTake};
-ghost use Rattle.record_writer.specs.Writers.{ways_into};
-ghost use Rattle.input_gate.specs.Gates.{Account, IsNew};
 ghost use Rattle.task_taking.specs.Takings.{AllBlocked, HasTaken, IsAtBarrier, IsInStep, IsSame, untaken};
 ghost use Rattle.task_taking.specs.Steps.{TakingGoesOn, GoesOnFrom, TookItem, TookNext, cause_of};
 
@@ -62,7 +60,6 @@ impl TaskTaking {
         requires is_job { IsJob job.now }
         requires task { (edge ≤ last_edge job.now) × (index < tasks job.now (suc edge)) }
         ensures is { IfOk result (λ taking. taking ≡ untaken job.now edge index) }
-        ensures none { IfOk result (λ taking. (gate : Account) → IsNew gate → gate.channels ≡ ways_into job.now edge → HasTaken job.now edge index gate taking [] [] × IsInStep gate taking) }
     {
         let channels = ways_of(job, edge);
         let aligner = Aligner::new(alloc, channels)?;
@@ -84,8 +81,8 @@ impl TaskTaking {
         ensures gate { (G.ends gate.new ≡ G.ends gate.old) × ((G.account gate.new).channels ≡ (G.account gate.old).channels) }
         ensures same { IsSame self.old self.new }
         ensures goes_on { TakingGoesOn (G.account gate.new) self.old self.new result }
-        ensures took { (job : Job) (e b : ℕ) (groups : List (List (ℕ × List ℕ))) (took : List (ℕ × List ℕ)) → HasTaken job e b (G.account gate.old) self.old groups took →
-            TookNext job e b (G.account gate.new) self.new groups took result }
+        ensures took { (job : Job) (e b : ℕ) (groups : List (List (ℕ × List ℕ))) (took : List (ℕ × List ℕ)) → HasTaken job e b (G.account gate.old) (G.shows gate.old) self.old groups took →
+            TookNext job e b (G.account gate.new) (G.shows gate.new) self.new groups took result }
         ensures stopped { result ≡ Err Cause.Stopped → G.saw_stop gate.new }
     {
         for _item in rt.forever() {
@@ -104,8 +101,8 @@ impl TaskTaking {
         ensures gate { (G.ends gate.new ≡ G.ends gate.old) × ((G.account gate.new).channels ≡ (G.account gate.old).channels) }
         ensures same { IsSame self.old self.new }
         ensures goes_on { GoesOnFrom (G.account gate.new) self.old self.new result }
-        ensures took { (job : Job) (e b : ℕ) (groups : List (List (ℕ × List ℕ))) (took : List (ℕ × List ℕ)) → HasTaken job e b (G.account gate.old) self.old groups took →
-            TookItem job e b (G.account gate.new) self.new groups took result }
+        ensures took { (job : Job) (e b : ℕ) (groups : List (List (ℕ × List ℕ))) (took : List (ℕ × List ℕ)) → HasTaken job e b (G.account gate.old) (G.shows gate.old) self.old groups took →
+            TookItem job e b (G.account gate.new) (G.shows gate.new) self.new groups took result }
         ensures stopped { result ≡ Err Cause.Stopped → G.saw_stop gate.new }
     {
         chapters_grow();
@@ -144,8 +141,8 @@ impl TaskTaking {
         ensures same { IsSame self.old self.new × (self.new.alignment ≡ self.old.alignment) }
         ensures runs { (result.items ≡ self.old.runs) × (self.new.runs ≡ []) }
         ensures goes_on { IsInStep (G.account gate.new) self.new }
-        ensures taken { (job : Job) (e b : ℕ) (groups : List (List (ℕ × List ℕ))) (took : List (ℕ × List ℕ)) → IsAtBarrier job e b (G.account gate.old) self.old groups took →
-            RunsTake job e b result.items took × HasTaken job e b (G.account gate.new) self.new (groups ++ took ∷ []) [] }
+        ensures taken { (job : Job) (e b : ℕ) (groups : List (List (ℕ × List ℕ))) (took : List (ℕ × List ℕ)) → IsAtBarrier job e b (G.account gate.old) (G.shows gate.old) self.old groups took →
+            RunsTake job e b result.items took × HasTaken job e b (G.account gate.new) (G.shows gate.new) self.new (groups ++ took ∷ []) [] }
     {
         chapters_grow();
         resume_each(rt, gate, self.channels);

@@ -1,5 +1,5 @@
 -- What the tests need of two channels, and of a channel that is stopped.
-use Rattle.std.proofs.Common.{◌≡◌, ◌≢◌, ℕ, zero, suc, ◌+◌, ◌<◌, Bool, true, List, [], ◌∷◌, ◌++◌, length, Some, Result, Ok, Err, refl, sym, ap, subst, ◌∙◌, arith}
+use Rattle.std.proofs.Common.{◌≡◌, ℕ, zero, suc, Bool, true, List, [], ◌∷◌, ◌++◌, length, Some, Result, Ok, Err, refl, sym, ap, subst, ◌∙◌, arith}
 use Rattle.std.specs.Prelude.{slice_get, All}
 use Rattle.turn_cell.specs.History.{entries_of}
 use Rattle.input_channel.specs.declared.entry.ReceiveEntry.{ReceiveEntry}
@@ -17,10 +17,12 @@ use Rattle.flow_defs.specs.declared.task.BarrierKind.TheVariants.{Inline, Front}
 use Rattle.input_gate.specs.declared.gate.GateItem.{GateItem}
 use Rattle.input_gate.specs.declared.gate.GateItem.TheVariants as items
 use Rattle.input_gate.specs.declared.gate.GateEnd.{GateEnd}
-use Rattle.input_gate.specs.Gates.{Told, Stop, Account, Gave, GaveOf, stops_in}
+use Rattle.channel_cut.specs.Cuts.{Cut}
+use Rattle.gate_account.specs.Accounts.{Account, GaveOf, IsBlocked, inlines}
+use Rattle.gate_account.proofs.InStep.{append_inlines}
+use Rattle.input_gate.specs.Gates.{Gave}
 use Rattle.input_gate.specs.Turning.{InputCell, InputPass}
 use Rattle.input_gate.specs.Making.{AreTwo}
-use Rattle.input_gate.proofs.Growing.{stops_in-append}
 
 each_two : (cells : List InputCell) (passes : List InputPass) → AreTwo cells passes → (k : ℕ) (cell : InputCell) (pass : InputPass) → slice_get cells k ≡ Some cell → slice_get passes k ≡ Some pass → IsPassOf cell pass
 each_two (c ∷ d ∷ []) (p ∷ q ∷ []) h zero cell pass e f = subst (λ c. IsPassOf c pass) (same_Some c cell e) (subst (IsPassOf c) (same_Some p pass f) h.0.of_cell)
@@ -48,28 +50,25 @@ length_two cells passes h = absurd h
 
 -- ---- a channel that is stopped
 
-Stopped : Account → ℕ → Type 0
-Stopped gate c = stops_in (gate.told c) ≡ suc (gate.resumed c)
-
-pub stopped_after : (g h : Account) (hold : Bool) (c k : ℕ) → Gave g h hold (Ok (items.Barrier c k Inline)) → stops_in (h.told c) ≡ suc (h.resumed c)
-stopped_after g h hold c k gave =
+pub stopped_after : (g h : Account) (shows : ℕ → Cut → Type 0) (hold : Bool) (c k : ℕ) → Gave g h shows hold (Ok (items.Barrier c k Inline)) → IsBlocked h c
+stopped_after g h shows hold c k gave =
     let of = gave.1 in
-    let a = ap stops_in of.told_here ∙ stops_in-append (g.told c) (Stop k ∷ []) in
+    let a = ap inlines of.barriers_here ∙ append_inlines (g.barriers c) ((k, Inline) ∷ []) in
     let b = of.was_free in
     let r = of.resumed c in
     omega (arith, a, b, r)
 
-of_other : (g h : Account) (c d : ℕ) (told : List Told) (barriers : List (ℕ × BarrierKind)) → stops_in (g.told c) ≡ suc (g.resumed c) → GaveOf g h d told barriers → stops_in (h.told c) ≡ suc (h.resumed c)
-of_other g h c d told barriers stopped of = dite (ℕ_discrete c d)
-    (λ is. absurd (let f = ap (λ e. stops_in (g.told e)) is ∙ of.was_free ∙ ap g.resumed (sym is) in omega (arith, f, stopped)))
-    (λ ne. ap stops_in (of.told_elsewhere c ne) ∙ stopped ∙ ap suc (sym (of.resumed c)))
+of_other : (g h : Account) (c d : ℕ) (lines : List (List ℕ)) (barriers : List (ℕ × BarrierKind)) → IsBlocked g c → GaveOf g h d lines barriers → IsBlocked h c
+of_other g h c d lines barriers stopped of = dite (ℕ_discrete c d)
+    (λ is. absurd (let f = ap (λ e. inlines (g.barriers e)) is ∙ of.was_free ∙ ap g.resumed (sym is) in omega (arith, f, stopped)))
+    (λ ne. ap inlines (of.barriers_elsewhere c ne) ∙ stopped ∙ ap suc (sym (of.resumed c)))
 
-pub stopped_still : (g h : Account) (hold : Bool) (c : ℕ) (result : Result GateItem GateEnd) → stops_in (g.told c) ≡ suc (g.resumed c) → Gave g h hold result → stops_in (h.told c) ≡ suc (h.resumed c)
-stopped_still g h hold c (Ok (items.Line d line)) stopped gave = of_other g h c d _ _ stopped gave.1
-stopped_still g h hold c (Ok (items.Barrier d k Inline)) stopped gave = of_other g h c d _ _ stopped gave.1
-stopped_still g h hold c (Ok (items.Barrier d k Front)) stopped gave = of_other g h c d _ _ stopped gave.1
-stopped_still g h hold c (Ok items.AllEnded) stopped gave = ap stops_in (gave.0.told c) ∙ stopped ∙ ap suc (sym (gave.0.resumed c))
-stopped_still g h hold c (Err end) stopped gave = ap stops_in (gave.0.told c) ∙ stopped ∙ ap suc (sym (gave.0.resumed c))
+pub stopped_still : (g h : Account) (shows : ℕ → Cut → Type 0) (hold : Bool) (c : ℕ) (result : Result GateItem GateEnd) → IsBlocked g c → Gave g h shows hold result → IsBlocked h c
+stopped_still g h shows hold c (Ok (items.Line d line)) stopped gave = of_other g h c d _ _ stopped gave.1
+stopped_still g h shows hold c (Ok (items.Barrier d k Inline)) stopped gave = of_other g h c d _ _ stopped gave.1
+stopped_still g h shows hold c (Ok (items.Barrier d k Front)) stopped gave = of_other g h c d _ _ stopped gave.1
+stopped_still g h shows hold c (Ok items.AllEnded) stopped gave = ap inlines (gave.0.barriers c) ∙ stopped ∙ ap suc (sym (gave.0.resumed c))
+stopped_still g h shows hold c (Err end) stopped gave = ap inlines (gave.0.barriers c) ∙ stopped ∙ ap suc (sym (gave.0.resumed c))
 
 -- The channel after a call of the reader of frames.
 pub stands_after : (legal : CallsAreLegal) (adds : CallsAddEntries) (found old new : ChannelState) (history : List (ℕ × ReceiveEntry)) (n k : ℕ) (e : ReceiveEntry) →
@@ -79,6 +78,6 @@ stands_after legal adds found old new history n k e stands is number_is may allo
     subst (λ m. ChannelStandsFor new (history ++ (m, e) ∷ [])) (sym number_is)
     (subst (λ c. ChannelStandsFor c (history ++ (k, e) ∷ [])) (sym made) (adds old history k e s (may, legal old history e s allows)))
 
-pub stopped_by : (g h : Account) (hold : Bool) (item : GateItem) (c k : ℕ) (kind : BarrierKind) → item ≡ items.Barrier c k kind → kind ≡ Inline → Gave g h hold (Ok item) → stops_in (h.told c) ≡ suc (h.resumed c)
-stopped_by g h hold item c k kind is inline gave =
-    stopped_after g h hold c k (subst (λ kind. Gave g h hold (Ok (items.Barrier c k kind))) inline (subst (λ item. Gave g h hold (Ok item)) is gave))
+pub stopped_by : (g h : Account) (shows : ℕ → Cut → Type 0) (hold : Bool) (item : GateItem) (c k : ℕ) (kind : BarrierKind) → item ≡ items.Barrier c k kind → kind ≡ Inline → Gave g h shows hold (Ok item) → IsBlocked h c
+stopped_by g h shows hold item c k kind is inline gave =
+    stopped_after g h shows hold c k (subst (λ kind. Gave g h shows hold (Ok (items.Barrier c k kind))) inline (subst (λ item. Gave g h shows hold (Ok item)) is gave))

@@ -8,7 +8,7 @@ ghost use Rattle.input_channel.specs.declared.entry.ReceiveEntry.TheVariants as 
 ghost use Rattle.input_channel.specs.Answers.{parcel_in};
 ghost use Rattle.input_channel.specs.States.{ChannelStandsFor};
 ghost use Rattle.outside.specs.Stops.{is_fault};
-ghost use Rattle.input_gate.specs.Gates.{stops_in};
+ghost use Rattle.gate_account.specs.Accounts.{IsBlocked};
 ghost use Rattle.input_gate.specs.States.{account_in};
 ghost use Rattle.input_gate.specs.Making.{AreTwo, IsFirstPass};
 ghost use Rattle.input_gate.specs.Turning.{InputCell};
@@ -420,9 +420,9 @@ fn next_while_stopped<R: Wait>(
     channel: u32,
 ) -> Result<GateItem, GateEnd>
     requires within { channel < (account_in gate.old).channels }
-    requires stopped { stops_in ((account_in gate.old).told channel) ≡ suc ((account_in gate.old).resumed channel) }
+    requires stopped { IsBlocked (account_in gate.old) channel }
     ensures within { channel < (account_in gate.new).channels }
-    ensures stopped { stops_in ((account_in gate.new).told channel) ≡ suc ((account_in gate.new).resumed channel) }
+    ensures stopped { IsBlocked (account_in gate.new) channel }
 {
     // Only the clauses speak of it.
     let _channel = channel;

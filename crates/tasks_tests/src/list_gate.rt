@@ -1,7 +1,7 @@
 // A gate of the tests, that gives the items of a list.
 ghost use Rattle.std.specs.Prelude.{◌≡◌, ◌-◌, ◌<◌, ◌≤◌, ◌++◌, true, false, [], ◌∷◌, IfOk};
-ghost use Rattle.input_gate.specs.Gates.{stops_in};
-ghost use Rattle.task_taking.specs.Samples.{account_of, resumed_by, told_by};
+ghost use Rattle.gate_account.specs.Accounts.{inlines};
+ghost use Rattle.task_taking.specs.Samples.{account_of, barriers_by, resumed_by};
 
 use flow_defs::{BarrierKind, Bytes, ListOf, RECORD_MAX};
 use input_gate::{Gate, GateEnd, GateItem};
@@ -27,6 +27,8 @@ impl Gate for ListGate {
     ghost ends = { λ _. 0 };
 
     ghost account = { λ s. account_of s.given.items s.first s.second s.over };
+
+    ghost shows = { λ _ _ _. Unit {0} };
 
     ghost saw_stop = { λ _. Unit {0} };
 
@@ -101,7 +103,7 @@ impl Gate for ListGate {
 
 // How many barriers of a channel are among these.
 fn stops(given: &[GateItem], channel: u32) -> u64
-    ensures { result ≡ stops_in (told_by given.now channel) }
+    ensures { result ≡ inlines (barriers_by given.now channel) }
 {
     let mut count = 0;
     for item in given {
@@ -112,7 +114,7 @@ fn stops(given: &[GateItem], channel: u32) -> u64
 
 // 1 for a barrier of the channel, and 0 for any other item.
 fn weight(item: &GateItem, channel: u32) -> u64
-    ensures is { result ≡ stops_in (told_by (item.now ∷ []) channel) }
+    ensures is { result ≡ inlines (barriers_by (item.now ∷ []) channel) }
     ensures small { result ≤ 1 }
 {
     match item {
@@ -124,7 +126,7 @@ fn weight(item: &GateItem, channel: u32) -> u64
 
 // Whether a channel may give something.
 fn is_free(given: &[GateItem], first: u64, second: u64, channel: u32) -> bool
-    ensures { result ≡ true → (channel < 2) × (stops_in (told_by given.now channel) ≡ resumed_by first second channel) }
+    ensures { result ≡ true → (channel < 2) × (inlines (barriers_by given.now channel) ≡ resumed_by first second channel) }
 {
     if channel == 0 {
         return stops(given, channel) == first;
@@ -138,7 +140,7 @@ fn is_free(given: &[GateItem], first: u64, second: u64, channel: u32) -> bool
 // Whether a channel's barrier of this number is held back, as the other channel has given fewer.
 fn is_held(given: &[GateItem], channel: u32, k: u64, hold: bool) -> bool
     requires { channel < 2 }
-    ensures { result ≡ false → hold ≡ true → k ≤ stops_in (told_by given.now (1 - channel)) }
+    ensures { result ≡ false → hold ≡ true → k ≤ inlines (barriers_by given.now (1 - channel)) }
 {
     hold && k > stops(given, 1 - channel)
 }

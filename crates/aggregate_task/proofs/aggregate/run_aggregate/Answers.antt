@@ -25,11 +25,14 @@ returns-clause-account g c =
     let out : AggregateOutput = record { job = c.args.job; index = c.args.index; every = c.args.every; acks = c.args.world.acks; stop = c.new-look.result } in
     let out' = c.take_all-cause.new.out in
     let end = c.end_task.result in
-    let gate = g.G.Gate.account end.gate in
-    account_ended c.args.job.now c.args.index c.args.start.now c.args.every gate (sent_by end.passes.snapshots) (seen end.passes.last_image) end.takes.items c.take_all-cause.result.cause end.cause c.end_task.ensures.cause
-    (subst (λ (start : Start). AggregateAccount c.args.job.now c.args.index start c.args.every gate (sent_by end.passes.snapshots) (seen end.passes.last_image) end.takes.items c.take_all-cause.result.cause) (ap (λ (o : Opening). o.start) c.requires.lent.opening)
-    (account_of_same out out' (g.G.Gate.account c.take_all-cause.new.gate) gate (sent_by end.passes.snapshots) (seen end.passes.last_image) end.takes.items c.take_all-cause.result c.take_all-cause.ensures.own.1
-    (ap g.G.Gate.account c.end_task.ensures.gate) (ap sent_by c.end_task.ensures.passes.0) (ap seen c.end_task.ensures.passes.1) (ap (λ (l : Items TakeRun). l.items) c.end_task.ensures.takes) c.take_all-cause.ensures.account))
+    let sent = sent_by end.passes.snapshots in
+    let history = seen end.passes.last_image in
+    let cause = c.take_all-cause.result.cause in
+    account_ended c.args.job.now c.args.index c.args.start.now c.args.every (g.G.Gate.account end.gate) (g.G.Gate.shows end.gate) sent history end.takes.items cause end.cause c.end_task.ensures.cause
+    (subst (λ x. AggregateAccount c.args.job.now c.args.index c.args.start.now c.args.every (g.G.Gate.account x) (g.G.Gate.shows x) sent history end.takes.items cause) (sym c.end_task.ensures.gate)
+    (subst (λ (start : Start). AggregateAccount c.args.job.now c.args.index start c.args.every (g.G.Gate.account c.take_all-cause.new.gate) (g.G.Gate.shows c.take_all-cause.new.gate) sent history end.takes.items cause) (ap (λ (o : Opening). o.start) c.requires.lent.opening)
+    (account_of_same out out' (g.G.Gate.account c.take_all-cause.new.gate) (g.G.Gate.shows c.take_all-cause.new.gate) sent history end.takes.items c.take_all-cause.result c.take_all-cause.ensures.own.1
+    (ap sent_by c.end_task.ensures.passes.0) (ap seen c.end_task.ensures.passes.1) (ap (λ (l : Items TakeRun). l.items) c.end_task.ensures.takes) c.take_all-cause.ensures.account)))
 
 pub returns-clause-stop : goal.returns-clause-stop
 returns-clause-stop g c =

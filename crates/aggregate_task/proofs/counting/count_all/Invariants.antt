@@ -8,5 +8,5 @@ invariant-loop-item g l = record {
   gate : (g.G.Gate.ends l.gate ≡ g.G.Gate.ends l.initial.gate) × ((g.G.Gate.account l.gate).channels ≡ (g.G.Gate.account l.initial.gate).channels);
   own : IsAcking l.out;
   same : IsSame l.initial.out l.out;
-  way : IsCountUnderWay (g.G.Gate.account l.gate) l.taking l.counts l.out l.last;
+  way : IsCountUnderWay (g.G.Gate.account l.gate) (g.G.Gate.shows l.gate) l.taking l.counts l.out l.last;
 }

@@ -1,6 +1,6 @@
 use Rattle.std.proofs.Common.{rules, ◌∙◌, subst, refl, arith, Ok}
 use Rattle.input_gate.specs.Channels.{account_of, Took}
-use Rattle.input_gate.proofs.RoundLaws.{quiet_length, quiet_on, quiet_cells, up_then, gave_on, most_on, same_of, nothing_of}
+use Rattle.input_gate.proofs.RoundLaws.{quiet_later, later_on, quiet_length, quiet_on, quiet_cells, up_then, gave_on, most_on, same_of, nothing_of}
 use Rattle.input_gate.proofs.GateLaws.{looked_on}
 use Rattle.input_gate.proofs.SegmentLaws.{even_then}
 use Rattle.input_gate.proofs.cell_gate.next_of.Goals as goal
@@ -93,3 +93,18 @@ returns-then-is_stopped-clause-segments g c = even_then c.loop-round.invariant.s
 
 pub returns-in-Err-take-clause-segments : goal.returns-in-Err-take-clause-segments
 returns-in-Err-take-clause-segments g c = even_then c.loop-round.invariant.segments c.take.ensures.segments
+
+pub returns-in-Err-clause-later : goal.returns-in-Err-clause-later
+returns-in-Err-clause-later g c = quiet_later c.args.lanes.now.items c.refill_unread.new.lanes.items c.refill_unread.ensures.quiet
+
+pub returns-in-Ok-Item-clause-later : goal.returns-in-Ok-Item-clause-later
+returns-in-Ok-Item-clause-later g c = later_on c.args.lanes.now.items c.loop-round.lanes.items c.take.new.lanes.items (quiet_later c.args.lanes.now.items c.loop-round.lanes.items c.loop-round.invariant.quiet) c.take.ensures.later
+
+pub returns-then-all_over-clause-later : goal.returns-then-all_over-clause-later
+returns-then-all_over-clause-later g c = later_on c.args.lanes.now.items c.loop-round.lanes.items c.take.new.lanes.items (quiet_later c.args.lanes.now.items c.loop-round.lanes.items c.loop-round.invariant.quiet) c.take.ensures.later
+
+pub returns-then-is_stopped-clause-later : goal.returns-then-is_stopped-clause-later
+returns-then-is_stopped-clause-later g c = later_on c.args.lanes.now.items c.loop-round.lanes.items c.take.new.lanes.items (quiet_later c.args.lanes.now.items c.loop-round.lanes.items c.loop-round.invariant.quiet) c.take.ensures.later
+
+pub returns-in-Err-take-clause-later : goal.returns-in-Err-take-clause-later
+returns-in-Err-take-clause-later g c = later_on c.args.lanes.now.items c.loop-round.lanes.items c.take.new.lanes.items (quiet_later c.args.lanes.now.items c.loop-round.lanes.items c.loop-round.invariant.quiet) c.take.ensures.later

@@ -48,12 +48,12 @@ returns-in-End-clause-came g c =
 pub returns-in-Barrier-default-Inline-clause-lane : goal.returns-in-Barrier-default-Inline-clause-lane
 returns-in-Barrier-default-Inline-clause-lane g c size h =
     let e = c.in-Barrier-default-Inline.ensures in
-    lane_inline size c.args.lane.now c.poll_in_turn.new.pass c.args.hold h c.requires.empty.0 e.pass e.later e.entered c.in-Barrier-default-Inline.k (e.given ∙ ap (λ kind. polled c.args.lane.now ++ parcels.Barrier c.in-Barrier-default-Inline.k kind ∷ []) c.in-Barrier-default-Inline.kind-is) e.fits.0 c.requires.free c.requires.empty.1 (ap Rattle.flow_defs.specs.Records.first_record (sym c.rest.ensures) ∙ c.rest_len-len.ensures.none) c.requires.no_record
+    lane_inline size c.args.lane.now c.poll_in_turn.new.pass c.args.hold h c.requires.empty.0 e.pass e.later e.entered c.in-Barrier-default-Inline.k (e.given ∙ ap (λ kind. polled c.args.lane.now ++ parcels.Barrier c.in-Barrier-default-Inline.k kind ∷ []) c.in-Barrier-default-Inline.kind-is) e.fits.0 c.requires.free c.requires.empty.1 (ap Rattle.flow_defs.specs.Records.first_record (sym c.rest.ensures) ∙ c.rest_len-len.ensures.none)
 
 pub returns-in-Barrier-default-Inline-clause-came : goal.returns-in-Barrier-default-Inline-clause-came
 returns-in-Barrier-default-Inline-clause-came g c =
     let e = c.in-Barrier-default-Inline.ensures in
-    gives_inline c.requires.lane.0 c.args.lane.now c.poll_in_turn.new.pass c.args.hold c.requires.lane.1 c.requires.empty.0 e.pass e.later e.entered c.in-Barrier-default-Inline.k (e.given ∙ ap (λ kind. polled c.args.lane.now ++ parcels.Barrier c.in-Barrier-default-Inline.k kind ∷ []) c.in-Barrier-default-Inline.kind-is) e.fits.0 c.requires.free c.requires.empty.1 (ap Rattle.flow_defs.specs.Records.first_record (sym c.rest.ensures) ∙ c.rest_len-len.ensures.none) c.requires.no_record c.args.hold e.fits.1
+    gives_inline c.requires.lane.0 c.args.lane.now c.poll_in_turn.new.pass c.args.hold c.requires.lane.1 c.requires.empty.0 e.pass e.later e.entered c.in-Barrier-default-Inline.k (e.given ∙ ap (λ kind. polled c.args.lane.now ++ parcels.Barrier c.in-Barrier-default-Inline.k kind ∷ []) c.in-Barrier-default-Inline.kind-is) e.fits.0 c.requires.free c.requires.empty.1 (ap Rattle.flow_defs.specs.Records.first_record (sym c.rest.ensures) ∙ c.rest_len-len.ensures.none) c.lanes_are_cut.ensures.poll e.ends c.args.hold e.fits.1
 
 pub returns-in-Barrier-default-Front-clause-lane : goal.returns-in-Barrier-default-Front-clause-lane
 returns-in-Barrier-default-Front-clause-lane g c size h =

@@ -1,5 +1,5 @@
 use Rattle.std.proofs.Common.{arith}
-use Rattle.input_gate.proofs.Growing.{none_of_few, none_of_cut, begins_too_long, begins_with}
+use Rattle.input_gate.proofs.Reading.{none_of_few, none_of_cut, begins_too_long, begins_with}
 use Rattle.input_gate.proofs.rest.rest_len.Goals as goal
 
 pub unreachable-requires : goal.unreachable-requires

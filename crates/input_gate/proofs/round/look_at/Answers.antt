@@ -1,7 +1,7 @@
 use Rattle.std.proofs.Common.{◌<◌, ◌∙◌, sym, ap, subst, false, true≢false}
 use Rattle.input_gate.specs.Turning.{looks_of}
 use Rattle.input_gate.specs.declared.lane.Lane.{Lane}
-use Rattle.input_gate.proofs.RoundLaws.{quiet_all, cells_set, at_get, at_there, no_spare_set, no_spare_at, same_lane, not_free, may_not, look_given, look_cell, look_looked}
+use Rattle.input_gate.proofs.RoundLaws.{later_all, later_set, look_later, quiet_all, cells_set, at_get, at_there, no_spare_set, no_spare_at, same_lane, not_free, may_not, look_given, look_cell, look_looked}
 use Rattle.input_gate.proofs.SegmentLaws.{untouched_all, untouched_set}
 use Rattle.input_gate.proofs.round.look_at.Goals as goal
 
@@ -60,3 +60,15 @@ returns-then-is_held-clause-segments g c = untouched_all c.args.lanes.now.items
 
 pub returns-clause-segments : goal.returns-clause-segments
 returns-clause-segments g c = untouched_set c.args.lanes.now.items c.args.at _ c.index_mut.result.now c.look.new.lane c.index_mut.ensures.value c.requires.within c.look.ensures.segments
+
+pub returns-then-lane-clause-later : goal.returns-then-lane-clause-later
+returns-then-lane-clause-later g c = later_all c.args.lanes.now.items
+
+pub returns-then-lane-2-clause-later : goal.returns-then-lane-2-clause-later
+returns-then-lane-2-clause-later g c = later_all c.args.lanes.now.items
+
+pub returns-then-is_held-clause-later : goal.returns-then-is_held-clause-later
+returns-then-is_held-clause-later g c = later_all c.args.lanes.now.items
+
+pub returns-clause-later : goal.returns-clause-later
+returns-clause-later g c = later_set c.args.lanes.now.items c.args.at _ c.index_mut.result.now c.look.new.lane c.index_mut.ensures.value c.requires.within (look_later c.index_mut.result.now c.look.new.lane c.look.result c.look.ensures.given)

@@ -1,5 +1,5 @@
 use Rattle.std.proofs.Common.{◌∙◌, refl}
-use Rattle.input_gate.proofs.RoundLaws.{cells_set, no_spare_set, no_spare_at, blocked_here, resumed_of}
+use Rattle.input_gate.proofs.RoundLaws.{later_set, cells_set, no_spare_set, no_spare_at, blocked_here, resumed_of}
 use Rattle.input_gate.proofs.SegmentLaws.{untouched_set}
 use Rattle.input_gate.proofs.round.resume_at.Goals as goal
 
@@ -17,3 +17,6 @@ returns-clause-spare g c none = no_spare_set c.args.lanes.now.items c.args.at c.
 
 pub returns-clause-segments : goal.returns-clause-segments
 returns-clause-segments g c = untouched_set c.args.lanes.now.items c.args.at _ c.index_mut.result.now c.go_on.new.lane c.index_mut.ensures.value c.requires.within c.go_on.ensures.segments
+
+pub returns-clause-later : goal.returns-clause-later
+returns-clause-later g c = later_set c.args.lanes.now.items c.args.at _ c.index_mut.result.now c.go_on.new.lane c.index_mut.ensures.value c.requires.within c.go_on.ensures.resumed.later

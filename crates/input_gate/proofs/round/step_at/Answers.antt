@@ -1,6 +1,6 @@
 use Rattle.std.proofs.Common.{◌<◌, ◌∙◌, ap, subst}
 use Rattle.input_gate.specs.declared.lane.Lane.{Lane}
-use Rattle.input_gate.proofs.RoundLaws.{quiet_all, cells_set, no_spare_at, same_lane, came_at, spare_given, came_cell}
+use Rattle.input_gate.proofs.RoundLaws.{later_all, later_set, came_later, quiet_all, cells_set, no_spare_at, same_lane, came_at, spare_given, came_cell}
 use Rattle.input_gate.proofs.SegmentLaws.{even_refl, even_set}
 use Rattle.input_gate.proofs.round.step_at.Goals as goal
 
@@ -28,3 +28,9 @@ returns-then-index-clause-segments g c = even_refl _ _ _
 
 pub returns-clause-segments : goal.returns-clause-segments
 returns-clause-segments g c = even_set c.args.lanes.now.items c.args.at _ c.index_mut.result.now c.step.new.lane c.index_mut.ensures.value c.requires.within c.step.ensures.segments
+
+pub returns-then-index-clause-later : goal.returns-then-index-clause-later
+returns-then-index-clause-later g c = later_all c.args.lanes.now.items
+
+pub returns-clause-later : goal.returns-clause-later
+returns-clause-later g c = later_set c.args.lanes.now.items c.args.at _ c.index_mut.result.now c.step.new.lane c.index_mut.ensures.value c.requires.within (came_later c.is_held-held.result c.index_mut.result.now c.step.new.lane c.step.result c.step.ensures.came)

@@ -1,7 +1,7 @@
 use Rattle.std.proofs.Common.{rules, ◌<◌, ◌≤◌, ◌∙◌, length, arith}
 use Rattle.flow_defs.specs.declared.task.BarrierKind.TheVariants.{Front}
 use Rattle.input_gate.specs.declared.gate.GateItem.TheVariants as items
-use Rattle.input_gate.proofs.RoundLaws.{quiet_all, quiet_length, quiet_on, quiet_cells, gave_on, most_on, looked_more}
+use Rattle.input_gate.proofs.RoundLaws.{quiet_later, later_on, quiet_all, quiet_length, quiet_on, quiet_cells, gave_on, most_on, looked_more}
 use Rattle.input_gate.proofs.SegmentLaws.{untouched_all, untouched_then}
 use Rattle.input_gate.proofs.rounds.look_round.Goals as goal
 
@@ -49,3 +49,9 @@ returns-clause-cells g c = quiet_cells c.args.lanes.now.items c.loop-i.lanes.ite
 
 pub returns-in-Some-clause-segments : goal.returns-in-Some-clause-segments
 returns-in-Some-clause-segments g c = untouched_then c.args.lanes.now.items c.loop-i.lanes.items c.look_at.new.lanes.items c.loop-i.invariant.segments c.look_at.ensures.segments
+
+pub returns-in-Some-clause-later : goal.returns-in-Some-clause-later
+returns-in-Some-clause-later g c = later_on c.args.lanes.now.items c.loop-i.lanes.items c.look_at.new.lanes.items (quiet_later c.args.lanes.now.items c.loop-i.lanes.items c.loop-i.invariant.quiet) c.look_at.ensures.later
+
+pub returns-clause-later : goal.returns-clause-later
+returns-clause-later g c = quiet_later c.args.lanes.now.items c.loop-i.lanes.items c.loop-i.invariant.quiet

@@ -2,7 +2,7 @@ use Rattle.std.proofs.Common.{rules, ◌≡◌, ◌∙◌, length, sym, subst, r
 use Rattle.input_gate.specs.declared.gate.GateItem.TheVariants as items
 use Rattle.input_gate.specs.Gates.{Ended}
 use Rattle.input_gate.specs.Channels.{account_of, CameAt}
-use Rattle.input_gate.proofs.RoundLaws.{quiet_all, quiet_length, quiet_on, quiet_cells, up_of, gave_on, most_on}
+use Rattle.input_gate.proofs.RoundLaws.{quiet_later, later_on, quiet_all, quiet_length, quiet_on, quiet_cells, up_of, gave_on, most_on}
 use Rattle.input_gate.proofs.SegmentLaws.{even_refl, even_then}
 use Rattle.input_gate.proofs.rounds.poll_round.Goals as goal
 
@@ -59,3 +59,15 @@ returns-in-Ok-Barrier-clause-segments g c = even_then c.loop-turn.invariant.segm
 
 pub returns-in-Err-clause-segments : goal.returns-in-Err-clause-segments
 returns-in-Err-clause-segments g c = even_then c.loop-turn.invariant.segments c.step_at.ensures.segments
+
+pub returns-in-Ok-Found-clause-later : goal.returns-in-Ok-Found-clause-later
+returns-in-Ok-Found-clause-later g c = later_on c.args.lanes.now.items c.loop-turn.lanes.items c.step_at.new.lanes.items (quiet_later c.args.lanes.now.items c.loop-turn.lanes.items c.loop-turn.invariant.quiet) c.step_at.ensures.later
+
+pub returns-in-Ok-Barrier-clause-later : goal.returns-in-Ok-Barrier-clause-later
+returns-in-Ok-Barrier-clause-later g c = later_on c.args.lanes.now.items c.loop-turn.lanes.items c.step_at.new.lanes.items (quiet_later c.args.lanes.now.items c.loop-turn.lanes.items c.loop-turn.invariant.quiet) c.step_at.ensures.later
+
+pub returns-in-Err-clause-later : goal.returns-in-Err-clause-later
+returns-in-Err-clause-later g c = later_on c.args.lanes.now.items c.loop-turn.lanes.items c.step_at.new.lanes.items (quiet_later c.args.lanes.now.items c.loop-turn.lanes.items c.loop-turn.invariant.quiet) c.step_at.ensures.later
+
+pub returns-clause-later : goal.returns-clause-later
+returns-clause-later g c = quiet_later c.args.lanes.now.items c.loop-turn.lanes.items c.loop-turn.invariant.quiet

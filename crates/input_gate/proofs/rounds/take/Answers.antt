@@ -3,7 +3,7 @@ use Rattle.flow_defs.specs.declared.task.BarrierKind.TheVariants.{Front}
 use Rattle.input_gate.specs.declared.gate.GateItem.TheVariants as items
 use Rattle.input_gate.specs.Channels.{CameRound}
 use Rattle.input_gate.specs.Lanes.{lent_size}
-use Rattle.input_gate.proofs.RoundLaws.{quiet_length, quiet_on, quiet_cells, up_then, gave_on, most_on, looked_through}
+use Rattle.input_gate.proofs.RoundLaws.{quiet_later, later_on, later_same, quiet_length, quiet_on, quiet_cells, up_then, gave_on, most_on, looked_through}
 use Rattle.input_gate.proofs.SegmentLaws.{even_then, untouched_then, all_untouched}
 use Rattle.input_gate.proofs.rounds.take.Goals as goal
 
@@ -120,3 +120,27 @@ returns-in-Ok-Moved-clause-segments g c = even_then (all_untouched c.args.lanes.
 
 pub returns-in-Ok-Gave-clause-segments : goal.returns-in-Ok-Gave-clause-segments
 returns-in-Ok-Gave-clause-segments g c = even_then (all_untouched c.args.lanes.now.items c.find_line.new.lanes.items c.find_line.ensures.segments) c.poll_round.ensures.segments
+
+pub returns-in-Err-clause-later : goal.returns-in-Err-clause-later
+returns-in-Err-clause-later g c = quiet_later c.args.lanes.now.items c.find_line.new.lanes.items c.find_line.ensures.quiet
+
+pub returns-in-Some-clause-later : goal.returns-in-Some-clause-later
+returns-in-Some-clause-later g c = later_on c.args.lanes.now.items c.find_line.new.lanes.items c.look_round.new.lanes.items (quiet_later c.args.lanes.now.items c.find_line.new.lanes.items c.find_line.ensures.quiet) c.look_round.ensures.later
+
+pub returns-in_default-line_at-clause-later : goal.returns-in_default-line_at-clause-later
+returns-in_default-line_at-clause-later g c = later_on c.args.lanes.now.items c.look_round.new.lanes.items c.line_at.new.lanes.items (later_on c.args.lanes.now.items c.find_line.new.lanes.items c.look_round.new.lanes.items (quiet_later c.args.lanes.now.items c.find_line.new.lanes.items c.find_line.ensures.quiet) c.look_round.ensures.later) (later_same c.look_round.new.lanes.items c.line_at.new.lanes.items (λ d. (c.line_at.ensures.same d).0))
+
+pub returns-in-Some-line_at-clause-later : goal.returns-in-Some-line_at-clause-later
+returns-in-Some-line_at-clause-later g c = later_on c.args.lanes.now.items c.look_round.new.lanes.items c.line_at.new.lanes.items (later_on c.args.lanes.now.items c.find_line.new.lanes.items c.look_round.new.lanes.items (quiet_later c.args.lanes.now.items c.find_line.new.lanes.items c.find_line.ensures.quiet) c.look_round.ensures.later) (later_same c.look_round.new.lanes.items c.line_at.new.lanes.items (λ d. (c.line_at.ensures.same d).0))
+
+pub returns-in-Err-poll_round-clause-later : goal.returns-in-Err-poll_round-clause-later
+returns-in-Err-poll_round-clause-later g c = later_on c.args.lanes.now.items c.find_line.new.lanes.items c.poll_round.new.lanes.items (quiet_later c.args.lanes.now.items c.find_line.new.lanes.items c.find_line.ensures.quiet) c.poll_round.ensures.later
+
+pub returns-in-Ok-Idle-clause-later : goal.returns-in-Ok-Idle-clause-later
+returns-in-Ok-Idle-clause-later g c = later_on c.args.lanes.now.items c.find_line.new.lanes.items c.poll_round.new.lanes.items (quiet_later c.args.lanes.now.items c.find_line.new.lanes.items c.find_line.ensures.quiet) c.poll_round.ensures.later
+
+pub returns-in-Ok-Moved-clause-later : goal.returns-in-Ok-Moved-clause-later
+returns-in-Ok-Moved-clause-later g c = later_on c.args.lanes.now.items c.find_line.new.lanes.items c.poll_round.new.lanes.items (quiet_later c.args.lanes.now.items c.find_line.new.lanes.items c.find_line.ensures.quiet) c.poll_round.ensures.later
+
+pub returns-in-Ok-Gave-clause-later : goal.returns-in-Ok-Gave-clause-later
+returns-in-Ok-Gave-clause-later g c = later_on c.args.lanes.now.items c.find_line.new.lanes.items c.poll_round.new.lanes.items (quiet_later c.args.lanes.now.items c.find_line.new.lanes.items c.find_line.ensures.quiet) c.poll_round.ensures.later

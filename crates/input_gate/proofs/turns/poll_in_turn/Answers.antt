@@ -1,4 +1,4 @@
-use Rattle.std.proofs.Common.{rules, ◌≡◌, ◌++◌, refl, ◌∙◌, sym, ap, subst}
+use Rattle.std.proofs.Common.{rules, ◌≡◌, [], ◌∷◌, ◌++◌, refl, ◌∙◌, sym, ap, subst}
 use Rattle.std.specs.Prelude.{option_to_list}
 use Rattle.turn_cell.specs.History.{entries_of}
 use Rattle.turn_cell.specs.Passes.{opened_with, seen, sights}
@@ -7,7 +7,7 @@ use Rattle.input_channel.specs.Answers.{gave_of, given_by}
 use Rattle.input_channel.specs.States.{ChannelState, ChannelStandsFor}
 use Rattle.input_gate.specs.Segments.{freed_by}
 use Rattle.input_gate.specs.Turning.{given_to, InputCell}
-use Rattle.input_gate.proofs.TurnLaws.{Begun, still_freed, state_after, more, polled_given, next_number, fits}
+use Rattle.input_gate.proofs.TurnLaws.{Begun, ends_in_poll, still_freed, state_after, more, polled_given, next_number, fits}
 use Rattle.input_gate.proofs.turns.poll_in_turn.Goals as goal
 
 pub leave_polled-requires-clause-state : goal.leave_polled-requires-clause-state
@@ -56,3 +56,11 @@ returns-clause-freed g c =
     let q = c.leave_polled.new.turn.1.0 in
     let f : freed_by q ≡ freed_by p = still_freed p t c.enter-turn.result.state b kept q (Poll c.args.hold (gave_of c.in-Ok.polled)) c.leave_polled.ensures.entered (λ counts. refl) in
     search (rules, f)
+
+pub returns-clause-ends : goal.returns-clause-ends
+returns-clause-ends g c =
+    let p = c.args.pass.now in let t = c.enter-turn.result.pass.now in let e = c.enter-turn.ensures in let laws = c.channels_stand_for_histories.ensures in
+    let b : Begun p t c.enter-turn.result.state = record { first = c.requires.1; same = e.pass.0; later = e.seen; looked = e.looked; own_before = c.requires.0.0.5; own = e.turn.0.0.5; stands = e.state.0 } in
+    let f = ends_in_poll p t c.enter-turn.result.state b c.passes_tell.ensures.given laws.passes laws.legal c.leave_polled.new.turn.1.0 c.args.hold (gave_of c.in-Ok.polled) c.leave_polled.ensures.entered in
+    let last : entries_of (seen c.leave_polled.new.turn.1.0) ≡ f.entries ++ Poll c.args.hold (gave_of c.in-Ok.polled) ∷ [] = f.ends in
+    record { entries = f.entries; room = f.room; legal = f.legal; given = f.given; ends = search (rules, last) }

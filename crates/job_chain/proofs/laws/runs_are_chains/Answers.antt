@@ -1,4 +1,5 @@
-use Rattle.job_chain.proofs.Chaining.{Laws, ran_is_chain, ran_ends_in_worth, ran_ends_in_tally}
+use Rattle.checkpoint_laws.proofs.Told as chains
+use Rattle.job_chain.proofs.Chaining.{Laws, start_is_still, ran_is_chain, ran_ends_in_worth, ran_ends_in_tally}
 use Rattle.job_chain.proofs.laws.runs_are_chains.Goals as goal
 
 pub returns : goal.returns
@@ -7,7 +8,15 @@ returns c =
       source = c.sources_have_accounts.ensures.account;
       stage = c.stages_have_accounts.ensures.account;
       aggregate = c.aggregates_have_accounts.ensures.account;
-      in_line = c.parcels_travel_in_line.ensures.in_line;
+      begins = c.runs_are_chains.ensures.start;
     } in
-    let aligned = c.aligned_runs_are_chains.ensures in
-    record { start = aligned.start; chain = ran_is_chain laws aligned.chain; worth = ran_ends_in_worth laws aligned.worth; tally = ran_ends_in_tally laws aligned.start aligned.tally }
+    let machine : chains.Laws = record {
+      between = c.encodings_give_records.ensures.between;
+      successor = c.recorded_is_successor.ensures.successor;
+      steps = c.steps_make_chain.ensures.steps;
+      start = c.start_exists.ensures.cut;
+      worth = c.chain_keeps_worth.ensures.last;
+      tally = c.chain_keeps_worth.ensures.last_tally;
+    } in
+    let ran = c.runs_are_chains.ensures in
+    record { start = start_is_still machine; chain = ran_is_chain laws ran.chain; worth = ran_ends_in_worth laws ran.worth; tally = ran_ends_in_tally laws (start_is_still machine) ran.tally }

@@ -70,4 +70,4 @@ returns-clause-carry g c =
     let next = read_there rows (number + 1) c.index-rows-next.result (omega (arith, many, same)) c.index-rows-next.is in
     let there = next_stood number (number + 1) (omega arith) start after came next in
     λ arrived. c.edges_carry.ensures job number edge.subpartitions.items edge.inputs.items (own_at start number) (gate_at start number) c.args.takers.items c.args.pushers.items c.requires.is_job
-    (is_settled job number edge start has sent came at there c.args.takers.items c.args.pushers.items c.requires.takers c.settle_senders.ensures.settled c.settle_takers.ensures.settled arrived)
+    (is_settled job number edge start has sent came at there c.args.takers.items c.args.pushers.items c.requires.takers c.requires.pushers c.settle_senders.ensures.settled c.settle_takers.ensures.settled arrived)

@@ -1,7 +1,8 @@
 -- What it leaves are the passes of its gate and what the task handed back.
-use Rattle.std.proofs.Common.{refl, ◌∙◌}
-use Rattle.input_gate.specs.States.{account_in}
-use Rattle.job_workers.proofs.Left.{gate_passes, tells_given}
+use Rattle.std.proofs.Common.{Some, refl, ◌∙◌}
+use Rattle.input_gate.specs.States.{account_in, shows_at, shows_of}
+use Rattle.job_workers.specs.Tasks.{gate_in}
+use Rattle.job_workers.proofs.Left.{gate_passes, shown_by, aggregate_shown}
 use Rattle.job_workers.proofs.task.run_aggregate_task.Goals as goal
 
 pub returns : goal.returns
@@ -15,8 +16,7 @@ returns g c =
       no_partition = refl;
       snapshots = record { pass = end.passes.snapshots; is_there = refl; of_channel = did.snapshots.0; task = did.snapshots.1 ∙ c.requires.may.lent.task };
       given = account_in end.gate;
-      tells = tells_given end.gate passes given.0;
       last_image = did.last_image;
       takes = end.takes.items;
-      account = did.account;
+      account = aggregate_shown c.args.job.now c.args.task.index c.args.task.start.now c.args.task.every (account_in end.gate) (shows_of end.gate) (shows_at (gate_in (Some passes))) _ _ _ _ (shown_by end.gate passes given.0) did.account;
     }

@@ -6,6 +6,7 @@ use Rattle.plain_machine.specs.Emitting.{apply_behind}
 use Rattle.checkpoint_laws.specs.Chapters.{applied}
 use Rattle.task_taking.specs.Steps.{TookNext, TakingGoesOn}
 use Rattle.task_taking.specs.Takings.{IsInStep}
+use Rattle.task_taking.proofs.Groups.{had_taken}
 use Rattle.task_taking.specs.declared.taking.Taken.{Taken}
 use Rattle.stage_task.specs.Applying.{from_at, IsSameStage, HasOwnPasses, IsStageUnderWay}
 use Rattle.stage_task.specs.Snapshots.{all_applied}
@@ -28,12 +29,12 @@ loop-item-init g c =
 
 -- what the gate answered was taken behind what was taken before
 took : (g : Over) (c : After-next-in-loop-item g) (answer : Result Taken Cause) → c.next-in-loop-item.result ≡ answer
-    → let out = c.loop-item.out in let u = c.loop-item.invariant.under_way in TookNext out.job.now out.edge out.index (g.G.Gate.account c.next-in-loop-item.new.gate) c.next-in-loop-item.new.self u.groups u.took answer
+    → let out = c.loop-item.out in let u = c.loop-item.invariant.under_way in TookNext out.job.now out.edge out.index (g.G.Gate.account c.next-in-loop-item.new.gate) (g.G.Gate.shows c.next-in-loop-item.new.gate) c.next-in-loop-item.new.self u.groups u.took answer
 took g c answer is =
     let out = c.loop-item.out in
     let u = c.loop-item.invariant.under_way in
     let gate = g.G.Gate.account c.next-in-loop-item.new.gate in
-    subst (TookNext out.job.now out.edge out.index gate c.next-in-loop-item.new.self u.groups u.took) is (c.next-in-loop-item.ensures.took out.job.now out.edge out.index u.groups u.took u.applied_them.taken)
+    subst (TookNext out.job.now out.edge out.index gate (g.G.Gate.shows c.next-in-loop-item.new.gate) c.next-in-loop-item.new.self u.groups u.took) is (c.next-in-loop-item.ensures.took out.job.now out.edge out.index u.groups u.took u.applied_them.taken)
 
 -- ---- it took a record
 
@@ -64,9 +65,9 @@ returns-in-Err-apply_one-clause-ended g c =
     let u = c.loop-item.invariant.under_way in
     let gate = g.G.Gate.account c.next-in-loop-item.new.gate in
     let o = c.apply_one.new.output in
-    ends_so gate (record out { output = o }) c.end_of.result c.end_of.ensures
-    (line_ended out _ gate _ _ u.groups u.took u.applied_them line.1.0 c.in-Ok-Line.line.items _ line.1.1 (gives_line g at.After-apply_one)
-    c.what_was_taken_was_given.ensures.taken o c.in-Err-apply_one.cause c.apply_one.ensures.same.size
+    ends_so gate (g.G.Gate.shows c.next-in-loop-item.new.gate) (record out { output = o }) c.end_of.result c.end_of.ensures
+    (line_ended out _ gate (g.G.Gate.shows c.loop-item.gate) (g.G.Gate.shows c.next-in-loop-item.new.gate) _ _ u.groups u.took u.applied_them line.1.0 c.in-Ok-Line.line.items _ line.1.1 (gives_line g at.After-apply_one)
+    o c.in-Err-apply_one.cause c.apply_one.ensures.same.size
     (c.in-Err-apply_one.ensures.emitted (from_at out).emitted out.job.now (suc out.edge) out.index out.output.writer.size (all_applied out.job.now out.edge u.groups) (applied out.job.now out.edge u.took) u.applied_them.sent))
 
 pub returns-in-Err-apply_one-clause-stopped : goal.returns-in-Err-apply_one-clause-stopped
@@ -81,7 +82,7 @@ line_goes_on : (g : Over) (c : In-Ok g) → let now = g.G.Gate.account c.next-in
   gate : (g.G.Gate.ends c.next-in-loop-item.new.gate ≡ g.G.Gate.ends c.args.gate.now) × (now.channels ≡ (g.G.Gate.account c.args.gate.now).channels);
   same : IsSameStage c.args.out.now out;
   in_step : IsInStep now c.next-in-loop-item.new.self;
-  under_way : IsStageUnderWay now c.next-in-loop-item.new.self out;
+  under_way : IsStageUnderWay now (g.G.Gate.shows c.next-in-loop-item.new.gate) c.next-in-loop-item.new.self out;
   own : HasOwnPasses out;
 }
 line_goes_on g c =
@@ -96,7 +97,7 @@ line_goes_on g c =
       gate = (c.next-in-loop-item.ensures.gate.0 ∙ v.gate.0, c.next-in-loop-item.ensures.gate.1 ∙ v.gate.1);
       same = same_output c.args.out.now out o c.apply_one.ensures.same v.same;
       in_step = (subst (TakingGoesOn (g.G.Gate.account c.next-in-loop-item.new.gate) c.loop-item.taking c.next-in-loop-item.new.self) is c.next-in-loop-item.ensures.goes_on).0;
-      under_way = line_applied out _ _ _ _ u.groups u.took u.applied_them line.1.0 c.in-Ok-Line.line.items _ line.1.1 (gives_line g at.After-apply_one) o u.not_last
+      under_way = line_applied out _ _ (g.G.Gate.shows c.loop-item.gate) (g.G.Gate.shows c.next-in-loop-item.new.gate) _ _ u.groups u.took u.applied_them line.1.0 c.in-Ok-Line.line.items _ line.1.1 (gives_line g at.After-apply_one) o u.not_last
           (c.in-Ok.ensures.emitted (from_at out).emitted out.job.now (suc out.edge) out.index out.output.writer.size (all_applied out.job.now out.edge u.groups) (applied out.job.now out.edge u.took) u.applied_them.sent);
       own = own_output out o v.own;
     }
@@ -116,7 +117,7 @@ pub mark-requires-clause-next : goal.mark-requires-clause-next
 mark-requires-clause-next g c =
     let u = c.loop-item.invariant.under_way in
     let barriers = took g (goal.at.mark-requires-clause-next g c).After-next-in-loop-item _ (c.in-Ok-Checkpoint.is ∙ ap Ok c.in-Ok-Checkpoint.field-0-is) in
-    next_mark c.loop-item.out _ _ u.groups u.took u.applied_them c.in-Ok-Checkpoint.k barriers.1
+    next_mark c.loop-item.out _ (g.G.Gate.shows c.loop-item.gate) _ u.groups u.took u.applied_them c.in-Ok-Checkpoint.k barriers.1
 
 pub returns-in-Err-mark-clause-ended : goal.returns-in-Err-mark-clause-ended
 returns-in-Err-mark-clause-ended g c =
@@ -124,8 +125,8 @@ returns-in-Err-mark-clause-ended g c =
     let out = c.loop-item.out in
     let u = c.loop-item.invariant.under_way in
     let gate = g.G.Gate.account c.next-in-loop-item.new.gate in
-    ends_so gate (record out { output = c.mark.new.self }) c.end_of-in-Err-mark.result c.end_of-in-Err-mark.ensures
-    (mark_ended out _ gate _ _ u.groups u.took u.applied_them barriers.0 c.what_was_taken_was_given.ensures.at_barrier c.mark.new.self c.mark.ensures.same.size
+    ends_so gate (g.G.Gate.shows c.next-in-loop-item.new.gate) (record out { output = c.mark.new.self }) c.end_of-in-Err-mark.result c.end_of-in-Err-mark.ensures
+    (mark_ended out _ gate (g.G.Gate.shows c.loop-item.gate) (g.G.Gate.shows c.next-in-loop-item.new.gate) _ _ u.groups u.took u.applied_them barriers.0 c.mark.new.self c.mark.ensures.same.size
     (c.in-Err-mark.ensures.marked (from_at out).emitted out.job.now (suc out.edge) out.index out.output.writer.size (all_applied out.job.now out.edge u.groups) (applied out.job.now out.edge u.took) u.applied_them.sent))
 
 pub returns-in-Err-mark-clause-stopped : goal.returns-in-Err-mark-clause-stopped
@@ -139,7 +140,7 @@ acknowledge-requires-clause-marked g c =
     let barriers = took g (goal.at.acknowledge-requires-clause-marked g c).After-next-in-loop-item _ (c.in-Ok-Checkpoint.is ∙ ap Ok c.in-Ok-Checkpoint.field-0-is) in
     let out = c.loop-item.out in
     let u = c.loop-item.invariant.under_way in
-    marked out _ _ _ _ u.groups u.took u.applied_them barriers.0 c.mark.new.self u.not_last
+    marked out _ _ (g.G.Gate.shows c.loop-item.gate) (g.G.Gate.shows c.next-in-loop-item.new.gate) _ _ u.groups u.took u.applied_them barriers.0 c.mark.new.self u.not_last
     (c.in-Ok-mark.ensures.marked (from_at out).emitted out.job.now (suc out.edge) out.index out.output.writer.size (all_applied out.job.now out.edge u.groups) (applied out.job.now out.edge u.took) u.applied_them.sent)
 
 pub acknowledge-requires-clause-own : goal.acknowledge-requires-clause-own
@@ -154,12 +155,12 @@ pub returns-in-Ok-AllEnded-clause-ended : goal.returns-in-Ok-AllEnded-clause-end
 returns-in-Ok-AllEnded-clause-ended g c =
     let all = took g (goal.at.returns-in-Ok-AllEnded-clause-ended g c).After-next-in-loop-item _ (c.in-Ok-AllEnded.is ∙ ap Ok c.in-Ok-AllEnded.field-0-is) in
     let u = c.loop-item.invariant.under_way in
-    ends_so (g.G.Gate.account c.next-in-loop-item.new.gate) c.loop-item.out c.end_of-in-Ok-AllEnded.result c.end_of-in-Ok-AllEnded.ensures
-    (ended_early c.loop-item.out _ _ _ _ u.groups u.took u.applied_them c.what_was_sent_was_begun.ensures.sent c.what_was_taken_was_given.ensures.taken all.0 u.not_last all.1)
+    ends_so (g.G.Gate.account c.next-in-loop-item.new.gate) (g.G.Gate.shows c.next-in-loop-item.new.gate) c.loop-item.out c.end_of-in-Ok-AllEnded.result c.end_of-in-Ok-AllEnded.ensures
+    (ended_early c.loop-item.out _ _ (g.G.Gate.shows c.loop-item.gate) (g.G.Gate.shows c.next-in-loop-item.new.gate) _ _ u.groups u.took u.applied_them c.what_was_sent_was_begun.ensures.sent (had_taken _ _ _ _ (g.G.Gate.shows c.next-in-loop-item.new.gate) _ _ _ all.0) u.not_last all.1)
 
 pub returns-in-Err-clause-ended : goal.returns-in-Err-clause-ended
 returns-in-Err-clause-ended g c =
     let none = took g (goal.at.returns-in-Err-clause-ended g c).After-next-in-loop-item _ c.in-Err.is in
     let u = c.loop-item.invariant.under_way in
-    ends_so (g.G.Gate.account c.next-in-loop-item.new.gate) c.loop-item.out c.end_of-in-Err.result c.end_of-in-Err.ensures
-    (gate_ended c.loop-item.out _ _ _ _ u.groups u.took u.applied_them c.what_was_sent_was_begun.ensures.sent c.what_was_taken_was_given.ensures.taken none.0 c.in-Err.cause none.1 none.2)
+    ends_so (g.G.Gate.account c.next-in-loop-item.new.gate) (g.G.Gate.shows c.next-in-loop-item.new.gate) c.loop-item.out c.end_of-in-Err.result c.end_of-in-Err.ensures
+    (gate_ended c.loop-item.out _ _ (g.G.Gate.shows c.loop-item.gate) (g.G.Gate.shows c.next-in-loop-item.new.gate) _ _ u.groups u.took u.applied_them c.what_was_sent_was_begun.ensures.sent none.0 c.in-Err.cause none.1 none.2)

@@ -9,6 +9,6 @@ invariant-loop-item g l = record {
   gate : (g.G.Gate.ends l.gate ≡ g.G.Gate.ends l.initial.gate) × ((g.G.Gate.account l.gate).channels ≡ (g.G.Gate.account l.initial.gate).channels);
   same : IsSameStage l.initial.out l.out;
   in_step : IsInStep (g.G.Gate.account l.gate) l.taking;
-  under_way : IsStageUnderWay (g.G.Gate.account l.gate) l.taking l.out;
+  under_way : IsStageUnderWay (g.G.Gate.account l.gate) (g.G.Gate.shows l.gate) l.taking l.out;
   own : HasOwnPasses l.out;
 }

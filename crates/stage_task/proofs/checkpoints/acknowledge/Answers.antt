@@ -27,9 +27,9 @@ returns-in_default-clause-ended g c =
     let gate = g.G.Gate.account c.resume_all-takes.new.gate in
     let taking = c.resume_all-takes.new.self in
     let takes = c.resume_all-takes.result.items in
-    let at = resumed_at (g.G.Gate.account c.args.gate.now) gate c.args.taking.now taking out (start_at out) out.output (sent_by out.acks.pass) takes takes c.requires.marked refl (sent_itself out.output) refl refl
+    let at = resumed_at (g.G.Gate.account c.args.gate.now) gate (g.G.Gate.shows c.args.gate.now) (g.G.Gate.shows c.resume_all-takes.new.gate) c.args.taking.now taking out (start_at out) out.output (sent_by out.acks.pass) takes takes c.requires.marked refl (sent_itself out.output) refl refl
     (ap is_open c.resume_all-takes.ensures.same.1 ∙ c.requires.blocked.aligned) c.resume_all-takes.ensures.taken in
-    unacknowledged c.what_was_sent_was_begun.ensures.aside c.what_was_taken_was_given.ensures.resumed out.job.now out.edge out.index out.output.writer.size (start_at out) out.every gate taking out.output (sent_by out.acks.pass) (seen out.acks.last_pass) takes causes.Memory at
+    unacknowledged c.what_was_sent_was_begun.ensures.aside out.job.now out.edge out.index out.output.writer.size (start_at out) out.every gate (g.G.Gate.shows c.resume_all-takes.new.gate) taking out.output (sent_by out.acks.pass) (seen out.acks.last_pass) takes causes.Memory at
     memory_not_done (λ groups rest. tt)
 
 -- ---- it was stopped before it knew the last one
@@ -51,9 +51,9 @@ returns-in-Err-clause-ended g c =
     let gate = g.G.Gate.account c.resume_all-takes.new.gate in
     let taking = c.resume_all-takes.new.self in
     let takes = c.resume_all-takes.result.items in
-    let at = resumed_at (g.G.Gate.account c.args.gate.now) gate c.args.taking.now taking out start o (sent_by acks.pass) takes takes c.requires.marked (same_start out.acks acks c.learn_last.ensures.own.1) c.learn_last.ensures.still (ap sent_by c.learn_last.ensures.own.2) refl
+    let at = resumed_at (g.G.Gate.account c.args.gate.now) gate (g.G.Gate.shows c.args.gate.now) (g.G.Gate.shows c.resume_all-takes.new.gate) c.args.taking.now taking out start o (sent_by acks.pass) takes takes c.requires.marked (same_start out.acks acks c.learn_last.ensures.own.1) c.learn_last.ensures.still (ap sent_by c.learn_last.ensures.own.2) refl
     (ap is_open c.resume_all-takes.ensures.same.1 ∙ c.requires.blocked.aligned) c.resume_all-takes.ensures.taken in
-    unacknowledged c.what_was_sent_was_begun.ensures.aside c.what_was_taken_was_given.ensures.resumed out.job.now out.edge out.index o.writer.size start out.every gate taking o (sent_by acks.pass) (seen acks.last_pass) takes causes.Stopped at
+    unacknowledged c.what_was_sent_was_begun.ensures.aside out.job.now out.edge out.index o.writer.size start out.every gate (g.G.Gate.shows c.resume_all-takes.new.gate) taking o (sent_by acks.pass) (seen acks.last_pass) takes causes.Stopped at
     stopped_not_done (λ groups rest. tt)
 
 -- ---- it sends the snapshot
@@ -67,9 +67,9 @@ send-requires-clause-may g c =
     let gate = g.G.Gate.account c.resume_all-takes.new.gate in
     let taking = c.resume_all-takes.new.self in
     let takes = c.resume_all-takes.result.items in
-    let at = resumed_at (g.G.Gate.account c.args.gate.now) gate c.args.taking.now taking out (start_at out) o (sent_by acks.pass) takes takes c.requires.marked refl c.learn_last.ensures.still (ap sent_by c.learn_last.ensures.own.2) refl
+    let at = resumed_at (g.G.Gate.account c.args.gate.now) gate (g.G.Gate.shows c.args.gate.now) (g.G.Gate.shows c.resume_all-takes.new.gate) c.args.taking.now taking out (start_at out) o (sent_by acks.pass) takes takes c.requires.marked refl c.learn_last.ensures.still (ap sent_by c.learn_last.ensures.own.2) refl
     (ap is_open c.resume_all-takes.ensures.same.1 ∙ c.requires.blocked.aligned) c.resume_all-takes.ensures.taken in
-    may_send mid c.in-Some.number o.emitted c.snapshot-snapshot.result takes o.writer.size (start_at out) gate taking
+    may_send mid c.in-Some.number o.emitted c.snapshot-snapshot.result takes o.writer.size (start_at out) gate (g.G.Gate.shows c.resume_all-takes.new.gate) taking
     (own_later c.what_was_seen_stays.ensures.stays out o acks c.learn_last.ensures.own.0 c.learn_last.ensures.own.1 (ap sent_by c.learn_last.ensures.own.2) c.requires.own) c.snapshot-snapshot.ensures.of
     (ap (λ (l : Items TakeRun). l.items) c.snapshot-snapshot.ensures.takes) (number_there out.acks acks c.in-Some.number c.learn_last.ensures.own.1.base c.learn_last.ensures.own.3 c.in-Some.ensures) at
 
@@ -98,10 +98,10 @@ returns-in-Ok-send-clause-acknowledged g c =
     let taking = c.resume_all-takes.new.self in
     let takes = c.resume_all-takes.result.items in
     let after : StageOutput = record { output = c.send.new.stop; acks = c.send.new.self; job = out.job; edge = out.edge; index = out.index; every = out.every } in
-    let at = resumed_at (g.G.Gate.account c.args.gate.now) gate c.args.taking.now taking out (start_at after) o (sent_by acks.pass) takes takes c.requires.marked
+    let at = resumed_at (g.G.Gate.account c.args.gate.now) gate (g.G.Gate.shows c.args.gate.now) (g.G.Gate.shows c.resume_all-takes.new.gate) c.args.taking.now taking out (start_at after) o (sent_by acks.pass) takes takes c.requires.marked
     (same_start out.acks after.acks (task_twice out.acks acks after.acks c.learn_last.ensures.own.1 c.send.ensures.own.1)) c.learn_last.ensures.still (ap sent_by c.learn_last.ensures.own.2) refl
     (ap is_open c.resume_all-takes.ensures.same.1 ∙ c.requires.blocked.aligned) c.resume_all-takes.ensures.taken in
-    acknowledged c.emits_in_parts.ensures.count gate taking after o acks c.in-Some.number o.writer.size takes c.snapshot-snapshot.result c.in-Ok.last at c.learn_last.ensures.own.0 c.send.ensures.own.0 c.send.ensures.own.1 c.send.ensures.own.2
+    acknowledged c.emits_in_parts.ensures.count gate (g.G.Gate.shows c.resume_all-takes.new.gate) taking after o acks c.in-Some.number o.writer.size takes c.snapshot-snapshot.result c.in-Ok.last at c.learn_last.ensures.own.0 c.send.ensures.own.0 c.send.ensures.own.1 c.send.ensures.own.2
     (number_there out.acks acks c.in-Some.number c.learn_last.ensures.own.1.base c.learn_last.ensures.own.3 c.in-Some.ensures) c.send.ensures.still c.snapshot-snapshot.ensures.of
     (ap (λ (l : Items TakeRun). l.items) c.snapshot-snapshot.ensures.takes) c.in-Ok-send.ensures.sent c.in-Ok.ensures.last
 
@@ -128,10 +128,10 @@ returns-in-Err-send-clause-ended g c =
     let gate = g.G.Gate.account c.resume_all-takes.new.gate in
     let taking = c.resume_all-takes.new.self in
     let back = c.in-Err-send.back.takes.items in
-    let at = resumed_at (g.G.Gate.account c.args.gate.now) gate c.args.taking.now taking out start o' (sent_by acks'.pass) c.resume_all-takes.result.items back c.requires.marked
+    let at = resumed_at (g.G.Gate.account c.args.gate.now) gate (g.G.Gate.shows c.args.gate.now) (g.G.Gate.shows c.resume_all-takes.new.gate) c.args.taking.now taking out start o' (sent_by acks'.pass) c.resume_all-takes.result.items back c.requires.marked
     (same_start out.acks acks' (task_twice out.acks acks acks' c.learn_last.ensures.own.1 c.send.ensures.own.1)) (sent_twice out.output c.learn_last.new.stop o' c.learn_last.ensures.still c.send.ensures.still)
     (c.in-Err-send.ensures.kept.0 ∙ ap sent_by c.learn_last.ensures.own.2)
     (ap (λ (x : Snapshot). x.takes.items) c.in-Err-send.ensures.back ∙ ap (λ (l : Items TakeRun). l.items) c.snapshot-snapshot.ensures.takes)
     (ap is_open c.resume_all-takes.ensures.same.1 ∙ c.requires.blocked.aligned) c.resume_all-takes.ensures.taken in
-    unacknowledged c.what_was_sent_was_begun.ensures.aside c.what_was_taken_was_given.ensures.resumed out.job.now out.edge out.index o'.writer.size start out.every gate taking o' (sent_by acks'.pass) (seen acks'.last_pass) back causes.Stopped at
+    unacknowledged c.what_was_sent_was_begun.ensures.aside out.job.now out.edge out.index o'.writer.size start out.every gate (g.G.Gate.shows c.resume_all-takes.new.gate) taking o' (sent_by acks'.pass) (seen acks'.last_pass) back causes.Stopped at
     stopped_not_done (λ groups rest. tt)

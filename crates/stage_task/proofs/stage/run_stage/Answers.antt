@@ -8,7 +8,9 @@ use Rattle.conn_parts.specs.Shares.{AreNew}
 use Rattle.record_writer.specs.declared.partition.PartitionPasses.{PartitionPasses}
 use Rattle.record_writer.specs.Partitions.{ArePassesOf, IsPartitionOf}
 use Rattle.record_writer.specs.Writers.{Writer, IsSame}
-use Rattle.input_gate.specs.Gates.{IsNew}
+use Rattle.gate_account.specs.Accounts.{IsNew}
+use Rattle.task_taking.proofs.Groups.{taken_none, step_none}
+use Rattle.stage_task.specs.Stages.{StageAccount}
 use Rattle.snapshot_channel.specs.declared.views.Opening.{Opening}
 use Rattle.snapshot_channel.specs.Passes.{sent_by}
 use Rattle.stage_task.specs.declared.checkpoints.StageOutput.{StageOutput}
@@ -21,9 +23,9 @@ pub returns-in_default-clause-account : goal.returns-in_default-clause-account
 returns-in_default-clause-account g c =
     let world = c.args.world in
     let end = c.end_task.result in
-    account_ended c.args.job.now c.args.edge c.args.index world.partition.size c.args.start.now c.args.every (g.G.Gate.account end.gate) end.passes.partition.subpartitions.items (sent_by end.passes.snapshots) (seen end.passes.last_image) end.takes.items causes.Memory end.cause c.end_task.ensures.cause
-    (unbegun c.args.job.now c.args.edge c.args.index world.partition.size c.args.start.now c.args.every (g.G.Gate.account end.gate) end.passes.partition.subpartitions.items (sent_by end.passes.snapshots) (seen end.passes.last_image) end.takes.items
-    (subst (λ x. IsNew (g.G.Gate.account x)) (sym c.end_task.ensures.gate) c.requires.task.gate_new)
+    account_ended c.args.job.now c.args.edge c.args.index world.partition.size c.args.start.now c.args.every (g.G.Gate.account end.gate) (g.G.Gate.shows end.gate) end.passes.partition.subpartitions.items (sent_by end.passes.snapshots) (seen end.passes.last_image) end.takes.items causes.Memory end.cause c.end_task.ensures.cause
+    (unbegun c.args.job.now c.args.edge c.args.index world.partition.size c.args.start.now c.args.every (g.G.Gate.account end.gate) (g.G.Gate.shows end.gate) end.passes.partition.subpartitions.items (sent_by end.passes.snapshots) (seen end.passes.last_image) end.takes.items
+    (subst (λ x. IsNew (λ c. []) (g.G.Gate.account x)) (sym c.end_task.ensures.gate) c.requires.task.gate_new)
     (subst (λ (p : PartitionPasses). AreNew p.subpartitions.items) (sym c.end_task.ensures.partition) c.requires.partition.new)
     (ap sent_by c.end_task.ensures.passes.0 ∙ c.requires.lent.fresh)
     (ap (λ (l : Items TakeRun). l.items) c.end_task.ensures.takes ∙ c.new-none.ensures))
@@ -42,11 +44,16 @@ emitted-emitted-requires-clause-task g c =
 pub new-requires-2-clause-partition : goal.new-requires-2-clause-partition
 new-requires-2-clause-partition g c = subst (λ e. IsPartitionOf c.args.job.now e c.args.index c.args.world.partition) (let z : suc c.args.edge ≡ c.args.edge + 1 = omega arith in z) c.requires.partition
 
+pub apply_all-end-requires-clause-in_step : goal.apply_all-end-requires-clause-in_step
+apply_all-end-requires-clause-in_step g c = step_none c.args.job.now c.args.edge c.args.index (g.G.Gate.account c.args.gate) c.in-Ok.taking c.requires.task.gate_new c.requires.task.channels_are c.in-Ok.ensures.is
+
 pub apply_all-end-requires-clause-under_way : goal.apply_all-end-requires-clause-under_way
 apply_all-end-requires-clause-under_way g c =
     let world = c.args.world in
     let out : StageOutput = record { output = c.new-in-Ok-new.result; acks = world.acks; job = c.args.job; edge = c.args.edge; index = c.args.index; every = c.args.every } in
-    under_way (g.G.Gate.account c.args.gate) c.in-Ok.taking world.partition c.in-Ok-new.writer out c.requires.task.gate_new c.requires.task.channels_are (λ gate new channels. (c.in-Ok.ensures.none gate new channels).0) c.in-Ok-new.ensures.is_of.0 (c.in-Ok-new.ensures.new.0, c.in-Ok-new.ensures.new.1)
+    let edge = c.requires.task.edge in
+    under_way (g.G.Gate.account c.args.gate) (g.G.Gate.shows c.args.gate) c.in-Ok.taking world.partition c.in-Ok-new.writer out
+    (taken_none c.args.job.now c.args.edge c.args.index (g.G.Gate.account c.args.gate) (g.G.Gate.shows c.args.gate) c.in-Ok.taking c.requires.task.is_job (omega (arith, edge)) c.requires.task.index c.requires.task.gate_new c.requires.task.channels_are c.in-Ok.ensures.is) c.in-Ok-new.ensures.is_of.0 (c.in-Ok-new.ensures.new.0, c.in-Ok-new.ensures.new.1)
     (counted_from c.args.job.now c.args.start.now (start_at out) c.args.edge c.args.index c.in-Ok-new.writer.emitted (c.in-Ok-new.ensures.new.2 ∙ c.emitted-emitted.ensures) (ap (λ (o : Opening). o.start) c.requires.lent.opening)) c.new-in-Ok-new.ensures.none c.requires.lent.fresh
 
 pub returns-in-Ok-new-clause-partition : goal.returns-in-Ok-new-clause-partition
@@ -78,12 +85,14 @@ returns-in-Ok-new-clause-account g c =
     let out : StageOutput = record { output = c.new-in-Ok-new.result; acks = world.acks; job = c.args.job; edge = c.args.edge; index = c.args.index; every = c.args.every } in
     let after = c.apply_all-end.new.out in
     let end = c.end_sender.result in
-    let gate = g.G.Gate.account end.gate in
-    account_ended c.args.job.now c.args.edge c.args.index world.partition.size c.args.start.now c.args.every gate end.passes.partition.subpartitions.items (sent_by end.passes.snapshots) (seen end.passes.last_image) end.takes.items c.apply_all-end.result.cause end.cause c.end_sender.ensures.cause
-    (account_of_same out after world.partition.size c.args.start.now (g.G.Gate.account c.apply_all-end.new.gate) gate end.passes.partition.subpartitions.items (sent_by end.passes.snapshots) (seen end.passes.last_image) end.takes.items c.apply_all-end.result c.apply_all-end.ensures.same
+    let sent = sent_by end.passes.snapshots in
+    let takes = end.takes.items in
+    account_ended c.args.job.now c.args.edge c.args.index world.partition.size c.args.start.now c.args.every (g.G.Gate.account end.gate) (g.G.Gate.shows end.gate) end.passes.partition.subpartitions.items sent (seen end.passes.last_image) takes c.apply_all-end.result.cause end.cause c.end_sender.ensures.cause
+    (subst (λ x. StageAccount c.args.job.now c.args.edge c.args.index world.partition.size c.args.start.now c.args.every (g.G.Gate.account x) (g.G.Gate.shows x) end.passes.partition.subpartitions.items sent (seen end.passes.last_image) takes c.apply_all-end.result.cause) (sym c.end_sender.ensures.gate)
+    (account_of_same out after world.partition.size c.args.start.now (g.G.Gate.account c.apply_all-end.new.gate) (g.G.Gate.shows c.apply_all-end.new.gate) end.passes.partition.subpartitions.items sent (seen end.passes.last_image) takes c.apply_all-end.result c.apply_all-end.ensures.same
     (c.apply_all-end.ensures.same.writer.size ∙ ap (λ (w : Writer). w.size) c.new-in-Ok-new.ensures.writer.0 ∙ c.in-Ok-new.ensures.is_of.0.size)
     (same_start world.acks after.acks c.apply_all-end.ensures.same.acks ∙ ap (λ (o : Opening). o.start) c.requires.lent.opening)
-    (ap g.G.Gate.account c.end_sender.ensures.gate) c.end_sender.ensures.partition.same (ap sent_by c.end_sender.ensures.passes.0) (ap seen c.end_sender.ensures.passes.1) (ap (λ (l : Items TakeRun). l.items) c.end_sender.ensures.takes) c.apply_all-end.ensures.ended)
+    c.end_sender.ensures.partition.same (ap sent_by c.end_sender.ensures.passes.0) (ap seen c.end_sender.ensures.passes.1) (ap (λ (l : Items TakeRun). l.items) c.end_sender.ensures.takes) c.apply_all-end.ensures.ended))
 
 pub returns-in-Ok-new-clause-stop : goal.returns-in-Ok-new-clause-stop
 returns-in-Ok-new-clause-stop g c =
@@ -98,9 +107,9 @@ pub returns-in-Err-clause-account : goal.returns-in-Err-clause-account
 returns-in-Err-clause-account g c =
     let world = c.args.world in
     let end = c.end_task-in-Err.result in
-    account_ended c.args.job.now c.args.edge c.args.index world.partition.size c.args.start.now c.args.every (g.G.Gate.account end.gate) end.passes.partition.subpartitions.items (sent_by end.passes.snapshots) (seen end.passes.last_image) end.takes.items causes.Memory end.cause c.end_task-in-Err.ensures.cause
-    (unbegun c.args.job.now c.args.edge c.args.index world.partition.size c.args.start.now c.args.every (g.G.Gate.account end.gate) end.passes.partition.subpartitions.items (sent_by end.passes.snapshots) (seen end.passes.last_image) end.takes.items
-    (subst (λ x. IsNew (g.G.Gate.account x)) (sym c.end_task-in-Err.ensures.gate) c.requires.task.gate_new)
+    account_ended c.args.job.now c.args.edge c.args.index world.partition.size c.args.start.now c.args.every (g.G.Gate.account end.gate) (g.G.Gate.shows end.gate) end.passes.partition.subpartitions.items (sent_by end.passes.snapshots) (seen end.passes.last_image) end.takes.items causes.Memory end.cause c.end_task-in-Err.ensures.cause
+    (unbegun c.args.job.now c.args.edge c.args.index world.partition.size c.args.start.now c.args.every (g.G.Gate.account end.gate) (g.G.Gate.shows end.gate) end.passes.partition.subpartitions.items (sent_by end.passes.snapshots) (seen end.passes.last_image) end.takes.items
+    (subst (λ x. IsNew (λ c. []) (g.G.Gate.account x)) (sym c.end_task-in-Err.ensures.gate) c.requires.task.gate_new)
     (subst (λ (p : PartitionPasses). AreNew p.subpartitions.items) (sym (c.end_task-in-Err.ensures.partition ∙ c.in-Err.ensures.refused.0)) c.requires.partition.new)
     (ap sent_by c.end_task-in-Err.ensures.passes.0 ∙ c.requires.lent.fresh)
     (ap (λ (l : Items TakeRun). l.items) c.end_task-in-Err.ensures.takes ∙ none_noted c.in-Ok.taking c.args.job.now c.args.edge c.args.index c.into_runs-takes.result.items c.in-Ok.ensures.is c.into_runs-takes.ensures))

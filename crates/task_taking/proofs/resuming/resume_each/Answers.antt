@@ -1,7 +1,8 @@
 use Rattle.std.proofs.Common.{◌<◌, suc, sym, ap, subst, ◌∙◌, arith}
 use mathlib.Core.Logic.{dite}
 use native.Mathlib.Decide.{ℕ_discrete}
-use Rattle.input_gate.specs.Gates.{stops_in}
+use Rattle.gate_account.specs.Accounts.{inlines}
+use Rattle.gate_account.proofs.Takings.{keeps_on}
 use Rattle.task_taking.proofs.resuming.resume_each.Goals as goal
 
 pub resume-requires-clause-within : goal.resume-requires-clause-within
@@ -10,7 +11,7 @@ resume-requires-clause-within g c = subst (λ n. c.loop-channel.channel < n) (c.
 pub resume-requires-clause-stopped : goal.resume-requires-clause-stopped
 resume-requires-clause-stopped g c =
     let i = c.loop-channel.channel in
-    ap stops_in (c.loop-channel.invariant.told i) ∙ c.requires.stopped i c.loop-channel-test.true ∙ ap suc (sym (c.loop-channel.invariant.rest i (omega arith)))
+    ap inlines (c.loop-channel.invariant.barriers i) ∙ c.requires.stopped i c.loop-channel-test.true ∙ ap suc (sym (c.loop-channel.invariant.rest i (omega arith)))
 
 pub loop-channel-preserved : goal.loop-channel-preserved
 loop-channel-preserved g c =
@@ -22,7 +23,7 @@ loop-channel-preserved g c =
     record {
       ends = c.resume.ensures.same.0 ∙ v.ends;
       channels = c.resume.ensures.same.1 ∙ v.channels;
-      told = λ x. r.told x ∙ v.told x;
+      lines = λ x. r.lines x ∙ v.lines x;
       barriers = λ x. r.barriers x ∙ v.barriers x;
       done = λ x low. dite (ℕ_discrete x i)
           (λ here. ap (λ y. now.resumed y) here ∙ r.here ∙ ap suc (v.rest i (omega arith)) ∙ ap (λ y. suc (was.resumed y)) (sym here))
@@ -30,15 +31,19 @@ loop-channel-preserved g c =
       rest = λ x high. r.elsewhere x (λ here. omega (arith, high, here)) ∙ v.rest x (omega (arith, high));
       ended = λ x. r.ended x ∙ v.ended x;
       left = λ x. r.left x ∙ v.left x;
+      kept = keeps_on _ _ _ v.kept c.resume.ensures.kept;
     }
 
 pub returns-clause-resumed : goal.returns-clause-resumed
 returns-clause-resumed g c =
     let v = c.loop-channel.invariant in
     record {
-      told = v.told;
+      lines = v.lines;
       barriers = v.barriers;
       resumed = λ x low. (let many = c.requires.channels in let over = c.loop-channel-test.false in v.done x (omega (arith, low, many, over)));
       ended = v.ended;
       left = v.left;
     }
+
+pub returns-clause-kept : goal.returns-clause-kept
+returns-clause-kept g c = c.loop-channel.invariant.kept

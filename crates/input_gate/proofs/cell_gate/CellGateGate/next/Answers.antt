@@ -1,7 +1,8 @@
-use Rattle.std.proofs.Common.{rules, ◌∙◌, subst, arith}
+use Rattle.std.proofs.Common.{rules, sym, ◌∙◌, subst, arith}
 use Rattle.std.specs.Prelude.{IfOk}
 use Rattle.input_gate.specs.Lanes.{lent_size}
-use Rattle.input_gate.specs.States.{GateState, LookedFirst}
+use Rattle.input_gate.specs.States.{GateState, LookedFirst, shows_of}
+use Rattle.input_gate.proofs.RoundLaws.{kept_on}
 use Rattle.input_gate.proofs.GateLaws.{cells_length, looked_first, all_came_back, none_left}
 use Rattle.input_gate.proofs.SegmentLaws.{lose_then}
 use Rattle.input_gate.proofs.cell_gate.CellGateGate.next.Goals as goal
@@ -34,3 +35,8 @@ pub returns-clause-back : goal.returns-clause-back
 returns-clause-back g c =
     let new : GateState = record { lanes = c.next_of-result.new.lanes.items; lender = c.next_of-result.new.lender; first = c.self.inside.first.value; stop = c.self.inside.stop.now; stop_pass = c.next_of-result.new.stop_pass } in
     all_came_back (lent_size c.self.inside.lender) new c.next_of-result.result c.next_of-result.ensures.lanes c.next_of-result.ensures.spare
+
+pub returns-clause-kept : goal.returns-clause-kept
+returns-clause-kept g c at cut shown =
+    kept_on c.self.inside.lanes.items c.next_of-result.new.lanes.items c.next_of-result.ensures.later at cut
+    (subst (λ (gate : GateState). shows_of gate at cut) (sym c.self.view_is) shown)

@@ -1,6 +1,7 @@
-use Rattle.std.proofs.Common.{◌≡◌, ◌<◌, length, sym, subst, arith, suc}
-use Rattle.input_gate.specs.Gates.{stops_in}
-use Rattle.input_gate.specs.States.{GateState, account_in}
+use Rattle.std.proofs.Common.{◌<◌, length, sym, subst, arith}
+use Rattle.gate_account.specs.Accounts.{IsBlocked}
+use Rattle.input_gate.specs.States.{GateState, account_in, shows_of}
+use Rattle.input_gate.proofs.RoundLaws.{kept_on}
 use Rattle.input_gate.proofs.GateLaws.{cells_length}
 use Rattle.input_gate.proofs.SegmentLaws.{lose_then, all_untouched}
 use Rattle.input_gate.proofs.cell_gate.CellGateGate.resume.Goals as goal
@@ -12,7 +13,7 @@ pub resume_at-requires-clause-lanes : goal.resume_at-requires-clause-lanes
 resume_at-requires-clause-lanes g c = (_, c.self.invariant.0.lanes_are)
 
 pub resume_at-requires-clause-stopped : goal.resume_at-requires-clause-stopped
-resume_at-requires-clause-stopped g c = subst (λ (gate : GateState). stops_in ((account_in gate).told c.args.channel) ≡ suc ((account_in gate).resumed c.args.channel)) (sym c.self.view_is) c.requires.stopped
+resume_at-requires-clause-stopped g c = subst (λ (gate : GateState). IsBlocked (account_in gate) c.args.channel) (sym c.self.view_is) c.requires.stopped
 
 pub invariant_of-self : goal.invariant_of-self
 invariant_of-self g c =
@@ -31,3 +32,8 @@ invariant_of-self g c =
       omega (arith, same, room),
       λ read. c.resume_at.ensures.spare (c.self.invariant.3 read),
     )
+
+pub returns-clause-kept : goal.returns-clause-kept
+returns-clause-kept g c at cut shown =
+    kept_on c.self.inside.lanes.items c.resume_at.new.lanes.items c.resume_at.ensures.later at cut
+    (subst (λ (gate : GateState). shows_of gate at cut) (sym c.self.view_is) shown)

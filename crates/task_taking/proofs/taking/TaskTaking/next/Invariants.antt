@@ -10,6 +10,6 @@ invariant-loop-item g l = record {
   same : IsSame l.initial.self l.self;
   in_step : IsInStep (g.G.Gate.account l.gate) l.self;
   closed : l.self.alignment.closed ≡ l.initial.self.alignment.closed;
-  took : (job : Job) (e b : ℕ) (groups : List (List (ℕ × List ℕ))) (took : List (ℕ × List ℕ)) → HasTaken job e b (g.G.Gate.account l.initial.gate) l.initial.self groups took →
-      HasTaken job e b (g.G.Gate.account l.gate) l.self groups took;
+  took : (job : Job) (e b : ℕ) (groups : List (List (ℕ × List ℕ))) (took : List (ℕ × List ℕ)) → HasTaken job e b (g.G.Gate.account l.initial.gate) (g.G.Gate.shows l.initial.gate) l.initial.self groups took →
+      HasTaken job e b (g.G.Gate.account l.gate) (g.G.Gate.shows l.gate) l.self groups took;
 }

@@ -6,7 +6,7 @@ ghost use Rattle.job_workers.specs.Tasks.{LeftByAggregate, LeftBySource, LeftByS
 
 use crate::place::Worker;
 use aggregate_task::run_aggregate;
-use flow_defs::{Cause, Job};
+use flow_defs::{Cause, Job, TaskId};
 use input_gate::{CellGate, GatePasses};
 use job_start::Start;
 use outside::{LastImage, Source};
@@ -133,9 +133,11 @@ fn run_stage_task<'a, 'p, S, R: Wait>(
         every,
         world,
     } = task;
-    let end = run_stage(
-        rt, alloc, job, functions, gate, edge, index, start, every, world,
-    );
+    let task = TaskId {
+        stage: edge + 1,
+        index,
+    };
+    let end = run_stage(rt, alloc, job, functions, gate, task, start, every, world);
     let TaskEnd {
         gate,
         passes,

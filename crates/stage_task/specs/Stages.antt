@@ -1,12 +1,13 @@
 -- What the task of a stateless stage did. As in Flink it emits what its function gives for each record that it takes, and acknowledges each
 -- checkpoint. That it tells so whatever its cause is this project's own choice.
-use Rattle.std.specs.Prelude.{◌≡◌, ℕ, suc, ◌<◌, List, [], length, Option}
+use Rattle.std.specs.Prelude.{◌≡◌, ℕ, suc, ◌-◌, ◌<◌, ◌≤◌, List, [], length, Option}
 use Rattle.turn_cell.specs.History.{StartsWith}
 use Rattle.flow_defs.specs.declared.cause.Cause.{Cause}
 use Rattle.flow_defs.specs.declared.cause.Cause.TheVariants as causes
 use Rattle.flow_defs.specs.declared.image.Snapshot.{Snapshot}
 use Rattle.flow_defs.specs.declared.image.TakeRun.{TakeRun}
 use Rattle.flow_defs.specs.declared.job.Job.{Job}
+use Rattle.flow_defs.specs.declared.task.TaskId.{TaskId}
 use Rattle.flow_defs.specs.Jobs.{IsJob, last_edge, tasks}
 use Rattle.plain_machine.specs.Emitting.{receiver_on}
 use Rattle.checkpoint_laws.specs.Chapters.{RunsTake, applied}
@@ -46,10 +47,10 @@ pub record StageAccount (job : Job) (e b size : ℕ) (start : Start) (every : Op
 
 -- ---- what it is
 
--- It is task b of a stage behind edge e of the job, and takes from a new gate that has its channels.
-pub record IsStageTask (job : Job) (e b : ℕ) (gate : Account) : Type 0 where
+-- It is a task of a stateless stage of the job, and takes from a new gate that has its channels.
+pub record IsStageTask (job : Job) (task : TaskId) (gate : Account) : Type 0 where
   pub is_job : IsJob job
-  pub edge : e < last_edge job
-  pub index : b < tasks job (suc e)
+  pub stage : (1 ≤ task.stage) × (task.stage ≤ last_edge job)
+  pub index : task.index < tasks job task.stage
   pub gate_new : IsNew (λ c. []) gate
-  pub channels_are : gate.channels ≡ ways_into job e
+  pub channels_are : gate.channels ≡ ways_into job (task.stage - 1)

@@ -186,13 +186,14 @@ fn stage<'a, 'p, R: Wait>(
     every: Option<u64>,
     world: World<'a, Partition<'a, 'p>>,
 ) -> (Cause, usize)
-    requires task { IsStageTask job.now 0 0 (account_of gate.given.items gate.first gate.second gate.over) }
+    requires task { IsStageTask job.now (record { stage = 1; index = 0 }) (account_of gate.given.items gate.first gate.second gate.over) }
     requires functions { CanRun (kinds functions.now) job.now }
     requires partition { IsPartitionOf job.now 1 0 world.partition }
     requires lent { IsLent job.now 1 0 start.now every world }
 {
+    let task = TaskId { stage: 1, index: 0 };
     let TaskEnd { takes, cause, .. } = run_stage(
-        rt, alloc, job, functions, gate, 0, 0, start, every, world,
+        rt, alloc, job, functions, gate, task, start, every, world,
     );
     (cause, takes.as_slice().len())
 }

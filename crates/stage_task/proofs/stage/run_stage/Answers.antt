@@ -1,12 +1,14 @@
-use Rattle.std.proofs.Common.{◌≡◌, ◌≢◌, ◌+◌, ◌<◌, ◌⊎◌, [], suc, ap, sym, subst, ◌∙◌, arith}
+use Rattle.std.proofs.Common.{◌≡◌, ◌≢◌, ◌+◌, ◌-◌, ◌<◌, ◌⊎◌, [], suc, ap, sym, subst, ◌∙◌, arith}
+use Rattle.std.specs.Prelude.{slice_index}
 use Rattle.turn_cell.specs.Passes.{seen, IsSamePass}
 use Rattle.flow_defs.specs.declared.cause.Cause.TheVariants as causes
 use Rattle.flow_defs.specs.Items.{Items}
 use Rattle.flow_defs.specs.Jobs.{tasks}
 use Rattle.flow_defs.specs.declared.image.TakeRun.{TakeRun}
+use Rattle.plain_machine.specs.Places.{sender_place}
 use Rattle.conn_parts.specs.Shares.{AreNew}
 use Rattle.record_writer.specs.declared.partition.PartitionPasses.{PartitionPasses}
-use Rattle.record_writer.specs.Partitions.{ArePassesOf, IsPartitionOf}
+use Rattle.record_writer.specs.Partitions.{IsWriterOf}
 use Rattle.record_writer.specs.Writers.{Writer, IsSame}
 use Rattle.gate_account.specs.Accounts.{IsNew}
 use Rattle.task_taking.proofs.Groups.{taken_none, step_none}
@@ -23,8 +25,8 @@ pub returns-in_default-clause-account : goal.returns-in_default-clause-account
 returns-in_default-clause-account g c =
     let world = c.args.world in
     let end = c.end_task.result in
-    account_ended c.args.job.now c.args.edge c.args.index world.partition.size c.args.start.now c.args.every (g.G.Gate.account end.gate) (g.G.Gate.shows end.gate) end.passes.partition.subpartitions.items (sent_by end.passes.snapshots) (seen end.passes.last_image) end.takes.items causes.Memory end.cause c.end_task.ensures.cause
-    (unbegun c.args.job.now c.args.edge c.args.index world.partition.size c.args.start.now c.args.every (g.G.Gate.account end.gate) (g.G.Gate.shows end.gate) end.passes.partition.subpartitions.items (sent_by end.passes.snapshots) (seen end.passes.last_image) end.takes.items
+    account_ended c.args.job.now (c.args.task.stage - 1) c.args.task.index world.partition.size c.args.start.now c.args.every (g.G.Gate.account end.gate) (g.G.Gate.shows end.gate) end.passes.partition.subpartitions.items (sent_by end.passes.snapshots) (seen end.passes.last_image) end.takes.items causes.Memory end.cause c.end_task.ensures.cause
+    (unbegun c.args.job.now (c.args.task.stage - 1) c.args.task.index world.partition.size c.args.start.now c.args.every (g.G.Gate.account end.gate) (g.G.Gate.shows end.gate) end.passes.partition.subpartitions.items (sent_by end.passes.snapshots) (seen end.passes.last_image) end.takes.items
     (subst (λ x. IsNew (λ c. []) (g.G.Gate.account x)) (sym c.end_task.ensures.gate) c.requires.task.gate_new)
     (subst (λ (p : PartitionPasses). AreNew p.subpartitions.items) (sym c.end_task.ensures.partition) c.requires.partition.new)
     (ap sent_by c.end_task.ensures.passes.0 ∙ c.requires.lent.fresh)
@@ -35,26 +37,19 @@ returns-in_default-clause-acks g c =
     let end = c.end_task.result in
     acks_are c.args.world.acks end.passes.snapshots end.acks c.requires.lent.passes c.end_task.ensures.acks c.end_task.ensures.passes.0
 
-pub emitted-emitted-requires-clause-task : goal.emitted-emitted-requires-clause-task
-emitted-emitted-requires-clause-task g c =
-    let edge = c.requires.task.edge in
-    let next : suc c.args.edge ≡ c.args.edge + 1 = omega arith in
-    (omega (arith, edge), subst (λ e. c.args.index < tasks c.args.job.now e) next c.requires.task.index)
-
-pub new-requires-2-clause-partition : goal.new-requires-2-clause-partition
-new-requires-2-clause-partition g c = subst (λ e. IsPartitionOf c.args.job.now e c.args.index c.args.world.partition) (let z : suc c.args.edge ≡ c.args.edge + 1 = omega arith in z) c.requires.partition
-
 pub apply_all-end-requires-clause-in_step : goal.apply_all-end-requires-clause-in_step
-apply_all-end-requires-clause-in_step g c = step_none c.args.job.now c.args.edge c.args.index (g.G.Gate.account c.args.gate) c.in-Ok.taking c.requires.task.gate_new c.requires.task.channels_are c.in-Ok.ensures.is
+apply_all-end-requires-clause-in_step g c = step_none c.args.job.now (c.args.task.stage - 1) c.args.task.index (g.G.Gate.account c.args.gate) c.in-Ok.taking c.requires.task.gate_new c.requires.task.channels_are c.in-Ok.ensures.is
 
 pub apply_all-end-requires-clause-under_way : goal.apply_all-end-requires-clause-under_way
 apply_all-end-requires-clause-under_way g c =
     let world = c.args.world in
-    let out : StageOutput = record { output = c.new-in-Ok-new.result; acks = world.acks; job = c.args.job; edge = c.args.edge; index = c.args.index; every = c.args.every } in
-    let edge = c.requires.task.edge in
+    let out : StageOutput = record { output = c.new-in-Ok-new.result; acks = world.acks; job = c.args.job; edge = (c.args.task.stage - 1); index = c.args.task.index; every = c.args.every } in
+    let stage = c.requires.task.stage in
+    let next : c.args.task.stage ≡ (c.args.task.stage - 1) + 1 = omega (arith, stage) in
+    let behind : c.args.task.stage ≡ suc (c.args.task.stage - 1) = omega (arith, stage) in
     under_way (g.G.Gate.account c.args.gate) (g.G.Gate.shows c.args.gate) c.in-Ok.taking world.partition c.in-Ok-new.writer out
-    (taken_none c.args.job.now c.args.edge c.args.index (g.G.Gate.account c.args.gate) (g.G.Gate.shows c.args.gate) c.in-Ok.taking c.requires.task.is_job (omega (arith, edge)) c.requires.task.index c.requires.task.gate_new c.requires.task.channels_are c.in-Ok.ensures.is) c.in-Ok-new.ensures.is_of.0 (c.in-Ok-new.ensures.new.0, c.in-Ok-new.ensures.new.1)
-    (counted_from c.args.job.now c.args.start.now (start_at out) c.args.edge c.args.index c.in-Ok-new.writer.emitted (c.in-Ok-new.ensures.new.2 ∙ c.emitted-emitted.ensures) (ap (λ (o : Opening). o.start) c.requires.lent.opening)) c.new-in-Ok-new.ensures.none c.requires.lent.fresh
+    (taken_none c.args.job.now (c.args.task.stage - 1) c.args.task.index (g.G.Gate.account c.args.gate) (g.G.Gate.shows c.args.gate) c.in-Ok.taking c.requires.task.is_job (omega (arith, stage)) (subst (λ i. c.args.task.index < tasks c.args.job.now i) behind c.requires.task.index) c.requires.task.gate_new c.requires.task.channels_are c.in-Ok.ensures.is) (subst (λ i. IsWriterOf c.args.job.now i c.args.task.index c.args.world.partition c.in-Ok-new.writer) next c.in-Ok-new.ensures.is_of.0) (c.in-Ok-new.ensures.new.0, c.in-Ok-new.ensures.new.1)
+    (counted_from c.args.job.now c.args.start.now (start_at out) (c.args.task.stage - 1) c.args.task.index c.in-Ok-new.writer.emitted (c.in-Ok-new.ensures.new.2 ∙ c.emitted-emitted.ensures ∙ ap (λ i. slice_index c.args.start.now.emitted.items (sender_place c.args.job.now i c.args.task.index)) next) (ap (λ (o : Opening). o.start) c.requires.lent.opening)) c.new-in-Ok-new.ensures.none c.requires.lent.fresh
 
 pub returns-in-Ok-new-clause-partition : goal.returns-in-Ok-new-clause-partition
 returns-in-Ok-new-clause-partition g c =
@@ -62,8 +57,7 @@ returns-in-Ok-new-clause-partition g c =
     let after = c.apply_all-end.new.out.output.writer in
     let passes = c.end_sender.result.passes.partition in
     let same = subst (λ (w : Writer). IsSame w after) c.new-in-Ok-new.ensures.writer.0 c.apply_all-end.ensures.same.writer in
-    subst (λ e. ArePassesOf c.args.job.now e world.partition passes) (let z : c.args.edge + 1 ≡ suc c.args.edge = omega arith in z)
-    (written_back c.args.job.now (c.args.edge + 1) c.args.index world.partition c.in-Ok-new.writer after passes c.in-Ok-new.ensures.is_of.0 same c.end_sender.ensures.partition)
+    written_back c.args.job.now c.args.task.stage c.args.task.index world.partition c.in-Ok-new.writer after passes c.in-Ok-new.ensures.is_of.0 same c.end_sender.ensures.partition
 
 pub returns-in-Ok-new-clause-acks : goal.returns-in-Ok-new-clause-acks
 returns-in-Ok-new-clause-acks g c =
@@ -82,13 +76,13 @@ returns-in-Ok-new-clause-waited g c =
 pub returns-in-Ok-new-clause-account : goal.returns-in-Ok-new-clause-account
 returns-in-Ok-new-clause-account g c =
     let world = c.args.world in
-    let out : StageOutput = record { output = c.new-in-Ok-new.result; acks = world.acks; job = c.args.job; edge = c.args.edge; index = c.args.index; every = c.args.every } in
+    let out : StageOutput = record { output = c.new-in-Ok-new.result; acks = world.acks; job = c.args.job; edge = (c.args.task.stage - 1); index = c.args.task.index; every = c.args.every } in
     let after = c.apply_all-end.new.out in
     let end = c.end_sender.result in
     let sent = sent_by end.passes.snapshots in
     let takes = end.takes.items in
-    account_ended c.args.job.now c.args.edge c.args.index world.partition.size c.args.start.now c.args.every (g.G.Gate.account end.gate) (g.G.Gate.shows end.gate) end.passes.partition.subpartitions.items sent (seen end.passes.last_image) takes c.apply_all-end.result.cause end.cause c.end_sender.ensures.cause
-    (subst (λ x. StageAccount c.args.job.now c.args.edge c.args.index world.partition.size c.args.start.now c.args.every (g.G.Gate.account x) (g.G.Gate.shows x) end.passes.partition.subpartitions.items sent (seen end.passes.last_image) takes c.apply_all-end.result.cause) (sym c.end_sender.ensures.gate)
+    account_ended c.args.job.now (c.args.task.stage - 1) c.args.task.index world.partition.size c.args.start.now c.args.every (g.G.Gate.account end.gate) (g.G.Gate.shows end.gate) end.passes.partition.subpartitions.items sent (seen end.passes.last_image) takes c.apply_all-end.result.cause end.cause c.end_sender.ensures.cause
+    (subst (λ x. StageAccount c.args.job.now (c.args.task.stage - 1) c.args.task.index world.partition.size c.args.start.now c.args.every (g.G.Gate.account x) (g.G.Gate.shows x) end.passes.partition.subpartitions.items sent (seen end.passes.last_image) takes c.apply_all-end.result.cause) (sym c.end_sender.ensures.gate)
     (account_of_same out after world.partition.size c.args.start.now (g.G.Gate.account c.apply_all-end.new.gate) (g.G.Gate.shows c.apply_all-end.new.gate) end.passes.partition.subpartitions.items sent (seen end.passes.last_image) takes c.apply_all-end.result c.apply_all-end.ensures.same
     (c.apply_all-end.ensures.same.writer.size ∙ ap (λ (w : Writer). w.size) c.new-in-Ok-new.ensures.writer.0 ∙ c.in-Ok-new.ensures.is_of.0.size)
     (same_start world.acks after.acks c.apply_all-end.ensures.same.acks ∙ ap (λ (o : Opening). o.start) c.requires.lent.opening)
@@ -107,12 +101,12 @@ pub returns-in-Err-clause-account : goal.returns-in-Err-clause-account
 returns-in-Err-clause-account g c =
     let world = c.args.world in
     let end = c.end_task-in-Err.result in
-    account_ended c.args.job.now c.args.edge c.args.index world.partition.size c.args.start.now c.args.every (g.G.Gate.account end.gate) (g.G.Gate.shows end.gate) end.passes.partition.subpartitions.items (sent_by end.passes.snapshots) (seen end.passes.last_image) end.takes.items causes.Memory end.cause c.end_task-in-Err.ensures.cause
-    (unbegun c.args.job.now c.args.edge c.args.index world.partition.size c.args.start.now c.args.every (g.G.Gate.account end.gate) (g.G.Gate.shows end.gate) end.passes.partition.subpartitions.items (sent_by end.passes.snapshots) (seen end.passes.last_image) end.takes.items
+    account_ended c.args.job.now (c.args.task.stage - 1) c.args.task.index world.partition.size c.args.start.now c.args.every (g.G.Gate.account end.gate) (g.G.Gate.shows end.gate) end.passes.partition.subpartitions.items (sent_by end.passes.snapshots) (seen end.passes.last_image) end.takes.items causes.Memory end.cause c.end_task-in-Err.ensures.cause
+    (unbegun c.args.job.now (c.args.task.stage - 1) c.args.task.index world.partition.size c.args.start.now c.args.every (g.G.Gate.account end.gate) (g.G.Gate.shows end.gate) end.passes.partition.subpartitions.items (sent_by end.passes.snapshots) (seen end.passes.last_image) end.takes.items
     (subst (λ x. IsNew (λ c. []) (g.G.Gate.account x)) (sym c.end_task-in-Err.ensures.gate) c.requires.task.gate_new)
     (subst (λ (p : PartitionPasses). AreNew p.subpartitions.items) (sym (c.end_task-in-Err.ensures.partition ∙ c.in-Err.ensures.refused.0)) c.requires.partition.new)
     (ap sent_by c.end_task-in-Err.ensures.passes.0 ∙ c.requires.lent.fresh)
-    (ap (λ (l : Items TakeRun). l.items) c.end_task-in-Err.ensures.takes ∙ none_noted c.in-Ok.taking c.args.job.now c.args.edge c.args.index c.into_runs-takes.result.items c.in-Ok.ensures.is c.into_runs-takes.ensures))
+    (ap (λ (l : Items TakeRun). l.items) c.end_task-in-Err.ensures.takes ∙ none_noted c.in-Ok.taking c.args.job.now (c.args.task.stage - 1) c.args.task.index c.into_runs-takes.result.items c.in-Ok.ensures.is c.into_runs-takes.ensures))
 
 pub returns-in-Err-clause-acks : goal.returns-in-Err-clause-acks
 returns-in-Err-clause-acks g c =

@@ -68,7 +68,7 @@ module _ (job : Job) (is_job : IsJob job) (one : tasks job 0 ≡ 1) (counted : G
       let start = starts job in
       let images = ends.stored.images in
       let kept : after ≡ map kept_of images = ap (λ o. unwrap_or {T = List KeptImage} o []) ends.stored.kept in
-      let number = counts job (made_lines many seed) (Some 100000) start.0 images is_job start.1 (ends.stored.chain start.0 start.1) (ap (λ (i : Image). i.final_one) (ends.last_is start.0) ∙ ends.final) in
+      let number = counts job (made_lines many seed) (Some 100000) start.0 images is_job start.1 (ends.stored.chain start.0 start.1) (ap (λ (i : Image). i.final_one) (ends.last_is start.0 start.1) ∙ ends.final) in
       let longest = ap (λ n. most_below n (λ a. length (made_lines many seed a))) one in
       let each = counted seed many in
       let most : most_lines job (made_lines many seed) ≡ many = omega (arith, longest, each) in

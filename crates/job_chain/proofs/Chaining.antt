@@ -11,19 +11,16 @@ use Rattle.flow_defs.specs.declared.job.Job.{Job}
 use Rattle.flow_defs.specs.declared.parcel.Parcel.{Parcel}
 use Rattle.flow_defs.specs.Jobs.{last_edge, tasks, exchange, is_channel}
 use Rattle.flow_defs.specs.Tables.{add_all}
-use Rattle.plain_machine.specs.Chains.{IsUnchanged}
 use Rattle.plain_machine.specs.Histories.{of_sender, records}
 use Rattle.plain_machine.specs.Images.{saved}
 use Rattle.plain_machine.proofs.StartLemmas.{saved_at_start}
-use Rattle.job_start.specs.declared.start.Start.{Start}
-use Rattle.job_start.specs.Starts.{IsBase, from_of}
+use Rattle.job_start.specs.Starts.{from_of}
 use Rattle.checkpoint_laws.specs.Chapters as told
 use Rattle.checkpoint_laws.specs.Chapters.{Chapter, Linked, OffsetGoesOn, Emits, Step, applied, opening, shown}
 use Rattle.checkpoint_laws.specs.Puts.{stretches}
 use Rattle.checkpoint_laws.specs.Runs.{took_before}
 use Rattle.checkpoint_laws.proofs.Told as chains
 use Rattle.conn_parts.specs.Shares.{mine_at, seen_at}
-use Rattle.record_writer.specs.Writers.{SendPass}
 use Rattle.subpartition.specs.declared.entry.SendEntry.{SendEntry}
 use Rattle.subpartition.specs.Sending.{parcels_put}
 use Rattle.input_channel.specs.declared.entry.ReceiveEntry.{ReceiveEntry}
@@ -35,13 +32,12 @@ use Rattle.channel_cut.specs.Takings.{taken_to}
 use Rattle.channel_cut.proofs.Taking.{taken_in_chapters}
 use Rattle.gate_account.specs.Accounts.{Account}
 use Rattle.input_gate.specs.States.{shows_at}
-use Rattle.input_gate.specs.Turning.{InputPass}
 use Rattle.task_output.specs.Outputs.{parcels_to, place_to}
 use Rattle.task_taking.specs.Takings.{Gave}
 use Rattle.source_task.specs.Accounts.{SourceHasAccount}
 use Rattle.stage_task.specs.Accounts.{StageHasAccount}
 use Rattle.aggregate_task.specs.Accounts.{AggregateHasAccount}
-use Rattle.job_chain.specs.Ran.{HasNoneInFlight, StartIsStill, JobRan, RanIsChain, RanEndsInWorth, RanEndsInTally, lines_of}
+use Rattle.job_chain.specs.Ran.{TasksRan, JobRan, IsRunBase, StartIsRunBase, RanIsChain, RanEndsInWorth, lines_of}
 use Rattle.job_chain.proofs.Tasks.{source_none, stage_none, aggregate_none, way_is, lane_is}
 
 -- ---- where a task goes on from
@@ -78,8 +74,10 @@ pub record Laws : Type 0 where
   pub aggregate : AggregateHasAccount
   pub begins : StartIsFrom
 
-module _ (laws : Laws) (job : Job) (size : ℕ) (start : Start) (every : Option ℕ) (bytes : ℕ → List ℕ) (base : Image) (own : ℕ → ℕ → List SendPass) (gate : ℕ → ℕ → List InputPass) (sent : ℕ → ℕ → List Snapshot) (images : List Image)
-    (is_base : IsBase job start base) (still : HasNoneInFlight job base) (same : IsUnchanged job (lines_of bytes) base) (ran : JobRan job size start every bytes base own gate sent images) where
+module _ (laws : Laws) (all : TasksRan) (base : Image) (images : List Image) (may : IsRunBase all.job all.start (lines_of all.bytes) base) (ran : JobRan all base images) where
+  open all use {job, size, start, every, bytes, own, gate, sent}
+  open may use {is_base, still, unchanged}
+
   abbrev parcels : ℕ → ℕ → ℕ → List Parcel
   parcels i a b = parcels_to job i (own i a) b
 
@@ -108,7 +106,7 @@ module _ (laws : Laws) (job : Job) (size : ℕ) (start : Start) (every : Option 
   of_source : (a : ℕ) → a < tasks job 0 → TellsOf 0 a
   of_source a inside =
       let did = ran.sources a inside in
-      let has = laws.source job (lines_of bytes) start base a size every (own 0 a) (sent 0 a) did.history (bytes a) did.fell did.rose did.cause is_base same inside refl did.account in
+      let has = laws.source job (lines_of bytes) start base a size every (own 0 a) (sent 0 a) did.history (bytes a) did.fell did.rose did.cause is_base unchanged inside refl did.account in
       (has.0, has.1, record { account = has.2; gave = λ e is. absurd (omega (arith, is)); no_flight = source_none a every _ _ _ did.account.groups (sent 0 a) did.account.snapshots })
 
   behind : {e f : ℕ} → suc e ≡ suc f → e ≡ f
@@ -258,18 +256,17 @@ module _ (laws : Laws) (job : Job) (size : ℕ) (start : Start) (every : Option 
 
 -- ---- what comes of it
 
-pub start_is_still : chains.Laws → StartIsStill
-start_is_still laws job lines base start = (λ e a b channel. saved_at_start job base start e a b, chains.unchanged_at_start laws job lines base start)
+pub start_is_run_base : chains.Laws → StartIsRunBase
+start_is_run_base laws job start lines base begins is = record {
+  is_base = is;
+  still = λ e a b channel. saved_at_start job base begins e a b;
+  unchanged = chains.unchanged_at_start laws job lines base begins;
+}
 
 pub ran_is_chain : Laws → cuts.RanIsChain → RanIsChain
-ran_is_chain laws chain job size start every bytes base own gate sent images positive is_base still same ran =
-    chain job (lines_of bytes) every base images sent _ _ positive is_base.fits same (told_run laws job size start every bytes base own gate sent images is_base still same ran)
+ran_is_chain laws chain all base images positive may ran =
+    chain all.job (lines_of all.bytes) all.every base images all.sent _ _ positive may.is_base.fits may.unchanged (told_run laws all base images may ran)
 
 pub ran_ends_in_worth : Laws → cuts.RanEndsInWorth → RanEndsInWorth
-ran_ends_in_worth laws ends job size start every bytes base own gate sent images is positive is_base still same ran last =
-    ends job (lines_of bytes) every base images sent _ _ is positive is_base.fits same (told_run laws job size start every bytes base own gate sent images is_base still same ran) last
-
-pub ran_ends_in_tally : Laws → StartIsStill → cuts.RanEndsInTally → RanEndsInTally
-ran_ends_in_tally laws still ends job size start every bytes base own gate sent images is positive begins is_base ran last =
-    let at_start = still job (lines_of bytes) base begins in
-    ends job (lines_of bytes) every base images sent _ _ is positive begins (told_run laws job size start every bytes base own gate sent images is_base at_start.0 at_start.1 ran) last
+ran_ends_in_worth laws ends all base images is positive may ran last =
+    ends all.job (lines_of all.bytes) all.every base images all.sent _ _ is positive may.is_base.fits may.unchanged (told_run laws all base images may ran) last

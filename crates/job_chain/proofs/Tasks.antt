@@ -1,19 +1,12 @@
 -- What is known of the snapshots and the channels of tasks.
-use Rattle.std.proofs.Common.{◌≡◌, ℕ, zero, suc, ◌+◌, ◌<◌, Bool, false, List, [], ◌∷◌, length, get_or, Option, refl, ap, subst, ◌∙◌, arith}
-use Rattle.std.specs.Prelude.{Contains, slice_get, slice_index, unwrap_or}
-use Rattle.std.proofs.lemmas.List.Elements.{recursion_from_All}
+use Rattle.std.proofs.Common.{◌≡◌, ℕ, zero, suc, ◌+◌, ◌<◌, List, [], ◌∷◌, length, get_or, Option, subst, arith}
+use Rattle.std.specs.Prelude.{Contains}
 use Rattle.std.specs.List.{AllByRecursion}
-use Rattle.flow_defs.specs.declared.image.Image.{Image}
 use Rattle.flow_defs.specs.declared.image.Snapshot.{Snapshot}
 use Rattle.flow_defs.specs.declared.job.Exchange.{Exchange}
 use Rattle.flow_defs.specs.declared.job.Exchange.TheVariants.{Hash, Rebalance, Forward}
 use Rattle.flow_defs.specs.declared.job.Job.{Job}
-use Rattle.flow_defs.specs.Jobs.{tasks}
 use Rattle.flow_defs.specs.Tables.{Values}
-use Rattle.plain_machine.specs.Images.{IsStart}
-use Rattle.plain_machine.proofs.StartLemmas.{start_is_start}
-use Rattle.job_start.specs.declared.start.Start.{Start}
-use Rattle.job_start.specs.Starts.{IsBase, from_of, was_ended}
 use Rattle.plain_machine.specs.Emitting.{count_after}
 use Rattle.checkpoint_laws.specs.Chapters.{applied}
 use Rattle.record_writer.specs.Writers.{ways, receiver_at, sender_at}
@@ -52,20 +45,6 @@ aggregate_none job b k table [] [] are = tt
 aggregate_none job b k table [] (x ∷ xs) are = absurd are
 aggregate_none job b k table (g ∷ groups) [] are = absurd are
 aggregate_none job b k table (g ∷ groups) (x ∷ xs) are = ((are.0.is_with.none_in, are.0.is_with.none_out), aggregate_none job b (suc k) (aggregate.table_with job table g) groups xs are.1)
-
--- ---- at the start of a job sources go on from their first line
-
-none_ended : (xs : List Bool) (a : ℕ) → AllByRecursion (λ (t : Bool). t ≡ false) xs → unwrap_or (slice_get xs a) false ≡ false
-none_ended [] a all = refl
-none_ended (x ∷ xs) zero all = all.0
-none_ended (x ∷ xs) (suc a) all = none_ended xs a all.1
-
-pub from_first : (job : Job) (start : Start) (base : Image) (a : ℕ) → IsStart job base → IsBase job start base → a < tasks job 0 →
-    ((from_of job start 0 a).offset ≡ 0) × (was_ended start a ≡ false)
-from_first job start base a begins is low = (
-  ap (λ (xs : List ℕ). slice_index xs a) is.at.offsets ∙ (start_is_start job base begins).offsets a low,
-  ap (λ (xs : List Bool). unwrap_or (slice_get xs a) false) is.at.ended ∙ none_ended base.ended.items a (recursion_from_All (λ (t : Bool). t ≡ false) base.ended.items begins.ended),
-)
 
 -- ---- the channel to a task is at its place, and that from a task
 

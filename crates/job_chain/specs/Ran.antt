@@ -11,7 +11,7 @@ use Rattle.flow_defs.specs.declared.job.Job.{Job}
 use Rattle.flow_defs.specs.Jobs.{last_edge, tasks, exchange, is_channel, IsJob}
 use Rattle.flow_defs.specs.Lines.{lines}
 use Rattle.flow_defs.specs.Tables.{join}
-use Rattle.plain_machine.specs.Worth.{tally, worth}
+use Rattle.plain_machine.specs.Worth.{worth}
 use Rattle.plain_machine.specs.Images.{saved, cut_of, IsStart}
 use Rattle.plain_machine.specs.Chains.{Chain, last_of, IsUnchanged}
 use Rattle.job_start.specs.declared.start.Start.{Start}
@@ -73,15 +73,26 @@ pub record EndsAt (job : Job) (e a b : ℕ) (own : List SendPass) (gate : List I
 
 -- ---- the run
 
--- All workers of a job, by stage and task, which went on from here, where these are the bytes of its sources, the passes by which the tasks
--- sent and those of their gates, the snapshots that they sent, and the images that were stored behind the base.
-pub record JobRan (job : Job) (size : ℕ) (start : Start) (every : Option ℕ) (bytes : ℕ → List ℕ) (base : Image) (own : ℕ → ℕ → List SendPass) (gate : ℕ → ℕ → List InputPass) (sent : ℕ → ℕ → List Snapshot) (images : List Image) : Type 0 where
-  pub sources : (a : ℕ) → a < tasks job 0 → SourceDid job a size start every (bytes a) (own 0 a) (sent 0 a)
-  pub stages : (e b : ℕ) → e < last_edge job → b < tasks job (suc e) → StageDid job e b size start every (gate e b) (own (suc e) b) (sent (suc e) b)
-  pub aggregates : (b : ℕ) → b < tasks job (suc (last_edge job)) → AggregateDid job b start every (gate (last_edge job) b) (sent (suc (last_edge job)) b)
-  pub channels : (e a b : ℕ) → is_channel job e a b ≡ true → EndsAt job e a b (own e a) (gate e b)
+-- What is told of the tasks of a job, by stage and task: from where they went on, the bytes of its sources, the passes by which the tasks sent
+-- and those of their gates, and the snapshots that they sent.
+pub record TasksRan : Type 0 where
+  pub job : Job
+  pub size : ℕ
+  pub start : Start
+  pub every : Option ℕ
+  pub bytes : ℕ → List ℕ
+  pub own : ℕ → ℕ → List SendPass
+  pub gate : ℕ → ℕ → List InputPass
+  pub sent : ℕ → ℕ → List Snapshot
+
+-- All workers of a job ran so, and these images were stored behind the base.
+pub record JobRan (all : TasksRan) (base : Image) (images : List Image) : Type 0 where
+  pub sources : (a : ℕ) → a < tasks all.job 0 → SourceDid all.job a all.size all.start all.every (all.bytes a) (all.own 0 a) (all.sent 0 a)
+  pub stages : (e b : ℕ) → e < last_edge all.job → b < tasks all.job (suc e) → StageDid all.job e b all.size all.start all.every (all.gate e b) (all.own (suc e) b) (all.sent (suc e) b)
+  pub aggregates : (b : ℕ) → b < tasks all.job (suc (last_edge all.job)) → AggregateDid all.job b all.start all.every (all.gate (last_edge all.job) b) (all.sent (suc (last_edge all.job)) b)
+  pub channels : (e a b : ℕ) → is_channel all.job e a b ≡ true → EndsAt all.job e a b (all.own e a) (all.gate e b)
   pub snapshot : ℕ → ℕ → ℕ → Snapshot
-  pub collected : AreCollected job every base images sent snapshot
+  pub collected : AreCollected all.job all.every base images all.sent snapshot
 
 -- The lines of the sources.
 abbrev pub lines_of : (ℕ → List ℕ) → ℕ → List (List ℕ)
@@ -93,30 +104,27 @@ lines_of bytes a = lines (bytes a)
 abbrev pub HasNoneInFlight : Job → Image → Type 0
 HasNoneInFlight job image = (e a b : ℕ) → is_channel job e a b ≡ true → saved job image e a b ≡ []
 
--- So it is at the start of a job, and no source has changed since.
-abbrev pub StartIsStill : Type 0
-StartIsStill = (job : Job) (lines : ℕ → List (List ℕ)) (base : Image) → IsStart job base → HasNoneInFlight job base × IsUnchanged job lines base
+-- A run may go on from this image: nothing is in flight there, and no source has changed since.
+pub record IsRunBase (job : Job) (start : Start) (lines : ℕ → List (List ℕ)) (base : Image) : Type 0 where
+  pub is_base : IsBase job start base
+  pub still : HasNoneInFlight job base
+  pub unchanged : IsUnchanged job lines base
+
+-- So it is at the start of a job.
+abbrev pub StartIsRunBase : Type 0
+StartIsRunBase = (job : Job) (start : Start) (lines : ℕ → List (List ℕ)) (base : Image) → IsStart job base → IsBase job start base → IsRunBase job start lines base
 
 -- ---- what comes of it
 
 -- The images are a chain, whatever the causes with which the workers ended,
 abbrev pub RanIsChain : Type 0
 RanIsChain =
-    (job : Job) (size : ℕ) (start : Start) (every : Option ℕ) (bytes : ℕ → List ℕ) (base : Image) (own : ℕ → ℕ → List SendPass) (gate : ℕ → ℕ → List InputPass) (sent : ℕ → ℕ → List Snapshot) (images : List Image) →
-    IsInterval every → IsBase job start base → HasNoneInFlight job base → IsUnchanged job (lines_of bytes) base →
-    JobRan job size start every bytes base own gate sent images → Chain job (lines_of bytes) every base images
+    (ran : TasksRan) (base : Image) (images : List Image) → IsInterval ran.every → IsRunBase ran.job ran.start (lines_of ran.bytes) base →
+    JobRan ran base images → Chain ran.job (lines_of ran.bytes) ran.every base images
 
--- and where the last one is marked so, its tables joined are what the base is worth,
+-- and where the last one is marked so, its tables joined are what the base is worth.
 abbrev pub RanEndsInWorth : Type 0
 RanEndsInWorth =
-    (job : Job) (size : ℕ) (start : Start) (every : Option ℕ) (bytes : ℕ → List ℕ) (base : Image) (own : ℕ → ℕ → List SendPass) (gate : ℕ → ℕ → List InputPass) (sent : ℕ → ℕ → List Snapshot) (images : List Image) →
-    IsJob job → IsInterval every → IsBase job start base → HasNoneInFlight job base → IsUnchanged job (lines_of bytes) base →
-    JobRan job size start every bytes base own gate sent images →
-    (last_of base images).final_one ≡ true → join job.agg (last_of base images).tables.items ≡ worth job (lines_of bytes) (cut_of job base)
-
--- and from the start of the job on the tally of all lines.
-abbrev pub RanEndsInTally : Type 0
-RanEndsInTally =
-    (job : Job) (size : ℕ) (start : Start) (every : Option ℕ) (bytes : ℕ → List ℕ) (base : Image) (own : ℕ → ℕ → List SendPass) (gate : ℕ → ℕ → List InputPass) (sent : ℕ → ℕ → List Snapshot) (images : List Image) →
-    IsJob job → IsInterval every → IsStart job base → IsBase job start base → JobRan job size start every bytes base own gate sent images →
-    (last_of base images).final_one ≡ true → join job.agg (last_of base images).tables.items ≡ tally job (lines_of bytes)
+    (ran : TasksRan) (base : Image) (images : List Image) → IsJob ran.job → IsInterval ran.every → IsRunBase ran.job ran.start (lines_of ran.bytes) base →
+    JobRan ran base images → (last_of base images).final_one ≡ true →
+    join ran.job.agg (last_of base images).tables.items ≡ worth ran.job (lines_of ran.bytes) (cut_of ran.job base)

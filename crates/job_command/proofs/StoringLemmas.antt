@@ -43,7 +43,7 @@ module _ (job other : Job) (same : work_of job ≡ work_of other) where
   ends_too lines every before after table e = record {
     stored = stored_too lines every before after e.stored;
     last = e.last;
-    last_is = e.last_is;
+    last_is = λ base start. e.last_is base (start_too other job (sym same) base start);
     final = e.final;
     table_is = subst (λ (w : Work). table ≡ join w.agg e.last.tables.items) same e.table_is;
   }

@@ -11,16 +11,12 @@ use Rattle.flow_defs.specs.declared.image.Snapshot.{Snapshot}
 use Rattle.flow_defs.specs.declared.job.Job.{Job}
 use Rattle.flow_defs.specs.Jobs.{last_edge, tasks}
 use Rattle.plain_machine.specs.Chains.{Chain}
-use Rattle.plain_machine.specs.Images.{IsStart}
-use Rattle.plain_machine.specs.Theorems.{StartExists}
 use Rattle.plain_machine.proofs.Channels.{ends_of}
 use Rattle.plain_machine.specs.Spelling.{CanSpell}
 use Rattle.job_start.specs.declared.start.Start.{Start}
 use Rattle.checkpoint_laws.specs.Chapters.{task_at}
 use Rattle.checkpoint_laws.specs.Collecting.{Collected, piece}
 use Rattle.checkpoint_laws.specs.Runs.{IsInterval}
-use Rattle.record_writer.specs.Writers.{SendPass}
-use Rattle.input_gate.specs.Turning.{InputPass}
 use Rattle.snapshot_channel.specs.Passes.{received_by}
 use Rattle.snapshot_channel.specs.Snapshots.{IsBeginning, snapshots_of}
 use Rattle.collector.specs.Faults.{IsNothingSaved}
@@ -30,15 +26,15 @@ use Rattle.collecting_worker.specs.Images.{IsMadeFrom, IsNext}
 use Rattle.collecting_worker.specs.Laws.{AreCollected, StoredAreCollected}
 use Rattle.collecting_worker.proofs.Going.{all_more, linked_more}
 use Rattle.collecting_worker.proofs.Told.{made_are_collected, sent_it}
-use Rattle.job_chain.specs.Ran.{JobRan, RanIsChain, HasNoneInFlight, StartIsStill}
+use Rattle.job_chain.specs.Ran.{TasksRan, JobRan, RanIsChain, HasNoneInFlight}
 use Rattle.job_chain.proofs.Tasks.{contained, source_none, stage_none, aggregate_none}
 use Rattle.job_workers.specs.declared.collecting.CollectTask.{CollectTask}
 use Rattle.job_workers.specs.declared.place.Place.{Place}
 use Rattle.job_workers.specs.declared.place.Place.TheVariants.{Ended}
 use Rattle.job_ends.specs.Ended.{own_at, gate_at, snapshots_at}
 use Rattle.job_outcome.specs.Outcomes.{AreTold}
-use Rattle.job_outcome.specs.Storing.{HasStored, IsTooLarge}
-use Rattle.job_outcome.specs.Theorems.{HaveRun, Run, start_of, AreSettledWith, StoredImagesAreChain, KeeperGotImages}
+use Rattle.job_outcome.specs.Storing.{StoredFrom, TooLargeFrom}
+use Rattle.job_outcome.specs.Theorems.{HaveRun, Run, start_of, bases_of, AreSettledWith, StoredImagesAreChain, KeeperGotImages}
 use Rattle.job_outcome.specs.Words.{WorldWords}
 use Rattle.job_outcome.proofs.Jobs.{source_did, stage_did, aggregate_did}
 
@@ -57,9 +53,9 @@ none_of_both xs ys e f = ap (λ (l : List ℕ). l ++ ys) e ∙ f
 abbrev NoneIn : Snapshot → Type 0
 NoneIn x = (x.saved_in.items ≡ []) × (x.saved_out.items ≡ [])
 
-module _ {job : Job} {size : ℕ} {start : Start} {every : Option ℕ} {bytes : ℕ → List ℕ} {base : Image}
-    {own : ℕ → ℕ → List SendPass} {gate : ℕ → ℕ → List InputPass} {sent : ℕ → ℕ → List Snapshot} {images : List Image}
-    (ran : JobRan job size start every bytes base own gate sent images) where
+module _ {all : TasksRan} {base : Image} {images : List Image} (ran : JobRan all base images) where
+  open all use {job, every, sent}
+
   -- Each task sent snapshots with nothing in flight,
   none_behind : (e b : ℕ) → e ≤ last_edge job → b < tasks job (suc e) → AllByRecursion NoneIn (sent (suc e) b)
   none_behind e b low inside = elim (cases_lt e (last_edge job)) [
@@ -106,8 +102,21 @@ interval_of every h n is = subst (λ (o : Option ℕ). IfSome o (λ (m : ℕ). 1
 pub same_end : (place : Place CollectTask CollectEnd) (x y : CollectEnd) → place ≡ Ended x → place ≡ Ended y → x ≡ y
 same_end place x y e f = cc
 
+-- What is told of the tasks of a run over these bytes.
+abbrev pub tasks_ran : {S O I : Type 0} → Run S O I → (ℕ → List ℕ) → TasksRan
+tasks_ran run bytes = record {
+  job = run.job;
+  size = run.size;
+  start = start_of run.snapshots;
+  every = run.every;
+  bytes = bytes;
+  own = own_at run.rows;
+  gate = gate_at run.rows;
+  sent = snapshots_at run.rows;
+}
+
 module _ {S O I L N : Type 0} {words : WorldWords S O I L N} {run : Run S O I} (ran : HaveRun words run) where
-  open run use {job, size, every, snapshots, inputs, before, after, fell, rose, rows, collected}
+  open run use {job, every, snapshots, inputs, before, after, fell, rose, rows, collected}
 
   module _ (end : CollectEnd) (is : collected ≡ Ended end) where
     -- The account of the worker that collected, of this job and interval.
@@ -127,12 +136,13 @@ module _ {S O I L N : Type 0} {words : WorldWords S O I L N} {run : Run S O I} (
       beginnings : (i a : ℕ) → i ≤ suc (last_edge job) → a < tasks job i → IsBeginning (snapshots_of (task_at i a) (received_by end.collecting)) (snapshots_at rows i a)
       beginnings i a stage low = settled.received i a (omega (arith, stage)) low
 
-      -- What all workers did, where these images are collected behind a start.
-      abbrev AllDid : Image → List Image → Type 0
-      AllDid base = JobRan job size (start_of snapshots) every bytes base (own_at rows) (gate_at rows) (snapshots_at rows)
+      -- From here the run may go on.
+      abbrev Bases : Image → Type 0
+      Bases = bases_of run bytes
 
+      -- All workers ran so, where these images are collected behind one.
       ran_behind : (base : Image) (images : List Image) →
-          ((snapshot : ℕ → ℕ → ℕ → Snapshot) × AreCollected job every base images (snapshots_at rows) snapshot) → AllDid base images
+          ((snapshot : ℕ → ℕ → ℕ → Snapshot) × AreCollected job every base images (snapshots_at rows) snapshot) → JobRan (tasks_ran run bytes) base images
       ran_behind base images c = record {
         sources = λ a low. (source_did ran bytes told a low).0;
         stages = stage_did ran;
@@ -143,42 +153,39 @@ module _ {S O I L N : Type 0} {words : WorldWords S O I L N} {run : Run S O I} (
       }
 
       -- So the images are a chain.
-      chain_of : StartIsStill → RanIsChain → (base : Image) (images : List Image) → IsStart job base → AllDid base images → Chain job (λ a. lines (bytes a)) every base images
-      chain_of stills chains base images start did =
-          let chain = chains job size (start_of snapshots) every bytes base (own_at rows) (gate_at rows) (snapshots_at rows) in
-          let still = stills job (λ a. lines (bytes a)) base start in
-          chain images (interval_of every ran.interval) (ran.begins base start) still.0 still.1 did
+      chain_of : RanIsChain → (base : Image) (images : List Image) → Bases base → JobRan (tasks_ran run bytes) base images → Chain job (λ a. lines (bytes a)) every base images
+      chain_of chains base images may did = chains (tasks_ran run bytes) base images (interval_of every ran.interval) may did
 
       module _ (collects : StoredAreCollected) where
         -- What all workers did.
-        pub job_ran : (base : Image) → IsStart job base → AllDid base account_of.images
-        job_ran base start =
+        pub job_ran : (base : Image) → Bases base → JobRan (tasks_ran run bytes) base account_of.images
+        job_ran base may =
             let collected_are = collects job (start_of snapshots) every base (received_by end.collecting) before after (mine end.last_pass) account_of.images in
-            ran_behind base account_of.images (collected_are (snapshots_at rows) (ran.begins base start) account_of.stored beginnings)
+            ran_behind base account_of.images (collected_are (snapshots_at rows) may.is_base account_of.stored beginnings)
 
-        has_stored : StartExists → StartIsStill → RanIsChain → HasStored job (λ a. lines (bytes a)) every before after
-        has_stored starts stills chains = record {
+        has_stored : RanIsChain → (base : Image) → Bases base → StoredFrom Bases job (λ a. lines (bytes a)) every before after
+        has_stored chains base may = record {
           images = account_of.images;
           kept = account_of.stored.kept;
-          chain = λ base start. chain_of stills chains base account_of.images start (job_ran base start);
-          still = let first = starts job in still (job_ran first.0 first.1);
+          chain = λ first first_may. chain_of chains first account_of.images first_may (job_ran first first_may);
+          still = still (job_ran base may);
           spelled = account_of.stored.spelled;
           readable = account_of.stored.readable;
         }
 
         -- The image that is next behind those that were stored is of the chain with them.
         module _ (image : Image) (next : IsNext job (start_of snapshots) every (received_by end.collecting) account_of.images image) where
-          none_of_task : (base : Image) → IsStart job base → (i a : ℕ) → i ≤ suc (last_edge job) → a < tasks job i → NoneIn (next.made.snapshot i a)
-          none_of_task base start i a stage low =
-              contained NoneIn (snapshots_at rows i a) (next.made.snapshot i a) (none_sent (job_ran base start) i a stage low)
+          none_of_task : (base : Image) → Bases base → (i a : ℕ) → i ≤ suc (last_edge job) → a < tasks job i → NoneIn (next.made.snapshot i a)
+          none_of_task base may i a stage low =
+              contained NoneIn (snapshots_at rows i a) (next.made.snapshot i a) (none_sent (job_ran base may) i a stage low)
               (sent_it (received_by end.collecting) (snapshots_at rows i a) i a image.number (next.made.snapshot i a) (beginnings i a stage low) (next.made.each i a stage low))
 
-          nothing_saved : (base : Image) → IsStart job base → IsNothingSaved job image
-          nothing_saved base start = λ e a b channel.
+          nothing_saved : (base : Image) → Bases base → IsNothingSaved job image
+          nothing_saved base may = λ e a b channel.
               let ends = ends_of job e a b channel in
               let made = next.made.made in
-              let came = none_of_task base start (suc e) b (omega (arith, ends.edge)) ends.receiver in
-              let went = none_of_task base start e a (omega (arith, ends.edge)) ends.sender in
+              let came = none_of_task base may (suc e) b (omega (arith, ends.edge)) ends.receiver in
+              let went = none_of_task base may e a (omega (arith, ends.edge)) ends.sender in
               none_of_both _ _
               (made.saved_in e a b channel ∙ ap (λ (l : List Saved). piece e a b l) came.0)
               (made.saved_out e a b channel ∙ ap (λ (l : List Saved). piece e a b l) went.1)
@@ -187,36 +194,36 @@ module _ {S O I L N : Type 0} {words : WorldWords S O I L N} {run : Run S O I} (
           abbrev with_next : List Image
           with_next = account_of.images ++ image ∷ []
 
-          next_collected : (base : Image) → IsStart job base →
+          next_collected : (base : Image) → Bases base →
               (snapshot : ℕ → ℕ → ℕ → Snapshot) × AreCollected job every base with_next (snapshots_at rows) snapshot
-          next_collected base start =
+          next_collected base may =
               let collected_are = made_are_collected job every base (received_by end.collecting) with_next (snapshots_at rows) in
               collected_are
               (all_more (IsMadeFrom job (received_by end.collecting)) account_of.images image account_of.stored.made next.made)
-              (linked_more (Collected job every) base image account_of.images (account_of.stored.collected base (ran.begins base start))
-              (next.collected (λ final. nothing_saved base start) base (ran.begins base start))) beginnings
+              (linked_more (Collected job every) base image account_of.images (account_of.stored.collected base may.is_base)
+              (next.collected (λ final. nothing_saved base may) base may.is_base)) beginnings
 
-          pub too_large : StartIsStill → RanIsChain → (CanSpell image → ⊥) → IsTooLarge job (λ a. lines (bytes a)) every before after
-          too_large stills chains large = record {
+          pub too_large : RanIsChain → (CanSpell image → ⊥) → TooLargeFrom Bases job (λ a. lines (bytes a)) every before after
+          too_large chains large = record {
             images = account_of.images;
             kept = account_of.stored.kept;
             image = image;
-            chain = λ base start. chain_of stills chains base with_next start (ran_behind base with_next (next_collected base start));
+            chain = λ base may. chain_of chains base with_next may (ran_behind base with_next (next_collected base may));
             large = large;
           }
 
   -- The images that were stored, of which the worker that collected left the last one.
-  pub stored_by : StartExists → StartIsStill → StoredAreCollected → RanIsChain → (end : CollectEnd) (bytes : ℕ → List ℕ) → collected ≡ Ended end →
+  pub stored_by : StoredAreCollected → RanIsChain → (end : CollectEnd) (bytes : ℕ → List ℕ) (base : Image) → bases_of run bytes base → collected ≡ Ended end →
       AreTold words.left inputs bytes → AreSettledWith job rows end →
-      (stored : HasStored job (λ a. lines (bytes a)) every before after) × (end.last ≡ last_or None stored.images)
+      (stored : StoredFrom (bases_of run bytes) job (λ a. lines (bytes a)) every before after) × (end.last ≡ last_or None stored.images)
   unfolding has_stored
-  stored_by starts stills collects chains end bytes is told settled = (has_stored end is bytes told settled collects starts stills chains, (account_of end is).last_is)
+  stored_by collects chains end bytes base may is told settled = (has_stored end is bytes told settled collects chains base may, (account_of end is).last_is)
 
 -- ---- the laws
 
 module _ {S O I L N : Type 0} (words : WorldWords S O I L N) where
-  pub stored_images_are_chain : StartExists → StartIsStill → StoredAreCollected → RanIsChain → StoredImagesAreChain words
-  stored_images_are_chain starts stills collects chains run end bytes ran = stored_by ran starts stills collects chains end bytes
+  pub stored_images_are_chain : StoredAreCollected → RanIsChain → StoredImagesAreChain words
+  stored_images_are_chain collects chains run end bytes base ran = stored_by ran collects chains end bytes base
 
   pub keeper_got_images : KeeperGotImages words
   keeper_got_images run ran = ((ran.collector.account.images, ran.collector.account.stored.kept), ran.collector.account.never_falls)

@@ -29,7 +29,7 @@ use Rattle.collecting_worker.specs.Accounts.{IsCollectCause}
 use Rattle.collecting_worker.specs.Images.{IsNext}
 use Rattle.collecting_worker.specs.Laws.{StoredAreCollected}
 use Rattle.job_cells.specs.declared.edge.Edge.{Edge}
-use Rattle.job_chain.specs.Ran.{RanIsChain, StartIsStill}
+use Rattle.job_chain.specs.Ran.{RanIsChain}
 use Rattle.job_workers.specs.declared.connection.LoopLeft.TheVariants as did
 use Rattle.job_workers.specs.declared.place.Place.TheVariants.{Ended}
 use Rattle.job_workers.specs.declared.collecting.CollectTask.{CollectTask}
@@ -267,13 +267,13 @@ module _ {S O I L N : Type 0} {words : WorldWords S O I L N} {run : Run S O I} (
 
     -- ---- the worker that collects
 
-    module _ (stills : StartIsStill) (collects : StoredAreCollected) (chains : RanIsChain) where
+    module _ (collects : StoredAreCollected) (chains : RanIsChain) where
       -- The image that it could not spell.
       of_chain : (image : Image) → IsNext job (start_of snapshots) every (received_by ran.end.collecting) (account_of ran ran.end ran.end_is).images image → (CanSpell image → ⊥) → HasLargeImage words run
       of_chain image next large end bytes is told_are settled =
           let same = same_end collected end ran.end is ran.end_is in
           let large_one = too_large ran ran.end ran.end_is bytes told_are (subst (λ (x : CollectEnd). AreSettledWith job rows x) same settled) in
-          large_one collects image next stills chains large
+          large_one collects image next chains large
 
       abbrev CollectCause : Cause → Type 0
       CollectCause = IsCollectCause job (start_of snapshots) every (received_by ran.end.collecting) (account_of ran ran.end ran.end_is).images fell rose (seen ran.end.stop_pass)
@@ -305,5 +305,5 @@ module _ {S O I L N : Type 0} (words : WorldWords S O I L N) where
   pub inputs_come_back : InputsComeBack words
   inputs_come_back run ran = inputs_back ran
 
-  pub causes_have_grounds : StartIsStill → StoredAreCollected → RanIsChain → CausesHaveGrounds words
-  causes_have_grounds stills collects chains run after cause ran come many = by_any ran after come stills collects chains cause
+  pub causes_have_grounds : StoredAreCollected → RanIsChain → CausesHaveGrounds words
+  causes_have_grounds collects chains run after cause ran come many = by_any ran after come collects chains cause

@@ -2,7 +2,7 @@ pub mod Places
 mod Running
 mod Jobs
 mod Chaining
-mod Tallying
+mod Worth
 mod Ending
 mod OverCredits
 mod PeerGrounds

@@ -1,10 +1,11 @@
 -- Why workers ended, and what a run comes to. As in Flink the first failure of a task fails the job; that its status is that of the first
 -- entry of the stop cell is this project's own.
-use Rattle.std.specs.Prelude.{◌≡◌, ◌⊎◌, ℕ, ◌<◌, ◌≤◌, ⊤, List, length, slice_get, Option, Some, None, IfSome}
+use Rattle.std.specs.Prelude.{◌≡◌, ◌⊎◌, ℕ, ◌<◌, ◌≤◌, ⊤, false, List, length, drop, slice_get, slice_index, unwrap_or, Option, Some, None, IfSome}
 use Rattle.flow_defs.specs.Items.{Items}
 use Rattle.flow_defs.specs.declared.cause.Cause.{Cause}
 use Rattle.flow_defs.specs.declared.cause.Cause.TheVariants as causes
 use Rattle.flow_defs.specs.declared.cause.PeerFault.{PeerFault}
+use Rattle.flow_defs.specs.declared.image.Image.{Image}
 use Rattle.flow_defs.specs.declared.job.Job.{Job}
 use Rattle.flow_defs.specs.Jobs.{tasks}
 use Rattle.flow_defs.specs.Lines.{lines}
@@ -66,6 +67,11 @@ AreTold {S} left inputs bytes = (a : ℕ) (input : S) → slice_get inputs a ≡
 -- No source of the job is over a limit.
 abbrev pub AreWithin : Job → (ℕ → List ℕ) → Type 0
 AreWithin job bytes = (a : ℕ) → a < tasks job 0 → IsOverLimit (bytes a) → ⊥
+
+-- From this image on none is: a source that was not at its end there has at most so many bytes, and no line behind its offset is too long.
+abbrev pub AreWithinFrom : Job → Image → (ℕ → List ℕ) → Type 0
+AreWithinFrom job base bytes = (a : ℕ) → a < tasks job 0 → unwrap_or (slice_get base.ended.items a) false ≡ false →
+    (length (bytes a) ≤ source_max) × (HasLongLine (drop (slice_index base.offsets.items a) (lines (bytes a))) → ⊥)
 
 -- The inputs come back in order, and none has fewer faults.
 pub record ComeBack {S : Type 0} (faults : S → ℕ) (before after : List S) : Type 0 where

@@ -9,10 +9,9 @@ use Rattle.flow_defs.specs.Jobs.{IsJob, last_edge, tasks}
 use Rattle.flow_defs.specs.Lines.{lines}
 use Rattle.flow_defs.specs.Tables.{join}
 use Rattle.flow_defs.specs.declared.image.Image.{Image}
-use Rattle.plain_machine.specs.Worth.{tally}
-use Rattle.plain_machine.specs.Images.{IsStart}
+use Rattle.plain_machine.specs.Worth.{worth}
+use Rattle.plain_machine.specs.Images.{cut_of}
 use Rattle.job_start.specs.declared.start.Start.{Start}
-use Rattle.job_start.specs.Starts.{IsBase}
 use Rattle.outside.specs.declared.wires.Wire.{Wire}
 use Rattle.outside.specs.Links.{IsNewOut, IsNewIn, NeverFails}
 use Rattle.outside.specs.Keepers.{KeptImage}
@@ -22,6 +21,7 @@ use Rattle.snapshot_channel.specs.Passes.{opening_of, received_by}
 use Rattle.collecting_worker.specs.declared.world.CollectEnd.{CollectEnd}
 use Rattle.job_cells.specs.declared.edge.Edge.{Edge}
 use Rattle.job_cells.specs.Edges.{AreEdgesOf}
+use Rattle.job_chain.specs.Ran.{IsRunBase}
 use Rattle.job_workers.specs.declared.collecting.CollectTask.{CollectTask}
 use Rattle.job_workers.specs.declared.place.Place.{Place}
 use Rattle.job_workers.specs.declared.place.Place.TheVariants.{Ended}
@@ -34,8 +34,8 @@ use Rattle.job_deploy.specs.Deployed.{AreDeployed}
 use Rattle.job_ends.specs.Edges.{EdgeCarries}
 use Rattle.job_ends.specs.Ended.{TaskPlace, LoopPlace, left_at, own_at, gate_at, AreEnded, AreReceived, HasLinkFault, HaveAcknowledged}
 use Rattle.job_outcome.specs.Grounds.{HasPeerFault}
-use Rattle.job_outcome.specs.Outcomes.{AllDone, HasEnded, AreTold, AreWithin, IsRunCause}
-use Rattle.job_outcome.specs.Storing.{HasKept, HasStored, IsTooLarge}
+use Rattle.job_outcome.specs.Outcomes.{AllDone, HasEnded, AreTold, AreWithinFrom, IsRunCause}
+use Rattle.job_outcome.specs.Storing.{HasKept, StoredFrom, TooLargeFrom}
 use Rattle.job_outcome.specs.Words.{LinkWords, WorldWords}
 
 -- Each input was left by its task, with no fewer faults.
@@ -88,6 +88,10 @@ pub record Run (S O I : Type 0) : Type 0 where
   pub loops : List (Items (LoopPlace O I))
   pub collected : Place CollectTask CollectEnd
 
+-- The images from which it may go on over these bytes.
+abbrev pub bases_of : {S O I : Type 0} → Run S O I → (ℕ → List ℕ) → Image → Type 0
+bases_of run bytes = IsRunBase run.job (start_of run.snapshots) (λ a. lines (bytes a))
+
 -- The workers that were deployed for it stand in these places.
 abbrev pub AreWorkersOf : {S O I : Type 0} → Run S O I → List (Items (TaskPlace S)) → List (Items (LoopPlace O I)) → Type 0
 AreWorkersOf run = AreDeployed run.job run.size run.every run.snapshots run.edges run.inputs run.wires
@@ -109,7 +113,6 @@ module _ {S O I L N : Type 0} (words : WorldWords S O I L N) where
     pub loops_left : Pairs (λ (old new : Items (LoopPlace O I)). RowLeaves (LeftByLoop words.line words.sent words.of_out words.end_line words.got words.ended words.of_in) old.items new.items) loops_before run.loops
     pub task : CollectTask
     pub task_is : (task.world.job.now ≡ run.job) × (task.every ≡ run.every) × (task.world.snapshots.now ≡ run.snapshots) × (task.start.now ≡ start_of run.snapshots)
-    pub begins : (base : Image) → IsStart run.job base → IsBase run.job (start_of run.snapshots) base
     pub interval : IfSome run.every (λ n. 1 ≤ n)
     pub end : CollectEnd
     pub end_is : run.collected ≡ Ended end
@@ -125,19 +128,21 @@ module _ {S O I L N : Type 0} (words : WorldWords S O I L N) where
 
   -- Whatever the causes with which they ended, the images that were stored are a chain, and the one that was handed back is the last of them.
   abbrev pub StoredImagesAreChain : Type 0
-  StoredImagesAreChain = (run : Run S O I) (end : CollectEnd) (bytes : ℕ → List ℕ) → HaveRun run → run.collected ≡ Ended end →
-      AreTold words.left run.inputs bytes → AreSettledWith run.job run.rows end →
-      (stored : HasStored run.job (λ a. lines (bytes a)) run.every run.before run.after) × (end.last ≡ last_or None stored.images)
+  StoredImagesAreChain = (run : Run S O I) (end : CollectEnd) (bytes : ℕ → List ℕ) (base : Image) → HaveRun run → bases_of run bytes base →
+      run.collected ≡ Ended end → AreTold words.left run.inputs bytes → AreSettledWith run.job run.rows end →
+      (stored : StoredFrom (bases_of run bytes) run.job (λ a. lines (bytes a)) run.every run.before run.after) × (end.last ≡ last_or None stored.images)
 
   -- Without what is told: the images that the keeper told before stay, some come behind them, and its count of faults never falls.
   abbrev pub KeeperGotImages : Type 0
   KeeperGotImages = (run : Run S O I) → HaveRun run → ((images : List Image) × HasKept run.before run.after images) × (run.fell ≤ run.rose)
 
-  -- Where all are done, the last image is marked so, its tables joined are the tally of what the inputs told, and that is within its limits.
-  abbrev pub DoneWorkersTally : Type 0
-  DoneWorkersTally = (run : Run S O I) (end : CollectEnd) (bytes : ℕ → List ℕ) (image : Image) → HaveRun run → run.collected ≡ Ended end →
-      end.last ≡ Some image → AllDone run.rows run.loops run.collected → AreTold words.left run.inputs bytes → AreSettledWith run.job run.rows end →
-      (join run.job.agg image.tables.items ≡ tally run.job (λ a. lines (bytes a))) × AreWithin run.job bytes
+  -- Where all are done, the last image is marked so, its tables joined are what the base is worth over what the inputs told, and that is within
+  -- its limits from there on.
+  abbrev pub DoneWorkersHaveWorth : Type 0
+  DoneWorkersHaveWorth = (run : Run S O I) (end : CollectEnd) (bytes : ℕ → List ℕ) (base image : Image) → HaveRun run → bases_of run bytes base →
+      run.collected ≡ Ended end → end.last ≡ Some image → AllDone run.rows run.loops run.collected → AreTold words.left run.inputs bytes →
+      AreSettledWith run.job run.rows end →
+      (join run.job.agg image.tables.items ≡ worth run.job (λ a. lines (bytes a)) (cut_of run.job base)) × AreWithinFrom run.job base bytes
 
   -- Where the collecting worker is done, it has a last image.
   abbrev pub DoneCollectorHasLast : Type 0
@@ -150,7 +155,7 @@ module _ {S O I L N : Type 0} (words : WorldWords S O I L N) where
   -- An image behind those that the keeper got is too large, as far as the inputs tell their bytes.
   abbrev pub HasLargeImage : Run S O I → Type 0
   HasLargeImage run = (end : CollectEnd) (bytes : ℕ → List ℕ) → run.collected ≡ Ended end → AreTold words.left run.inputs bytes →
-      AreSettledWith run.job run.rows end → IsTooLarge run.job (λ a. lines (bytes a)) run.every run.before run.after
+      AreSettledWith run.job run.rows end → TooLargeFrom (bases_of run bytes) run.job (λ a. lines (bytes a)) run.every run.before run.after
 
   -- The grounds of a cause in a run whose inputs are these afterwards.
   abbrev pub HasGrounds : Run S O I → List S → Cause → Type 0

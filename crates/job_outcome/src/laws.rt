@@ -1,12 +1,11 @@
 //! The laws of workers that have ended. Each function does nothing; what it ensures is the law.
-ghost use Rattle.job_outcome.specs.Theorems.{AreFaultless, CausesHaveGrounds, DoneCollectorHasLast, DoneWorkersTally, InputsComeBack, KeeperGotImages, StoredImagesAreChain, SureWiresHaveNoFault, WorkersEnd};
+ghost use Rattle.job_outcome.specs.Theorems.{AreFaultless, CausesHaveGrounds, DoneCollectorHasLast, DoneWorkersHaveWorth, InputsComeBack, KeeperGotImages, StoredImagesAreChain, SureWiresHaveNoFault, WorkersEnd};
 ghost use Rattle.job_outcome.specs.Words.{world_words};
 
 use collecting_worker::laws::stored_images_are_collected;
 use conn_run::laws::items_arrive;
 use job_chain::laws::runs_are_chains;
 use outside::{LinkIn, LinkOut, Links, Source};
-use plain_machine::laws::start_exists;
 
 /// Workers that were deployed and ran have ended, each with the passes of its place.
 pub fn workers_end<S: Source, N: Links>()
@@ -15,12 +14,11 @@ pub fn workers_end<S: Source, N: Links>()
     items_arrive();
 }
 
-/// The images that were stored are a chain with nothing in flight, whatever the causes with which the workers
-/// ended, and the image that was handed back is the last of them.
+/// The images that were stored are a chain from any image on from which the run may go on, with nothing in
+/// flight, whatever the causes with which the workers ended, and the image that was handed back is the last of them.
 pub fn stored_images_are_chain<S: Source, N: Links>()
     ensures { StoredImagesAreChain (world_words S.Source N.Out.LinkOut N.In.LinkIn N.belong) }
 {
-    start_exists();
     stored_images_are_collected();
     runs_are_chains();
 }
@@ -30,12 +28,11 @@ pub fn keeper_got_images<S: Source, N: Links>()
     ensures { KeeperGotImages (world_words S.Source N.Out.LinkOut N.In.LinkIn N.belong) }
 {}
 
-/// Where all workers are done, the tables of the last image are the tally of what the inputs told, which is
-/// within its limits.
-pub fn done_workers_tally<S: Source, N: Links>()
-    ensures { DoneWorkersTally (world_words S.Source N.Out.LinkOut N.In.LinkIn N.belong) }
+/// Where all workers are done, the tables of the last image are what that image is worth over what the inputs
+/// told, which is within its limits from there on.
+pub fn done_workers_have_worth<S: Source, N: Links>()
+    ensures { DoneWorkersHaveWorth (world_words S.Source N.Out.LinkOut N.In.LinkIn N.belong) }
 {
-    start_exists();
     stored_images_are_collected();
     runs_are_chains();
 }

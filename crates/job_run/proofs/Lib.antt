@@ -1,3 +1,4 @@
+pub mod Beginnings
 pub mod DeployLaws
 pub mod EndLaws
 pub mod InputLaws

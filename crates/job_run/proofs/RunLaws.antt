@@ -12,6 +12,7 @@ use Rattle.flow_defs.specs.Jobs.{tasks}
 use Rattle.flow_defs.specs.Lines.{lines}
 use Rattle.flow_defs.specs.Tables.{Values}
 use Rattle.plain_machine.specs.Chains.{last_of}
+use Rattle.job_start.specs.declared.start.Start.{Start}
 use Rattle.outside.specs.Faults.{HasRisen}
 use Rattle.outside.specs.Keepers.{KeptImage}
 use Rattle.outside.specs.Stops.{first_met}
@@ -27,10 +28,10 @@ use Rattle.job_workers.specs.declared.place.Place.TheVariants.{Ended}
 use Rattle.job_ends.specs.Ended.{TaskPlace, LoopPlace, LinksTell, HasLinkFault, AreEnded}
 use Rattle.job_outcome.specs.Grounds.{HasPeerFault}
 use Rattle.job_outcome.specs.Outcomes.{AllDone, AreTold, ComeBack, HasEnded, IsRunCause, cause_of_collector}
-use Rattle.job_outcome.specs.Storing.{EndsIn, HasKept, HasStored}
-use Rattle.job_outcome.specs.Theorems.{HaveRun, Run, AreLeftIn, AreSettledWith, CausesHaveGrounds, DoneCollectorHasLast, DoneWorkersTally, HasLargeImage, InputsComeBack, KeeperGotImages, StoredImagesAreChain}
+use Rattle.job_outcome.specs.Storing.{EndsFrom, HasKept, StoredFrom}
+use Rattle.job_outcome.specs.Theorems.{HaveRun, Run, start_of, bases_of, AreLeftIn, AreSettledWith, CausesHaveGrounds, DoneCollectorHasLast, DoneWorkersHaveWorth, HasLargeImage, InputsComeBack, KeeperGotImages, StoredImagesAreChain}
 use Rattle.job_outcome.specs.Words.{WorldWords}
-use Rattle.job_run.specs.Runs.{Course, HasCollected, HasItsGrounds, HaveInputs, IsAnswer, IsFaultOf, IsJoined, IsRun, IsTableOf, TellsLargeImage}
+use Rattle.job_run.specs.Runs.{Course, bases_over, HasCollected, HasItsGrounds, HaveInputs, IsAnswer, IsFaultOf, IsJoined, IsRun, IsTableOf, TellsLargeImage}
 use Rattle.job_run.specs.Wires.{IsLinkGround, IsPeerGround, IsWireCause}
 use Rattle.job_run.proofs.WireLaws.{risen_over}
 use Rattle.job_run.proofs.ListLaws.{some_is, get_there}
@@ -50,7 +51,7 @@ module _ {S O I L N : Type 0} (words : WorldWords S O I L N) (course : Course S)
   abbrev Grounds : Type 0 → (PeerFault → Type 0) → Type 0 → Cause → Type 0
   Grounds link peer big = IsRunCause words.left words.faults course.before course.after link peer (HasRisen course.fell course.rose) big
 
-  cause_with : {A B big large : Type 0} {P Q : PeerFault → Type 0} → (A → B) → ((fault : PeerFault) → P fault → Q fault) → (big → large) → (cause : Cause) →
+  pub cause_with : {A B big large : Type 0} {P Q : PeerFault → Type 0} → (A → B) → ((fault : PeerFault) → P fault → Q fault) → (big → large) → (cause : Cause) →
       Grounds A P big cause → Grounds B Q large cause
   cause_with f h g causes.Link x = f x
   cause_with f h g causes.BigImage x = g x
@@ -60,12 +61,12 @@ module _ {S O I L N : Type 0} (words : WorldWords S O I L N) (course : Course S)
 -- ---- the images that a keeper got
 
 -- It got none.
-none_kept : (told : Option (List KeptImage)) → HasKept told told []
+pub none_kept : (told : Option (List KeptImage)) → HasKept told told []
 none_kept None = refl
 none_kept (Some images) = ap Some (sym (append-nil images))
 
-none_stored : (job : Job) (lines : ℕ → List (List ℕ)) (every : Option ℕ) (told : Option (List KeptImage)) → HasStored job lines every told told
-none_stored job lines every told = record { images = []; kept = none_kept told; chain = λ base start. tt; still = tt; spelled = tt; readable = tt }
+pub none_stored : (bases : Image → Type 0) (job : Job) (lines : ℕ → List (List ℕ)) (every : Option ℕ) (told : Option (List KeptImage)) → StoredFrom bases job lines every told told
+none_stored bases job lines every told = record { images = []; kept = none_kept told; chain = λ base may. tt; still = tt; spelled = tt; readable = tt }
 
 -- The last of some images is the last one behind any.
 last_behind : (images : List Image) (first last : Image) → last_or (Some first) images ≡ Some last → last_of first images ≡ last
@@ -84,11 +85,12 @@ module _ {S O I L N : Type 0} {words : WorldWords S O I L N} {course : Course S}
   pub not_run : {link : Type 0} {peer : PeerFault → Type 0} (cause : Cause) → course.after ≡ course.before → course.keeps ≡ course.kept → course.rose ≡ course.fell →
       HasItsGrounds words course link peer cause → IsRun words course link peer (Err cause)
   not_run cause same still calm grounds = record {
-    tally = tt;
+    worth_is = tt;
     cause = grounds;
     inputs = stay_back words.faults course.before course.after same;
-    chain = λ tell bytes told. subst (λ (m : Option (List KeptImage)). HasStored course.job (λ a. lines (bytes a)) course.every course.kept m) (sym still)
-        (none_stored course.job (λ a. lines (bytes a)) course.every course.kept);
+    chain = λ tell bytes told base may.
+        subst (λ (m : Option (List KeptImage)). StoredFrom (bases_over course bytes) course.job (λ a. lines (bytes a)) course.every course.kept m) (sym still)
+        (none_stored (bases_over course bytes) course.job (λ a. lines (bytes a)) course.every course.kept);
     kept_some = ([], subst (λ (m : Option (List KeptImage)). HasKept course.kept m []) (sym still) (none_kept course.kept));
     last = tt;
     never_falls = omega (arith, calm);
@@ -106,7 +108,7 @@ module _ {S O I L N : Type 0} {words : WorldWords S O I L N} {course : Course S}
   pub run_with : {A B : Type 0} {P Q : PeerFault → Type 0} → (A → B) → ((fault : PeerFault) → P fault → Q fault) → (result : Result Values Cause) →
       IsRun words course A P result → IsRun words course B Q result
   run_with f h (Ok table) run = record {
-    tally = run.tally;
+    worth_is = run.worth_is;
     cause = tt;
     inputs = run.inputs;
     chain = run.chain;
@@ -115,7 +117,7 @@ module _ {S O I L N : Type 0} {words : WorldWords S O I L N} {course : Course S}
     never_falls = run.never_falls;
   }
   run_with f h (Err cause) run = record {
-    tally = tt;
+    worth_is = tt;
     cause = cause_with words course f h (λ x. x) cause run.cause;
     inputs = run.inputs;
     chain = run.chain;
@@ -123,6 +125,11 @@ module _ {S O I L N : Type 0} {words : WorldWords S O I L N} {course : Course S}
     last = tt;
     never_falls = run.never_falls;
   }
+
+-- And one from the same start.
+pub same_start : {S O I L N : Type 0} {words : WorldWords S O I L N} {link : Type 0} {peer : PeerFault → Type 0} {result : Result Values Cause} {course : Course S} {start : Start} → course.start ≡ start →
+    IsRun words course link peer result → IsRun words (record course { start = start }) link peer result
+same_start {words = words} {link = link} {peer = peer} {result = result} {course = course} same run = subst (λ (s : Start). IsRun words (record course { start = s }) link peer result) same run
 
 -- What stands behind a fault stands behind it over a longer time.
 pub link_before : (sure never_fails : Type 0) (a b c : ℕ) → (never_fails → sure) → a ≤ b → IsLinkGround sure b c → IsLinkGround never_fails a c
@@ -149,7 +156,7 @@ module _ {collected : Place CollectTask CollectEnd} where
 pub record Laws {S O I L N : Type 0} (words : WorldWords S O I L N) : Type 0 where
   pub come_back : InputsComeBack words
   pub grounds : CausesHaveGrounds words
-  pub done_tally : DoneWorkersTally words
+  pub done_worth : DoneWorkersHaveWorth words
   pub are_chain : StoredImagesAreChain words
   pub got_images : KeeperGotImages words
 
@@ -185,6 +192,7 @@ module _ {S O I L N : Type 0} {words : WorldWords S O I L N} {run : Run S O I} (
   abbrev pub course_of : List S → Course S
   course_of after = record {
     job = run.job;
+    start = start_of run.snapshots;
     every = run.every;
     before = run.inputs;
     after = after;
@@ -207,8 +215,9 @@ module _ {S O I L N : Type 0} {words : WorldWords S O I L N} {run : Run S O I} (
 
     -- The images are a chain, of which the worker that collects left the last one.
     chained : (end : CollectEnd) → collected ≡ Ended end → LinksTell words.sent words.got → (bytes : ℕ → List ℕ) → AreTold words.left inputs bytes →
-        (stored : HasStored job (λ a. lines (bytes a)) every run.before run.after) × (end.last ≡ last_or None stored.images)
-    chained end is tell bytes told = laws.are_chain run end bytes ran is told (wound.settled tell end is)
+        (base : Image) → bases_of run bytes base →
+        (stored : StoredFrom (bases_of run bytes) job (λ a. lines (bytes a)) every run.before run.after) × (end.last ≡ last_or None stored.images)
+    chained end is tell bytes told base may = laws.are_chain run end bytes base ran may is told (wound.settled tell end is)
 
     -- A worker that was done has marked it so.
     done_final : (end : CollectEnd) (image : Image) → collected ≡ Ended end → end.last ≡ Some image → AllDone rows loops collected → image.final_one ≡ true
@@ -218,14 +227,15 @@ module _ {S O I L N : Type 0} {words : WorldWords S O I L N} {run : Run S O I} (
         is_final ran.end.last image (ap (λ (e : CollectEnd). e.last) same ∙ at) (ran.collector.account.done cause)
 
     ends_in : (table : Values) → AllDone rows loops collected → IsJoined job collected table → LinksTell words.sent words.got → (bytes : ℕ → List ℕ) →
-        AreTold words.left inputs bytes → EndsIn job (λ a. lines (bytes a)) every run.before run.after table
-    ends_in table done joined tell bytes told =
+        AreTold words.left inputs bytes → (base : Image) → bases_of run bytes base →
+        EndsFrom (bases_of run bytes) job (λ a. lines (bytes a)) every run.before run.after table
+    ends_in table done joined tell bytes told base may =
         let image = joined.table_of.image in
-        let chain = chained joined.end joined.end_is tell bytes told in
+        let chain = chained joined.end joined.end_is tell bytes told base may in
         record {
           stored = chain.0;
           last = image;
-          last_is = λ base. last_of_some chain.0.images image base (sym chain.1 ∙ joined.table_of.image_is);
+          last_is = λ first first_may. last_of_some chain.0.images image first (sym chain.1 ∙ joined.table_of.image_is);
           final = done_final joined.end image joined.end_is joined.table_of.image_is done;
           table_is = joined.table_of.table_is;
         }
@@ -234,14 +244,14 @@ module _ {S O I L N : Type 0} {words : WorldWords S O I L N} {run : Run S O I} (
     is_run (Ok table) answer =
         let some = laws.got_images run ran in
         record {
-          tally = λ tell bytes told.
+          worth_is = λ tell bytes told base may.
               let joined = answer.table.1 in
-              let tally = laws.done_tally run joined.end bytes joined.table_of.image ran joined.end_is joined.table_of.image_is in
-              let both = tally answer.table.0 told (wound.settled tell joined.end joined.end_is) in
+              let worth_of = laws.done_worth run joined.end bytes base joined.table_of.image ran may joined.end_is joined.table_of.image_is in
+              let both = worth_of answer.table.0 told (wound.settled tell joined.end joined.end_is) in
               (both.1, joined.table_of.table_is ∙ both.0);
           cause = tt;
           inputs = come;
-          chain = λ tell bytes told. (chained ran.end ran.end_is tell bytes told).0;
+          chain = λ tell bytes told base may. (chained ran.end ran.end_is tell bytes told base may).0;
           kept_some = some.0;
           last = ends_in table answer.table.0 answer.table.1;
           never_falls = some.1;
@@ -249,7 +259,7 @@ module _ {S O I L N : Type 0} {words : WorldWords S O I L N} {run : Run S O I} (
     is_run (Err cause) answer =
         let some = laws.got_images run ran in
         record {
-          tally = tt;
+          worth_is = tt;
           cause = elim answer.cause [
             | inl memory ↦ subst (HasItsGrounds words (course_of after) link peer) (sym memory) tt
             | inr fault ↦
@@ -259,7 +269,7 @@ module _ {S O I L N : Type 0} {words : WorldWords S O I L N} {run : Run S O I} (
                 cause_with words (course_of after) wound.risen wound.met large cause (grounds fault.0 fault.1 fault.2)
           ];
           inputs = come;
-          chain = λ tell bytes told. (chained ran.end ran.end_is tell bytes told).0;
+          chain = λ tell bytes told base may. (chained ran.end ran.end_is tell bytes told base may).0;
           kept_some = some.0;
           last = tt;
           never_falls = some.1;

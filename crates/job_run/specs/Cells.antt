@@ -1,10 +1,8 @@
 -- What all workers of a run share beside edges and wires, before they are at work. This is this project's own choice.
 use Rattle.std.specs.Prelude.{◌≡◌, ℕ, ◌≤◌, List, [], All, length, map, Option, IfSome}
 use Rattle.turn_cell.specs.Passes.{IsPassOf, mine, number}
-use Rattle.flow_defs.specs.declared.image.Image.{Image}
 use Rattle.flow_defs.specs.declared.job.Job.{Job}
-use Rattle.plain_machine.specs.Images.{IsStart}
-use Rattle.job_start.specs.Starts.{IsBase, IsStartFor}
+use Rattle.job_start.specs.Starts.{IsStartFor}
 use Rattle.outside.specs.Keepers.{KeptImage}
 use Rattle.snapshot_channel.specs.Passes.{IsCollecting, IsFresh, opening, opening_of, received_by, task_of}
 use Rattle.snapshot_channel.specs.Snapshots.{all_tasks}
@@ -33,11 +31,10 @@ pub record AreImagePassesOf (job : Job) (images : ImagePasses) : Type 0 where
   pub first : number images.collecting ≡ 0
   pub none_told : mine images.collecting ≡ []
 
--- The workers have their passes of these cells: the tasks go on from the start of the job, for which the channel of snapshots is opened, and
--- nothing went over it; of the other cells as in the two records above.
+-- The workers have their passes of these cells: the channel of snapshots is opened for the start from which the tasks go on, and nothing went
+-- over it; of the other cells as in the two records above.
 pub record AreDealt (job : Job) (every : Option ℕ) (cells : RunCells) (passes : CellPasses) : Type 0 where
   pub start : IsStartFor job cells.start
-  pub begins : (base : Image) → IsStart job base → IsBase job cells.start base
   pub opening_is : opening_of cells.channel ≡ opening job cells.start every
   pub collecting : IsCollecting cells.channel passes.collecting
   pub none_received : received_by passes.collecting ≡ []

@@ -9,7 +9,9 @@ use Rattle.flow_defs.specs.declared.job.Job.{Job}
 use Rattle.flow_defs.specs.Jobs.{tasks}
 use Rattle.flow_defs.specs.Lines.{lines}
 use Rattle.flow_defs.specs.Tables.{Values, join}
-use Rattle.plain_machine.specs.Worth.{tally}
+use Rattle.plain_machine.specs.Images.{cut_of}
+use Rattle.plain_machine.specs.Worth.{worth}
+use Rattle.job_start.specs.declared.start.Start.{Start}
 use Rattle.outside.specs.Faults.{HasRisen}
 use Rattle.outside.specs.Keepers.{KeptImage}
 use Rattle.outside.specs.Stops.{first_met}
@@ -17,13 +19,14 @@ use Rattle.outside.specs.declared.stop.StopEntry.{StopEntry}
 use Rattle.snapshot_channel.specs.declared.opened.SnapshotChannel.{SnapshotChannel}
 use Rattle.snapshot_channel.specs.Passes.{IsCollecting}
 use Rattle.collecting_worker.specs.declared.world.CollectEnd.{CollectEnd}
+use Rattle.job_chain.specs.Ran.{IsRunBase}
 use Rattle.job_workers.specs.declared.collecting.CollectTask.{CollectTask}
 use Rattle.job_workers.specs.declared.place.Place.{Place}
 use Rattle.job_workers.specs.declared.place.Place.TheVariants.{Ended}
 use Rattle.job_workers.specs.declared.task.TaskLeft.{TaskLeft}
 use Rattle.job_ends.specs.Ended.{TaskPlace, LoopPlace, LinksTell, left_in, left_at}
-use Rattle.job_outcome.specs.Outcomes.{AllDone, HasEnded, AreTold, AreWithin, ComeBack, IsRunCause}
-use Rattle.job_outcome.specs.Storing.{EndsIn, HasKept, HasStored, IsTooLarge}
+use Rattle.job_outcome.specs.Outcomes.{AllDone, HasEnded, AreTold, AreWithinFrom, ComeBack, IsRunCause}
+use Rattle.job_outcome.specs.Storing.{EndsFrom, HasKept, StoredFrom, TooLargeFrom}
 use Rattle.job_outcome.specs.Words.{WorldWords}
 
 -- ---- what workers left
@@ -71,10 +74,11 @@ module _ {S O I : Type 0} (job : Job) (rows : List (Items (TaskPlace S))) (loops
 
 -- ---- the run
 
--- The course of a run as who starts it sees it: behind how many lines it has checkpoints, its inputs before and after, which images its keeper told
--- before and after, and how many faults the keeper had counted.
+-- The course of a run as who starts it sees it: from where it goes on, behind how many lines it has checkpoints, its inputs before and after, which
+-- images its keeper told before and after, and how many faults the keeper had counted.
 pub record Course (S : Type 0) : Type 0 where
   pub job : Job
+  pub start : Start
   pub every : Option ℕ
   pub before : List S
   pub after : List S
@@ -83,28 +87,35 @@ pub record Course (S : Type 0) : Type 0 where
   pub fell : ℕ
   pub rose : ℕ
 
+-- The images from which it may go on over these bytes.
+abbrev pub bases_over : {S : Type 0} → Course S → (ℕ → List ℕ) → Image → Type 0
+bases_over course bytes = IsRunBase course.job course.start (λ a. lines (bytes a))
+
 module _ {S O I L N : Type 0} (words : WorldWords S O I L N) where
-  -- It holds of the bytes of the inputs, where links and inputs tell their bytes.
+  -- It holds of the bytes of the inputs, where links and inputs tell their bytes, and so of each of these images.
   abbrev pub WhereTold : List S → ((ℕ → List ℕ) → Type 0) → Type 0
   WhereTold inputs P = LinksTell words.sent words.got → (bytes : ℕ → List ℕ) → AreTold words.left inputs bytes → P bytes
 
+  abbrev pub WhereBased : Course S → ((ℕ → List ℕ) → Image → Type 0) → Type 0
+  WhereBased course P = WhereTold course.before (λ bytes. (base : Image) → bases_over course bytes base → P bytes base)
+
   -- An image behind those that the keeper got is too large.
   abbrev pub TellsLargeImage : Course S → Type 0
-  TellsLargeImage course = WhereTold course.before (λ bytes. IsTooLarge course.job (λ a. lines (bytes a)) course.every course.kept course.keeps)
+  TellsLargeImage course = WhereTold course.before (λ bytes. TooLargeFrom (bases_over course bytes) course.job (λ a. lines (bytes a)) course.every course.kept course.keeps)
 
   -- The grounds of a cause in such a course.
   abbrev pub HasItsGrounds : Course S → Type 0 → (PeerFault → Type 0) → Cause → Type 0
   HasItsGrounds course link peer =
       IsRunCause words.left words.faults course.before course.after link peer (HasRisen course.fell course.rose) (TellsLargeImage course)
 
-  -- A run of this course: its table is the tally of all lines where links and inputs tell their bytes, its cause has its grounds, and the
-  -- inputs come back. Whatever it answers, the keeper got some images, and they are a chain where links and inputs tell their bytes; a table
-  -- is that of the last one.
+  -- A run of this course: where links and inputs tell their bytes, its table is what an image is worth from which it may go on. Its cause has its
+  -- grounds, and the inputs come back. Whatever it answers, the keeper got some images, and they are a chain where links and inputs tell their
+  -- bytes; a table is that of the last one.
   pub record IsRun (course : Course S) (link : Type 0) (peer : PeerFault → Type 0) (result : Result Values Cause) : Type 0 where
-    pub tally : IfOk result (λ table. WhereTold course.before (λ bytes. AreWithin course.job bytes × (table ≡ tally course.job (λ a. lines (bytes a)))))
+    pub worth_is : IfOk result (λ table. WhereBased course (λ bytes base. AreWithinFrom course.job base bytes × (table ≡ worth course.job (λ a. lines (bytes a)) (cut_of course.job base))))
     pub cause : IfErr result (HasItsGrounds course link peer)
     pub inputs : ComeBack words.faults course.before course.after
-    pub chain : WhereTold course.before (λ bytes. HasStored course.job (λ a. lines (bytes a)) course.every course.kept course.keeps)
+    pub chain : WhereBased course (λ bytes base. StoredFrom (bases_over course bytes) course.job (λ a. lines (bytes a)) course.every course.kept course.keeps)
     pub kept_some : (images : List Image) × HasKept course.kept course.keeps images
-    pub last : IfOk result (λ table. WhereTold course.before (λ bytes. EndsIn course.job (λ a. lines (bytes a)) course.every course.kept course.keeps table))
+    pub last : IfOk result (λ table. WhereBased course (λ bytes base. EndsFrom (bases_over course bytes) course.job (λ a. lines (bytes a)) course.every course.kept course.keeps table))
     pub never_falls : course.fell ≤ course.rose

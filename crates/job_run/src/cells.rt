@@ -1,6 +1,7 @@
 // What all workers of a run share beside edges and wires.
-ghost use Rattle.std.specs.Prelude.{IfOk};
+ghost use Rattle.std.specs.Prelude.{◌≡◌, IfOk};
 ghost use Rattle.flow_defs.specs.Jobs.{IsJob};
+ghost use Rattle.job_start.specs.Starts.{IsStartFor};
 ghost use Rattle.job_run.specs.Cells.{AreCellsOf};
 
 use crate::images::{ImagePasses, open_images};
@@ -44,15 +45,21 @@ pub struct OpenedCells {
     pub room: ListOf<TaskPass>,
 }
 
-/// What the workers of a job share that begins with its first lines, where a source reads so many lines between two
-/// checkpoints, from 1, or to its end where that is None. Checkpoints count from 1.
-pub fn open_cells(alloc: Global, job: &Job, every: Option<u64>) -> Result<OpenedCells, AllocError>
-    requires { IsJob job.now }
-    ensures { IfOk result (λ opened. AreCellsOf job.now every opened) }
+/// What the workers of a job share that goes on from this start, where a source reads so many lines between two
+/// checkpoints, from 1, or to its end where that is None. Checkpoints count on from the start.
+pub fn open_cells(
+    alloc: Global,
+    job: &Job,
+    start: Start,
+    every: Option<u64>,
+) -> Result<OpenedCells, AllocError>
+    requires job { IsJob job.now }
+    requires start { IsStartFor job.now start }
+    ensures cells { IfOk result (λ opened. AreCellsOf job.now every opened) }
+    ensures start { IfOk result (λ opened. opened.cells.start ≡ start) }
 {
     let mut room = ListOf::new(alloc);
     room.reserve(tasks_needed(job) as usize)?;
-    let start = Start::new(alloc, job)?;
     let opened = SnapshotChannel::open(alloc, job, &start, every)?;
     let images = open_images(alloc, job)?;
     let stops = open_stops(alloc, job)?;

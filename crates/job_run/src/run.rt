@@ -6,6 +6,7 @@ ghost use Rattle.flow_defs.specs.Lines.{lines};
 ghost use Rattle.plain_machine.specs.Worth.{tally};
 ghost use Rattle.outside.specs.Faults.{HasRisen};
 ghost use Rattle.outside.specs.Links.{NeverFails};
+ghost use Rattle.job_start.specs.Starts.{IsStartFor};
 ghost use Rattle.segment_pool.specs.Pools.{size_of};
 ghost use Rattle.stage_fns.specs.Kinds.{kinds};
 ghost use Rattle.job_plan.specs.Plans.{CanRun};
@@ -29,12 +30,15 @@ use crate::wires::{give_back, open_wires};
 use crate::workers::run_workers;
 use flow_defs::{Cause, Job, ListOf, Table};
 use job_cells::{Edge, EdgePasses, Grants, Network, open_edges};
+use job_chain::laws::runs_are_chains;
 use job_outcome::laws::{
-    causes_have_grounds, done_collector_has_last, done_workers_tally, inputs_come_back,
+    causes_have_grounds, done_collector_has_last, done_workers_have_worth, inputs_come_back,
     keeper_got_images, stored_images_are_chain, sure_wires_have_no_fault, workers_end,
 };
+use job_start::Start;
 use job_text::RunOptions;
 use outside::{Keeper, Links, Source, Wire};
+use plain_machine::laws::{chain_keeps_worth, start_exists};
 use segment_pool::Pool;
 use stage_fns::FnTable;
 use std::alloc::Global;
@@ -73,6 +77,7 @@ where
     requires lent { suc (last_edge job.now) ≤ N.lent net.old }
     ensures run { IsRun (world_words S.Source N.Out.LinkOut N.In.LinkIn N.belong) (record {
       job = job.now;
+      start = opened.cells.start;
       every = every;
       before = inputs.old.items;
       after = inputs.new.items;
@@ -105,7 +110,7 @@ where
     inputs_come_back::<S, N>();
     causes_have_grounds::<S, N>();
     sure_wires_have_no_fault::<S, N>();
-    done_workers_tally::<S, N>();
+    done_workers_have_worth::<S, N>();
     done_collector_has_last::<S, N>();
     stored_images_are_chain::<S, N>();
     keeper_got_images::<S, N>();
@@ -115,12 +120,13 @@ where
     )
 }
 
-// Runs a job with this pool, by what is granted of it.
+// Runs a job from this start with this pool, by what is granted of it.
 fn run_in_pool<S, N, K, R>(
     rt: &R,
     alloc: Global,
     job: &Job,
     functions: &FnTable,
+    start: Start,
     every: Option<u64>,
     pool: &Pool,
     grants: Grants,
@@ -136,10 +142,12 @@ where
     R: Threads + Wait + Sync,
     requires is_job { IsJob job.now × CanRun (kinds functions.now) job.now }
     requires checkpoints { CanCheckpoint job.now every (K.images keeper.old) }
+    requires start { IsStartFor job.now start }
     requires pool { (size_of pool.now ≡ size) × AreGrantsOf job.now pool.now grants }
     requires inputs { length inputs.old.items ≡ tasks job.now 0 }
     ensures run { IsRun (world_words S.Source N.Out.LinkOut N.In.LinkIn N.belong) (record {
       job = job.now;
+      start = start;
       every = every;
       before = inputs.old.items;
       after = inputs.new.items;
@@ -156,7 +164,7 @@ where
     let Ok((edges, passes)) = open_edges(rt, alloc, job, pool, grants) else {
         return Err(Cause::Memory);
     };
-    let Ok(opened) = open_cells(alloc, job, every) else {
+    let Ok(opened) = open_cells(alloc, job, start, every) else {
         return Err(Cause::Memory);
     };
     let many = edges.as_slice().len();
@@ -228,12 +236,19 @@ where
     ensures kept { (images : List Image) × HasKept (K.images keeper.old) (K.images keeper.new) images }
     ensures keeper_never_falls { K.faults keeper.old ≤ K.faults keeper.new }
 {
+    start_exists();
+    chain_keeps_worth();
+    runs_are_chains();
+    let Ok(start) = Start::new(alloc, job) else {
+        return Err(Cause::Memory);
+    };
     let Network { pool, grants } = network;
     run_in_pool(
         rt,
         alloc,
         job,
         functions,
+        start,
         options.every,
         &pool,
         grants,

@@ -1,5 +1,5 @@
 use Rattle.checkpoint_laws.proofs.Told as chains
-use Rattle.job_chain.proofs.Chaining.{Laws, start_is_still, ran_is_chain, ran_ends_in_worth, ran_ends_in_tally}
+use Rattle.job_chain.proofs.Chaining.{Laws, start_is_run_base, ran_is_chain, ran_ends_in_worth}
 use Rattle.job_chain.proofs.laws.runs_are_chains.Goals as goal
 
 pub returns : goal.returns
@@ -19,4 +19,4 @@ returns c =
       tally = c.chain_keeps_worth.ensures.last_tally;
     } in
     let ran = c.runs_are_chains.ensures in
-    record { start = start_is_still machine; chain = ran_is_chain laws ran.chain; worth = ran_ends_in_worth laws ran.worth; tally = ran_ends_in_tally laws (start_is_still machine) ran.tally }
+    record { start = start_is_run_base machine; chain = ran_is_chain laws ran.chain; worth = ran_ends_in_worth laws ran.worth }

@@ -1,7 +1,8 @@
 use Rattle.std.proofs.Common.{ap}
 use Rattle.flow_defs.specs.declared.cause.Cause.TheVariants.{Memory}
+use Rattle.snapshot_channel.specs.declared.views.Opening.{Opening}
 use Rattle.job_run.proofs.PeerLaws.{peer_ground}
-use Rattle.job_run.proofs.RunLaws.{has_collected, have_inputs, is_run, not_run}
+use Rattle.job_run.proofs.RunLaws.{has_collected, have_inputs, is_run, not_run, same_start}
 use Rattle.job_run.proofs.run.run_over_wires.Goals as goal
 
 pub wind_up-requires-clause-ended : goal.wind_up-requires-clause-ended
@@ -23,11 +24,12 @@ wind_up-requires-clause-collected g c κs within = has_collected c.in-Ok.ensures
 
 pub returns-clause-run : goal.returns-clause-run
 returns-clause-run g c =
-    is_run c.in-Ok.ensures.ran
+    same_start (ap (λ (o : Opening). o.start) c.requires.opened.dealt.opening_is)
+    (is_run c.in-Ok.ensures.ran
     (record {
       come_back = c.inputs_come_back.ensures;
       grounds = c.causes_have_grounds.ensures;
-      done_tally = c.done_workers_tally.ensures;
+      done_worth = c.done_workers_have_worth.ensures;
       are_chain = c.stored_images_are_chain.ensures;
       got_images = c.keeper_got_images.ensures;
     })
@@ -41,4 +43,4 @@ returns-clause-run g c =
       };
       met = peer_ground c.in-Ok.ensures.ran (g.N.Links.wires c.args.net.now) (g.N.Links.wires c.wind_up.new.net) c.wind_up.ensures.wires;
     })
-    c.wind_up.result c.wind_up.ensures.answer
+    c.wind_up.result c.wind_up.ensures.answer)

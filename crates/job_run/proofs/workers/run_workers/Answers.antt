@@ -1,8 +1,6 @@
 use Rattle.std.proofs.Common.{List, length, refl, sym, ap, subst, ◌∙◌}
 use Rattle.flow_defs.specs.Items.{Items}
 use Rattle.flow_defs.proofs.Lists.{refilled}
-use Rattle.job_start.specs.declared.start.Start.{Start}
-use Rattle.job_start.specs.Starts.{IsBase}
 use Rattle.snapshot_channel.specs.declared.views.Opening.{Opening}
 use Rattle.job_workers.specs.Loops.{MayRunLoop}
 use Rattle.job_workers.specs.Places.{Each, MayRun}
@@ -49,7 +47,6 @@ returns-clause-ran g c =
       loops_left = pairs_of c.as_mut_slice-2.ensures.value (sym loops_back) c.run_all.ensures.loops;
       task = _;
       task_is = (refl, refl, refl, sym (ap (λ (o : Opening). o.start) c.requires.dealt.opening_is));
-      begins = λ base is. subst (λ (s : Start). IsBase c.args.job.now s base) (sym (ap (λ (o : Opening). o.start) c.requires.dealt.opening_is)) (c.requires.dealt.begins base is);
       interval = c.requires.checkpoints.interval;
       end = one.0;
       end_is = one.1;

@@ -14,13 +14,13 @@ use Rattle.flow_defs.proofs.Lists.{head_same, tail_same}
 use Rattle.plain_machine.specs.Images.{AreSpans}
 use Rattle.checkpoint_laws.specs.Puts as puts
 use Rattle.checkpoint_laws.specs.Puts.{stretches, onto_first}
-use Rattle.subpartition.specs.Sending.{parcels_put, taken}
+use Rattle.subpartition.specs.Sending.{parcels_put, taken, put_before}
 use Rattle.subpartition.specs.Theorems as sending
 use Rattle.subpartition.proofs.Telling.{parcels_told}
 use Rattle.input_channel.specs.Inboxes.{pushed}
 use Rattle.input_channel.specs.Theorems as receiving
-use Rattle.channel_cut.specs.Parcels.{data_before}
-use Rattle.channel_cut.specs.Cuts.{put_before, InLine}
+use Rattle.subpartition.specs.Barriers.{data_before}
+use Rattle.channel_cut.specs.Cuts.{InLine}
 use Rattle.channel_cut.specs.Ends.{SettledAreEnds, EndsAreCut}
 use Rattle.channel_cut.proofs.Cutting.{cuts_stay, cut_of_channel}
 

@@ -1,24 +1,28 @@
 -- What was put before a barrier is what was given before it.
-use Rattle.std.proofs.Common.{◌≡◌, ◌||◌, ℕ, zero, suc, true, false, true≢false, cond, eqb, List, [], ◌∷◌, ◌++◌, None, length, refl, sym, ap, ◌∙◌, append_assoc, append-nil}
+use Rattle.std.proofs.Common.{◌≡◌, ◌||◌, ℕ, zero, suc, true, false, true≢false, cond, eqb, List, [], ◌∷◌, ◌++◌, None, Some, length, refl, sym, ap, ◌∙◌, append_assoc, append-nil}
 use Rattle.std.specs.List.{AllByRecursion}
 use Rattle.std.specs.Option.{option_map_or}
 use Rattle.std.proofs.lemmas.List.Concat.{flat_map-append}
 use Rattle.turn_cell.specs.History.{StartsWith}
 use Rattle.flow_defs.specs.declared.parcel.Parcel.{Parcel}
 use Rattle.flow_defs.specs.declared.parcel.Parcel.TheVariants.{Data, Barrier, End}
+use Rattle.flow_defs.specs.declared.task.BarrierKind.TheVariants.{Inline}
+use Rattle.flow_defs.specs.Parcels.{barriers_of}
+use Rattle.flow_defs.proofs.ParcelLemmas.{barriers_of-append}
 use Rattle.flow_defs.specs.Records.{IsShort, encoded, all_encoded, first_record, spans_within, spans}
 use Rattle.plain_machine.proofs.SpanLemmas.{rest_of, spans_of}
 use Rattle.checkpoint_laws.proofs.Lists.{short_both}
 use Rattle.subpartition.specs.declared.entry.SendEntry.{SendEntry}
-use Rattle.subpartition.specs.Sending.{outbox, taken}
-use Rattle.subpartition.proofs.Travelling.{travelled_is}
+use Rattle.subpartition.specs.Sending.{outbox, taken, travelled, barriers_put, put_before}
+use Rattle.subpartition.proofs.BarrierLemmas.{data_before-within}
+use Rattle.subpartition.proofs.Travelling.{barriers_travel_in_order, barrier_splits_data, inline_overtakes_nothing}
 use Rattle.input_channel.specs.declared.entry.ReceiveEntry.{ReceiveEntry}
 use Rattle.input_channel.specs.declared.entry.ReceiveEntry.TheVariants.{Poll}
 use Rattle.input_channel.specs.Inboxes.{pushed}
 use Rattle.input_channel.proofs.InboxLaws.{pushed-append}
-use Rattle.channel_cut.specs.Parcels.{data_before, has_barrier}
-use Rattle.channel_cut.specs.Cuts.{put_before, polled_bytes, CameInLine, InLine, CutsStay, CutOfChannel}
-use Rattle.channel_cut.proofs.Receiving.{in_line_came, in_line_has_all_before}
+use Rattle.subpartition.specs.Barriers.{data_before, has_barrier, kind_of}
+use Rattle.channel_cut.specs.Cuts.{polled_bytes, CameInLine, InLine, CutsStay, CutOfChannel}
+use Rattle.channel_cut.proofs.Receiving.{in_line_came, in_line_has_all_before, kind_in_line, kind_of-append}
 
 -- ---- what was shown stays
 
@@ -37,14 +41,6 @@ cuts_stay flight es more (InLine k lines) came = record {
 
 -- ---- the two ends
 
--- a barrier that stands in the first part has nothing of the second before it
-data_before-within : (k : ℕ) (xs ys : List Parcel) → has_barrier k xs ≡ true → data_before k (xs ++ ys) ≡ data_before k xs
-data_before-within k [] ys one = absurd (true≢false (sym one))
-data_before-within k (Data bytes ∷ xs) ys one = ap (λ z. bytes ++ z) (data_before-within k xs ys one)
-data_before-within k (Barrier j kind ∷ xs) ys one =
-    elim (eqb j k) as (λ b. (b || has_barrier k xs) ≡ true → cond b [] (data_before k (xs ++ ys)) ≡ cond b [] (data_before k xs)) [ true ↦ λ h. refl | false ↦ λ h. data_before-within k xs ys h ] one
-data_before-within k (End ∷ xs) ys one = data_before-within k xs ys one
-
 has_barrier-more : (k : ℕ) (xs ys : List Parcel) → has_barrier k xs ≡ true → has_barrier k (xs ++ ys) ≡ true
 has_barrier-more k [] ys one = absurd (true≢false (sym one))
 has_barrier-more k (Data bytes ∷ xs) ys one = has_barrier-more k xs ys one
@@ -52,11 +48,15 @@ has_barrier-more k (Barrier j kind ∷ xs) ys one =
     elim (eqb j k) as (λ b. (b || has_barrier k xs) ≡ true → (b || has_barrier k (xs ++ ys)) ≡ true) [ true ↦ λ h. refl | false ↦ λ h. has_barrier-more k xs ys h ] one
 has_barrier-more k (End ∷ xs) ys one = has_barrier-more k xs ys one
 
--- once barrier k has come, the data before it are the same at both ends
-same_before : (sent : List SendEntry) (ps : List Parcel) (k : ℕ) → StartsWith (taken sent) ps → has_barrier k ps ≡ true → put_before k sent ≡ data_before k ps
-same_before sent ps k begins came =
+-- once barrier k has come in line, the data before it are the same at both ends
+same_before : (sent : List SendEntry) (ps : List Parcel) (k : ℕ) → StartsWith (taken sent) ps → has_barrier k ps ≡ true → kind_of k (barriers_of ps) ≡ Some Inline → put_before k sent ≡ data_before k ps
+same_before sent ps k begins came in_line =
     let items = (outbox sent).items in
-    ap (data_before k) (sym (travelled_is sent) ∙ ap (λ l. l ++ items) begins.1 ∙ append_assoc ps begins.0 items) ∙ data_before-within k ps (begins.0 ++ items) came
+    let all : travelled sent ≡ ps ++ (begins.0 ++ items) = ap (λ l. l ++ items) begins.1 ∙ append_assoc ps begins.0 items in
+    let kind : kind_of k (barriers_put sent) ≡ Some Inline =
+    ap (kind_of k) (sym (barriers_travel_in_order sent) ∙ ap barriers_of all ∙ barriers_of-append ps (begins.0 ++ items)) ∙ kind_of-append k Inline (barriers_of ps) (barriers_of (begins.0 ++ items)) in_line in
+    sym (barrier_splits_data sent k) ∙ ap (λ z. data_before k (travelled sent) ++ z) (inline_overtakes_nothing sent k kind) ∙ append-nil (data_before k (travelled sent))
+    ∙ ap (data_before k) all ∙ data_before-within k ps (begins.0 ++ items) came
 
 all_polled : (sent : List SendEntry) (es : List ReceiveEntry) (flight : List ℕ) (k : ℕ) (lines : List (List ℕ)) →
     StartsWith (taken sent) (pushed es) → (came : CameInLine flight es k lines) → put_before k sent ≡ polled_bytes came.before
@@ -65,7 +65,10 @@ all_polled sent es flight k lines begins came =
     let more = Poll came.hold came.gave ∷ came.after in
     let parts : pushed es ≡ pushed before ++ pushed more = ap pushed came.whole ∙ pushed-append before more in
     let arrived : has_barrier k (pushed es) ≡ true = ap (has_barrier k) parts ∙ has_barrier-more k (pushed before) (pushed more) (in_line_came before came.hold k came.in_line) in
-    same_before sent (pushed es) k begins arrived ∙ ap (λ z. data_before k (pushed z)) came.whole ∙ sym (in_line_has_all_before before more came.hold k came.in_line)
+    let kind : kind_of k (barriers_of (pushed es)) ≡ Some Inline =
+    ap (λ ps. kind_of k (barriers_of ps)) parts ∙ ap (kind_of k) (barriers_of-append (pushed before) (pushed more))
+    ∙ kind_of-append k Inline (barriers_of (pushed before)) (barriers_of (pushed more)) (kind_in_line before came.hold k came.in_line) in
+    same_before sent (pushed es) k begins arrived kind ∙ ap (λ z. data_before k (pushed z)) came.whole ∙ sym (in_line_has_all_before before more came.hold k came.in_line)
 
 -- ---- a barrier in line
 

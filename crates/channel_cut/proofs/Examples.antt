@@ -9,7 +9,8 @@ use Rattle.subpartition.specs.declared.entry.SendEntry.TheVariants.{Put, PutInli
 use Rattle.input_channel.specs.declared.entry.Gave.TheVariants.{Exclusive, NoBuffer}
 use Rattle.input_channel.specs.declared.entry.ReceiveEntry.{ReceiveEntry}
 use Rattle.input_channel.specs.declared.entry.ReceiveEntry.TheVariants.{Push, Poll}
-use Rattle.channel_cut.specs.Cuts.{put_before, CameInLine}
+use Rattle.subpartition.specs.Sending.{put_before}
+use Rattle.channel_cut.specs.Cuts.{CameInLine}
 use Rattle.channel_cut.proofs.Cutting.{cut_of_channel}
 
 abbrev flight : List ℕ

@@ -11,7 +11,7 @@ use Rattle.input_channel.specs.declared.entry.ReceiveEntry.{ReceiveEntry}
 use Rattle.input_channel.specs.declared.entry.ReceiveEntry.TheVariants.{Push, Poll}
 use Rattle.input_channel.specs.Inboxes.{Arrived, WasPolled, Waits, Inbox, empty_inbox, front_waits, first_parcel, first_barrier, poll_first, poll_barrier, due, poll_due, poll_gives, is_barrier, polled_one, received_one, received_from, inbox, pushed, waiting, parcel_of}
 use Rattle.input_channel.proofs.InboxLaws.{pushed-append, arrivals_are_pushed}
-use Rattle.channel_cut.specs.Parcels.{data_before, has_barrier}
+use Rattle.subpartition.specs.Barriers.{data_before, has_barrier, kind_of}
 use Rattle.channel_cut.specs.Cuts.{polled_bytes, GaveInLine, InLineHasAllBefore}
 
 -- ---- which data were polled
@@ -448,3 +448,40 @@ first_came k kind (Waits End ∷ xs) h = absurd (other k kind h)
 
 pub in_line_came : (es : List ReceiveEntry) (hold : Bool) (k : ℕ) → GaveInLine es hold k → has_barrier k (pushed es) ≡ true
 in_line_came es hold k gave = ap (has_barrier k) (sym (arrivals_are_pushed es)) ∙ first_came k Inline (inbox es).arrivals (first_in_line es hold k gave)
+
+-- ---- the kind of a barrier
+
+pub kind_of-append : (k : ℕ) (kind : BarrierKind) (bs more : List (ℕ × BarrierKind)) → kind_of k bs ≡ Some kind → kind_of k (bs ++ more) ≡ Some kind
+kind_of-append k kind [] more h = absurd (nothing kind h)
+  where
+    nothing : (kind : BarrierKind) → ◌≡◌ {A = Option BarrierKind} None (Some kind) → ⊥
+    nothing kind e = cc
+kind_of-append k kind (b ∷ bs) more h =
+    elim (eqb b.0 k) as (λ t. cond t (Some b.1) (kind_of k bs) ≡ Some kind → cond t (Some b.1) (kind_of k (bs ++ more)) ≡ Some kind) [ true ↦ λ e. e | false ↦ λ e. kind_of-append k kind bs more e ] h
+
+first_kind : (k : ℕ) (kind : BarrierKind) (xs : List Arrived) → first_parcel (waiting xs) ≡ Some (Barrier k kind) → has_number k (polled_barriers xs) ≡ false → kind_of k (barriers_of (map parcel_of xs)) ≡ Some kind
+first_kind k kind [] h none = absurd (no_parcel k kind h)
+first_kind k kind (WasPolled (Data bytes) ∷ xs) h none = first_kind k kind xs h none
+first_kind k kind (WasPolled (Barrier j other) ∷ xs) h none =
+    elim (eqb j k) as (λ b. (b || has_number k (polled_barriers xs)) ≡ false → cond b (Some other) (kind_of k (barriers_of (map parcel_of xs))) ≡ Some kind) [ true ↦ λ e. absurd (true≢false e) | false ↦ λ e. first_kind k kind xs h e ] none
+first_kind k kind (WasPolled End ∷ xs) h none = first_kind k kind xs h none
+first_kind k kind (Waits (Data bytes) ∷ xs) h none = absurd (other bytes k kind h)
+  where
+    other : (bytes : List ℕ) (j : ℕ) (kind : BarrierKind) → Some (Data bytes) ≡ Some (Barrier j kind) → ⊥
+    other bytes j kind e = cc
+first_kind k kind (Waits (Barrier j other) ∷ xs) h none =
+    ap (λ b. cond b (Some other) (kind_of k (barriers_of (map parcel_of xs)))) (eq-eqb j k (number j k other kind h)) ∙ ap Some (its_kind j k other kind h)
+  where
+    number : (j k : ℕ) (other kind : BarrierKind) → Some (Barrier j other) ≡ Some (Barrier k kind) → j ≡ k
+    number j k other kind e = cc
+
+    its_kind : (j k : ℕ) (other kind : BarrierKind) → Some (Barrier j other) ≡ Some (Barrier k kind) → other ≡ kind
+    its_kind j k other kind e = cc
+first_kind k kind (Waits End ∷ xs) h none = absurd (other k kind h)
+  where
+    other : (j : ℕ) (kind : BarrierKind) → ◌≡◌ {A = Option Parcel} (Some End) (Some (Barrier j kind)) → ⊥
+    other j kind e = cc
+
+pub kind_in_line : (es : List ReceiveEntry) (hold : Bool) (k : ℕ) → GaveInLine es hold k → kind_of k (barriers_of (pushed es)) ≡ Some Inline
+kind_in_line es hold k gave =
+    ap (λ ps. kind_of k (barriers_of ps)) (sym (arrivals_are_pushed es)) ∙ first_kind k Inline (inbox es).arrivals (first_in_line es hold k gave) (not_polled es k gave.once)

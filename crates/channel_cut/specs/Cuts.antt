@@ -10,18 +10,14 @@ use Rattle.flow_defs.specs.Parcels.{data_of}
 use Rattle.flow_defs.specs.Records.{all_encoded, first_record, IsShort}
 use Rattle.plain_machine.specs.Images.{AreSpans}
 use Rattle.subpartition.specs.declared.entry.SendEntry.{SendEntry}
-use Rattle.subpartition.specs.Sending.{parcels_put, taken}
+use Rattle.subpartition.specs.Sending.{put_before, taken}
 use Rattle.input_channel.specs.declared.entry.Gave.{Gave}
 use Rattle.input_channel.specs.declared.entry.ReceiveEntry.{ReceiveEntry}
 use Rattle.input_channel.specs.declared.entry.ReceiveEntry.TheVariants.{Poll}
 use Rattle.input_channel.specs.Inboxes.{inbox, poll_gives, pushed, waiting}
-use Rattle.channel_cut.specs.Parcels.{data_before, has_barrier}
+use Rattle.subpartition.specs.Barriers.{data_before, has_barrier}
 
 -- ---- the two ends
-
--- The bytes that were put before barrier k.
-abbrev pub put_before : ℕ → List SendEntry → List ℕ
-put_before k es = data_before k (parcels_put es)
 
 -- The bytes that polls gave, in the order of the polls.
 abbrev pub polled_bytes : List ReceiveEntry → List ℕ

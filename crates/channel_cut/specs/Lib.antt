@@ -1,4 +1,3 @@
-pub mod Parcels
 pub mod Cuts
 pub mod Lanes
 pub mod Ends

@@ -1,78 +1,85 @@
 -- What stands first on a channel, from one turn of its sender to the next.
-use Rattle.std.proofs.Common.{◌≡◌, ◌≢◌, ℕ, zero, suc, ◌+◌, ◌≤◌, true, false, eqb, true≢false, List, [], ◌∷◌, ◌++◌, map, refl, sym, ap, subst, ◌∙◌, arith, eqb-true, eq-eqb, append_assoc, append-nil}
-use Rattle.std.specs.Prelude.{slice_get, Some, None, All}
+use Rattle.std.proofs.Common.{◌≡◌, ◌≢◌, inl, inr, ℕ, zero, suc, ◌+◌, ◌≤◌, true, false, eqb, true≢false, List, [], ◌∷◌, ◌++◌, map, refl, sym, ap, subst, ◌∙◌, arith, eqb-true, eq-eqb, append_assoc, append-nil}
+use Rattle.std.specs.Prelude.{slice_get, Option, Some, None, All}
 use Rattle.std.specs.List.{range_with_len}
 use Rattle.std.proofs.lemmas.List.Elements.{All-get_or}
 use Rattle.std.proofs.lemmas.Option.{same_Some}
 use Rattle.flow_defs.specs.declared.task.BarrierKind.{BarrierKind}
-use Rattle.flow_defs.specs.declared.task.BarrierKind.TheVariants.{Inline}
-use Rattle.flow_defs.specs.declared.task.Head.TheVariants.{Nothing}
+use Rattle.flow_defs.specs.declared.task.BarrierKind.TheVariants.{Inline, Front}
+use Rattle.flow_defs.specs.declared.task.Head.{Head}
+use Rattle.flow_defs.specs.declared.task.Head.TheVariants.{Nothing, Buffer, Event}
 use Rattle.flow_defs.specs.declared.parcel.Parcel.{Parcel}
 use Rattle.flow_defs.specs.declared.parcel.Parcel.TheVariants.{Data, Barrier, End}
 use Rattle.flow_defs.specs.Parcels.{barriers_of}
 use Rattle.flow_defs.proofs.Lists.{cancel_nil, head_same, tail_same, no_cons}
 use Rattle.turn_cell.specs.History.{by, StartsWith, IsHistory, entries_of}
+use Rattle.credit_reader.specs.Readers.{cost}
 use Rattle.subpartition.specs.declared.entry.SendEntry.{SendEntry}
-use Rattle.subpartition.specs.declared.entry.SendEntry.TheVariants.{Put, PutInline, Finish, Take, Size}
+use Rattle.subpartition.specs.declared.entry.SendEntry.TheVariants.{Put, PutInline, PutFront, Finish, Take, Size}
 use Rattle.subpartition.specs.declared.item.Item.{Item}
 use Rattle.subpartition.specs.declared.item.Item.TheVariants as item
 use Rattle.subpartition.specs.Sending.{Outbox, take_first, sent_one, sent_from, outbox, may_send, MaySendAs, numbers_of}
 use Rattle.subpartition.specs.Queues.{Queue, HasLength, parcel_of, head_of}
 use Rattle.subpartition.specs.Standing.{QueueStandsFor}
-use Rattle.subpartition.specs.Theorems.{EntriesAreHistory, BarriersAreNumbered, BarriersTravelInOrder}
+use Rattle.subpartition.specs.Theorems.{EntriesAreHistory, BarriersAreNumbered, BarriersTravelInOrder, FirstStays}
 use Rattle.subpartition.proofs.Travelling.{sent_from-append}
 use Rattle.turn_cell.specs.Passes.{IsTurnOf, IsSamePass, seen}
 use Rattle.turn_cell.proofs.Histories.{entries_of-append}
 use Rattle.turn_cell.proofs.Lists.{by-append, first_apart}
 use Rattle.subpartition.specs.Queues as queues
-use Rattle.conn_send_items.specs.Fronts.{SendCell, SendPass, IsSender, left_after, first_of, front_after, FrontStays, backlog_of, backlog_after, behind_first, behind_one, behind_from, behind_taken, behind_in, taken_in, NoneTaken, OneTaken}
+use Rattle.conn_send_items.specs.Fronts.{SendCell, SendPass, IsSender, head_with, first_after, front_after, StandsAs, backlog_of, backlog_after, behind_first, behind_one, behind_from, behind_taken, behind_in, taken_in, NoneTaken, OneTaken}
 use Rattle.conn_send_items.specs.Items.{IsNumbered}
+use Rattle.conn_send_items.specs.Sending.{sent_kind}
 
--- ---- the entries of others
+-- ---- what stands first
 
--- One that is not the sender's adds behind what is left, or nothing.
-adds : (n : ℕ) (o : Outbox) (e : SendEntry) → may_send n e ≡ true → eqb 1 n ≡ false → (more : List Parcel) × ((sent_one o e).items ≡ o.items ++ more)
-adds n o (Put bytes) may apart = (Data bytes ∷ [], refl)
-adds n o (PutInline k) may apart = (Barrier k Inline ∷ [], refl)
-adds n o Finish may apart = (End ∷ [], refl)
-adds n o Take may apart = absurd (true≢false (sym (eq-eqb 1 n (sym (eqb-true n 1 may))) ∙ apart))
-adds n o (Size size) may apart = ([], sym (append-nil o.items))
+-- What stands as it was told still does.
+pub still_stands : (head : Head) (p q : Option Parcel) → StandsAs head p → FirstStays p q → StandsAs head q
+still_stands Nothing p q stood stays = tt
+still_stands Buffer None q stood stays = elim stood [
+  | inl is ↦ absurd (cc)
+  | inr is ↦ absurd (cc)
+]
+still_stands Event None q stood stays = absurd (cc)
+still_stands Buffer (Some (Data bytes)) q stood stays = elim stays [
+  | inl is ↦ inl (ap head_with is)
+  | inr is ↦ inr is
+]
+still_stands Event (Some (Data bytes)) q stood stays = absurd (cc)
+still_stands head (Some (Barrier k kind)) q stood stays = subst (StandsAs head) (sym stays) stood
+still_stands head (Some End) q stood stays = subst (StandsAs head) (sym stays) stood
 
-behind : (size : ℕ) (front : List (ℕ × SendEntry)) (o : Outbox) (rest : List (ℕ × SendEntry)) → IsHistory (MaySendAs size) (front ++ rest) → by 1 rest ≡ [] →
-    (more : List Parcel) × ((sent_from o (entries_of rest)).items ≡ o.items ++ more)
-behind size front o [] legal none = ([], sym (append-nil o.items))
-behind size front o (pair ∷ rest) legal none =
-    let apart = first_apart 1 pair rest none in
-    let step = adds pair.0 o pair.1 (legal front rest pair refl).0 apart.0 in
-    let more = behind size (front ++ pair ∷ []) (sent_one o pair.1) rest (subst (IsHistory (MaySendAs size)) (sym (append_assoc front (pair ∷ []) rest)) legal) apart.1 in
-    (step.0 ++ more.0, more.1 ∙ ap (λ l. l ++ more.0) step.1 ∙ append_assoc o.items step.0 more.0)
+-- What is told as it stands stands as it was told.
+pub told_stands : (head : Head) (p : Option Parcel) → head_with p ≡ head → StandsAs head p
+told_stands Nothing p is = tt
+told_stands Buffer p is = inl is
+told_stands Event p is = is
 
--- Between two turns of the sender what is left grows at its back.
-left_more : (size : ℕ) (before now : List (ℕ × SendEntry)) → IsHistory (MaySendAs size) now → StartsWith now before → by 1 now ≡ by 1 before →
-    (more : List Parcel) × (left_after now ≡ left_after before ++ more)
-left_more size before now legal starts same =
-    let none : by 1 starts.0 ≡ [] = cancel_nil (by 1 before) (by 1 starts.0) (sym (by-append 1 before starts.0) ∙ ap (by 1) (sym starts.1) ∙ same) in
-    let more = behind size before (outbox (entries_of before)) starts.0 (subst (IsHistory (MaySendAs size)) starts.1 legal) none in (
-      more.0,
-      ap left_after starts.1
-          ∙ ap (λ es. (outbox es).items) (entries_of-append before starts.0)
-          ∙ ap (λ (o : Outbox). o.items) (sent_from-append (record { taken = []; items = [] }) (entries_of before) (entries_of starts.0))
-          ∙ more.1,
-    )
+-- Where something was told, something stands.
+pub stands_some : (head : Head) (p : Option Parcel) → head ≢ Nothing → StandsAs head p → head_with p ≢ Nothing
+stands_some Nothing p some stood = absurd (some refl)
+stands_some Buffer p some stood = λ none. elim stood [
+  | inl is ↦ absurd (cc)
+  | inr is ↦ absurd (cc)
+]
+stands_some Event p some stood = λ none. absurd (cc)
 
-first_append : (ps more : List Parcel) → first_of ps ≢ Nothing → first_of (ps ++ more) ≡ first_of ps
-first_append [] more some = absurd (some refl)
-first_append (Data bytes ∷ ps) more some = refl
-first_append (Barrier k kind ∷ ps) more some = refl
-first_append (End ∷ ps) more some = refl
+-- Where something stood first, something does.
+pub still_some : (p q : Option Parcel) → FirstStays p q → head_with p ≢ Nothing → head_with q ≢ Nothing
+still_some p q stays some = stands_some (head_with p) q some (still_stands (head_with p) p q (told_stands (head_with p) p refl) stays)
 
-pub front_stays : (size : ℕ) (before now : List (ℕ × SendEntry)) → IsHistory (MaySendAs size) now → StartsWith now before → by 1 now ≡ by 1 before → FrontStays before now
-front_stays size before now legal starts same some =
-    let more = left_more size before now legal starts same in ap first_of more.1 ∙ first_append (left_after before) more.0 some
+-- What costs credit stands only where data were told.
+pub costs_told : (head : Head) (p : Parcel) → head ≢ Nothing → StandsAs head (Some p) → cost (sent_kind p) ≡ 1 → head ≡ Buffer
+costs_told Nothing p some stood costs = absurd (some refl)
+costs_told Buffer p some stood costs = refl
+costs_told Event (Data bytes) some stood costs = absurd (cc)
+costs_told Event (Barrier k Inline) some stood costs = absurd (cc)
+costs_told Event (Barrier k Front) some stood costs = absurd (cc)
+costs_told Event End some stood costs = absurd (cc)
 
 -- ---- a queue and its history
 
-first_head : (items : List Item) → first_of (map parcel_of items) ≡ head_of items
+first_head : (items : List Item) → head_with (slice_get (map parcel_of items) 0) ≡ head_of items
 first_head [] = refl
 first_head (item.Buffer filled ∷ items) = refl
 first_head (item.Barrier k kind ∷ items) = refl
@@ -80,7 +87,7 @@ first_head (item.End ∷ items) = refl
 
 -- The head of the queue is that of what is left.
 pub front_is : (queue : Queue) (history : List (ℕ × SendEntry)) → QueueStandsFor queue history → front_after history ≡ head_of queue.items
-front_is queue history stands = ap first_of (sym stands.items) ∙ first_head queue.items
+front_is queue history stands = ap (λ ps. head_with (slice_get ps 0)) (sym stands.items) ∙ first_head queue.items
 
 some_not_none : {A : Type 0} (x : A) → Some x ≡ None → ⊥
 some_not_none x e = cc
@@ -90,14 +97,13 @@ pub no_first : (items : List Item) → head_of items ≢ Nothing → slice_get i
 no_first [] some none = some refl
 no_first (x ∷ items) some none = some_not_none x none
 
-head_alone : (x : Item) (items : List Item) → head_of (x ∷ []) ≡ head_of (x ∷ items)
-head_alone (item.Buffer filled) items = refl
-head_alone (item.Barrier k kind) items = refl
-head_alone item.End items = refl
+first_parcel : (items : List Item) (x : Item) → slice_get items 0 ≡ Some x → slice_get (map parcel_of items) 0 ≡ Some (parcel_of x)
+first_parcel [] x is = absurd (some_not_none x (sym is))
+first_parcel (y ∷ items) x is = ap (λ i. Some (parcel_of i)) (same_Some y x is)
 
-pub head_taken : (items : List Item) (x : Item) → slice_get items 0 ≡ Some x → head_of (x ∷ []) ≡ head_of items
-head_taken [] x is = absurd (some_not_none x (sym is))
-head_taken (y ∷ items) x is = ap (λ i. head_of (i ∷ [])) (sym (same_Some y x is)) ∙ head_alone y items
+-- The first item of the queue is the first of what is left.
+pub first_is : (queue : Queue) (history : List (ℕ × SendEntry)) (x : Item) → QueueStandsFor queue history → slice_get queue.items 0 ≡ Some x → first_after history ≡ Some (parcel_of x)
+first_is queue history x stands is = ap (λ ps. slice_get ps 0) (sym stands.items) ∙ first_parcel queue.items x is
 
 -- ---- numbers of barriers
 
@@ -156,6 +162,7 @@ behind-append o (x ∷ xs) ys = ap (λ l. behind_one o x ++ l) (behind-append (s
 takes_none : (n : ℕ) (o : Outbox) (e : SendEntry) → may_send n e ≡ true → eqb 1 n ≡ false → behind_one o e ≡ []
 takes_none n o (Put bytes) may apart = refl
 takes_none n o (PutInline k) may apart = refl
+takes_none n o (PutFront k) may apart = refl
 takes_none n o Finish may apart = refl
 takes_none n o Take may apart = absurd (true≢false (sym (eq-eqb 1 n (sym (eqb-true n 1 may))) ∙ apart))
 takes_none n o (Size size) may apart = refl
@@ -179,7 +186,7 @@ pub none_taken : (size : ℕ) (before now after : List (ℕ × SendEntry)) → I
 none_taken size before now after legal starts same is taken = subst (NoneTaken before) (sym is) (record { grows = starts; taken = taken; behind = behind_stays size before now legal starts same })
 
 -- What is left behind the first item that is taken.
-left_behind : (taken ps : List Parcel) → first_of ps ≢ Nothing → behind_first ps ≡ backlog_of (take_first taken ps).items ∷ []
+left_behind : (taken ps : List Parcel) → head_with (slice_get ps 0) ≢ Nothing → behind_first ps ≡ backlog_of (take_first taken ps).items ∷ []
 left_behind taken [] some = absurd (some refl)
 left_behind taken (p ∷ ps) some = refl
 
@@ -193,15 +200,13 @@ behind_take history n some =
     ∙ ap (λ l. behind_in history ++ l) (append-nil (behind_first o.items) ∙ left_behind o.taken o.items some ∙ ap (λ k. k ∷ []) (sym left))
 
 pub one_taken : (size : ℕ) (before now after : List (ℕ × SendEntry)) (n : ℕ) (item : Parcel) (backlog : ℕ) → IsHistory (MaySendAs size) now → StartsWith now before → by 1 now ≡ by 1 before →
-    front_after before ≢ Nothing → after ≡ now ++ (n, Take) ∷ [] → taken_in after ≡ taken_in before ++ item ∷ [] → backlog_after after ≡ backlog → OneTaken before after item backlog
-one_taken size before now after n item backlog legal starts same some is taken left =
-    let still = front_stays size before now legal starts same some in
-    record {
-      grows = (starts.0 ++ (n, Take) ∷ [], is ∙ ap (λ l. l ++ (n, Take) ∷ []) starts.1 ∙ append_assoc before starts.0 ((n, Take) ∷ []));
-      taken = taken;
-      behind = ap behind_in is ∙ behind_take now n (λ none. some (sym still ∙ none)) ∙ ap (λ l. l ++ backlog_after (now ++ (n, Take) ∷ []) ∷ []) (behind_stays size before now legal starts same)
-          ∙ ap (λ k. behind_in before ++ k ∷ []) (ap backlog_after (sym is) ∙ left);
-    }
+    front_after now ≢ Nothing → after ≡ now ++ (n, Take) ∷ [] → taken_in after ≡ taken_in before ++ item ∷ [] → backlog_after after ≡ backlog → OneTaken before after item backlog
+one_taken size before now after n item backlog legal starts same some is taken left = record {
+  grows = (starts.0 ++ (n, Take) ∷ [], is ∙ ap (λ l. l ++ (n, Take) ∷ []) starts.1 ∙ append_assoc before starts.0 ((n, Take) ∷ []));
+  taken = taken;
+  behind = ap behind_in is ∙ behind_take now n some ∙ ap (λ l. l ++ backlog_after (now ++ (n, Take) ∷ []) ∷ []) (behind_stays size before now legal starts same)
+      ∙ ap (λ k. behind_in before ++ k ∷ []) (ap backlog_after (sym is) ∙ left);
+}
 
 -- Where all segments have a length, that of the first item does.
 pub first_long : (size : ℕ) (items : List Item) (item : Item) → All (HasLength size) items → slice_get items 0 ≡ Some item → HasLength size item

@@ -7,7 +7,7 @@ use Rattle.std.specs.List.{refill}
 use Rattle.turn_cell.specs.Passes.{seen}
 use Rattle.conn_parts.specs.Shares.{AreOwn, seen_at}
 use Rattle.conn_parts.proofs.Passes.{pass_at, number_at, are_own_lent, seen_here, seen_set, seen_set_else}
-use Rattle.conn_send_items.specs.Fronts.{SendCell, SendPass, IsSender, NoneTaken, OneTaken, OthersStay}
+use Rattle.conn_send_items.specs.Fronts.{SendCell, SendPass, IsSender, NoneTaken, OneTaken, FrontStays, OthersStay}
 
 module _ (cells : List SendCell) (passes lent : List SendPass) (place : ℕ) (cell : SendCell) (pass : SendPass)
     (is : lent ≡ passes) (own : AreOwn 1 cells passes) (within : place < length cells)
@@ -39,6 +39,9 @@ module _ (cells : List SendCell) (passes lent : List SendPass) (place : ℕ) (ce
 module _ (was now a b : List (ℕ × SendEntry)) (was_is : was ≡ a) (now_is : now ≡ b) where
   pub none_taken_at : NoneTaken a b → NoneTaken was now
   none_taken_at t = subst (λ h. NoneTaken h now) (sym was_is) (subst (NoneTaken a) (sym now_is) t)
+
+  pub front_stays_at : FrontStays a b → FrontStays was now
+  front_stays_at t = subst (λ h. FrontStays h now) (sym was_is) (subst (FrontStays a) (sym now_is) t)
 
   pub one_taken_at : (item : Parcel) (backlog : ℕ) → OneTaken a b item backlog → OneTaken was now item backlog
   one_taken_at item backlog t = subst (λ h. OneTaken h now item backlog) (sym was_is) (subst (λ h. OneTaken a h item backlog) (sym now_is) t)

@@ -10,7 +10,8 @@ use Rattle.credit_reader.proofs.Channels.{is_other}
 use Rattle.reader_state.specs.declared.entry.ReaderEntry.{ReaderEntry}
 use Rattle.reader_state.specs.Turning.{head_told, HeadsStay, HeadsChange}
 use Rattle.conn_parts.specs.Shares.{seen_at}
-use Rattle.conn_send_items.specs.Fronts.{SendPass, front_after, FrontStays, OthersStay, StandsAt}
+use Rattle.conn_send_items.specs.Fronts.{SendPass, first_after, front_after, FrontStays, OthersStay, StandsAs, StandsAt}
+use Rattle.conn_send_items.proofs.Fronts.{still_stands, told_stands}
 
 -- ---- places of channels
 
@@ -54,31 +55,34 @@ one_at channels k c d at_c at_d = same_Some c d (sym at_c ∙ at_d)
 module _ (channels : List ChannelId) (place : ℕ) (passes now : List SendPass) (others : OthersStay place passes now) where
   -- A look keeps what stands.
   pub stands_looked : (history : List (ℕ × ReaderEntry)) → FrontStays (seen_at place passes) (seen_at place now) → (k : ℕ) → StandsAt channels history passes k → StandsAt channels history now k
-  stands_looked history stays k stood c at some = elim (cases_eq k place) [
-    | inl is ↦
-        let stood_there = subst (StandsAt channels history passes) is stood in
-        let at_place : slice_get channels place ≡ Some c = ap (slice_get channels) (sym is) ∙ at in
-        let front = stood_there c at_place some in
-        ap (λ j. front_after (seen_at j now)) is ∙ stays (λ none. some (sym front ∙ none)) ∙ front
-    | inr ne ↦ ap front_after (others k ne) ∙ stood c at some
+  stands_looked history stays k stood c at = let head = head_told channels c history in elim (cases_eq k place) [
+    | inl is ↦ subst (λ j. StandsAs head (first_after (seen_at j now))) (sym is)
+        (still_stands head (first_after (seen_at place passes)) (first_after (seen_at place now)) (subst (λ j. StandsAs head (first_after (seen_at j passes))) is (stood c at)) stays)
+    | inr ne ↦ subst (λ h. StandsAs head (first_after h)) (sym (others k ne)) (stood c at)
   ]
 
   module _ (distinct : AreDistinct channels) (channel : ChannelId) (is_there : slice_get channels place ≡ Some channel) (head : Head) (before after : List (ℕ × ReaderEntry))
       (heads : HeadsChange channels channel head before after) (front : front_after (seen_at place now) ≡ head) where
     -- What is told to stand first at a place stands there.
     pub stands_told : StandsAt channels after now place
-    stands_told c at some = front ∙ sym heads.told ∙ ap (λ d. head_told channels d after) (one_at channels place channel c is_there at)
+    stands_told c at = told_stands (head_told channels c after) (first_after (seen_at place now)) (front ∙ sym heads.told ∙ ap (λ d. head_told channels d after) (one_at channels place channel c is_there at))
 
     -- And what stood at others stays.
     pub stands_on : (k : ℕ) → (k ≢ place → StandsAt channels before passes k) → StandsAt channels after now k
     stands_on k stood = elim (cases_eq k place) [
       | inl is ↦ subst (StandsAt channels after now) (sym is) stands_told
-      | inr ne ↦ λ c at some.
-          let same = heads.others c (apart_at channels distinct k place c channel at is_there ne) in
-          ap front_after (others k ne) ∙ stood ne c at (λ none. some (same ∙ none)) ∙ sym same
+      | inr ne ↦ λ c at.
+          subst (λ head. StandsAs head (first_after (seen_at k now))) (sym (heads.others c (apart_at channels distinct k place c channel at is_there ne)))
+          (subst (λ h. StandsAs (head_told channels c before) (first_after h)) (sym (others k ne)) (stood ne c at))
     ]
 
 -- Turns at the readers that tell of no head keep what stands.
 pub stands_stay : (channels : List ChannelId) (passes : List SendPass) (before after : List (ℕ × ReaderEntry)) → HeadsStay channels before after → (k : ℕ) →
     StandsAt channels before passes k → StandsAt channels after passes k
-stands_stay channels passes before after stay k stood c at some = stood c at (λ none. some (stay c ∙ none)) ∙ sym (stay c)
+stands_stay channels passes before after stay k stood c at = subst (λ head. StandsAs head (first_after (seen_at k passes))) (sym (stay c)) (stood c at)
+
+-- So it is with what the reader whose turn it is was told.
+pub stands_next : (own channels : List ChannelId) (passes : List SendPass) (before after : List (ℕ × ReaderEntry)) → own ≡ channels → HeadsStay own before after → (k : ℕ) → StandsAt channels before passes k →
+    (c : ChannelId) → slice_get channels k ≡ Some c → StandsAs (head_told own c after) (first_after (seen_at k passes))
+stands_next own channels passes before after is stay k stood c at =
+    subst (λ cs. StandsAs (head_told cs c after) (first_after (seen_at k passes))) (sym is) (stands_stay channels passes before after (subst (λ cs. HeadsStay cs before after) is stay) k stood c at)

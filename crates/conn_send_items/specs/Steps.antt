@@ -43,7 +43,7 @@ pub record HasPasses (cells : SendCells) (passes : SendPasses) : Type 0 where
   pub subpartitions : AreOwn 1 cells.subpartitions.now passes.subpartitions.items
   pub pools : AreOf cells.pools.now passes.pools.items
 
--- What was told to stand first stands so at each place.
+-- What was told to stand first does so at each place.
 abbrev pub AllStand : SendCells → SendPasses → Type 0
 AllStand cells passes = (k : ℕ) → StandsAt cells.channels.now (seen passes.readers) passes.subpartitions.items k
 

@@ -1,10 +1,11 @@
 // Turns at the subpartition of a place.
-ghost use Rattle.std.specs.Prelude.{◌≡◌, ◌≢◌, ◌≤◌, ◌<◌, ◌∷◌, [], length, ℕ};
+ghost use Rattle.std.specs.Prelude.{◌≡◌, ◌≢◌, ◌≤◌, ◌<◌, length, ℕ, Some};
 ghost use Rattle.flow_defs.specs.declared.task.Head.TheVariants.{Nothing};
 ghost use Rattle.flow_defs.specs.Limits.{credit_max};
-ghost use Rattle.subpartition.specs.Queues.{HasLength, head_of, parcel_of};
+ghost use Rattle.subpartition.specs.Queues.{HasLength, parcel_of};
+ghost use Rattle.subpartition.specs.Theorems.{FirstStays};
 ghost use Rattle.conn_parts.specs.Shares.{AreOwn, seen_at};
-ghost use Rattle.conn_send_items.specs.Fronts.{HaveQueueSize, NoneTaken, OneTaken, front_after, backlog_after, FrontStays, OthersStay};
+ghost use Rattle.conn_send_items.specs.Fronts.{HaveQueueSize, NoneTaken, OneTaken, first_after, front_after, backlog_after, FrontStays, OthersStay};
 ghost use Rattle.conn_send_items.specs.Items.{IsNumbered};
 
 use crate::cells::Front;
@@ -34,7 +35,8 @@ pub fn look_at<R: Wait>(
     look(rt, &cells[place], &mut passes.as_mut_slice()[place])
 }
 
-/// Takes the item that stands first at a place.
+/// Takes the item that stands first at a place: what stood first as the pass saw it, or a front barrier that
+/// came before it where it was data.
 pub fn take_at<R: Wait>(
     rt: &R,
     cells: &[TurnCell<Subpartition>],
@@ -46,7 +48,7 @@ pub fn take_at<R: Wait>(
     requires standing { front_after (seen_at place passes.old.items) ≢ Nothing }
     ensures passes { AreOwn 1 cells.now passes.new.items }
     ensures taken { OneTaken (seen_at place passes.old.items) (seen_at place passes.new.items) (parcel_of result.item) result.front.backlog }
-    ensures was { head_of (result.item ∷ []) ≡ front_after (seen_at place passes.old.items) }
+    ensures was { FirstStays (first_after (seen_at place passes.old.items)) (Some (parcel_of result.item)) }
     ensures numbered { IsNumbered result.item }
     ensures size { (size : ℕ) → HaveQueueSize size cells.now → HasLength size result.item }
     ensures front { front_after (seen_at place passes.new.items) ≡ result.front.head }

@@ -1,10 +1,11 @@
 // Turns of the sender at a subpartition.
-ghost use Rattle.std.specs.Prelude.{◌≡◌, ◌≢◌, ◌≤◌, ◌∷◌, []};
+ghost use Rattle.std.specs.Prelude.{◌≡◌, ◌≢◌, ◌≤◌, Some};
 ghost use Rattle.turn_cell.specs.Passes.{opened_with, seen};
 ghost use Rattle.flow_defs.specs.declared.task.Head.TheVariants.{Nothing};
 ghost use Rattle.flow_defs.specs.Limits.{credit_max};
-ghost use Rattle.subpartition.specs.Queues.{HasLength, head_of, parcel_of};
-ghost use Rattle.conn_send_items.specs.Fronts.{IsSender, NoneTaken, OneTaken, front_after, backlog_after, FrontStays};
+ghost use Rattle.subpartition.specs.Queues.{HasLength, parcel_of};
+ghost use Rattle.subpartition.specs.Theorems.{FirstStays};
+ghost use Rattle.conn_send_items.specs.Fronts.{IsSender, NoneTaken, OneTaken, first_after, front_after, backlog_after, FrontStays};
 ghost use Rattle.conn_send_items.specs.Items.{IsNumbered};
 
 use crate::cells::Front;
@@ -44,13 +45,14 @@ pub fn look<R: Wait>(rt: &R, cell: &TurnCell<Subpartition>, pass: &mut Pass<Subp
     front
 }
 
-/// Takes the item that stands first.
+/// Takes the item that stands first: what stood first as the pass saw it, or a front barrier that came before
+/// it where it was data.
 pub fn take<R: Wait>(rt: &R, cell: &TurnCell<Subpartition>, pass: &mut Pass<Subpartition>) -> Taken
     requires pass { IsSender cell.now pass.old }
     requires standing { front_after (seen pass.old) ≢ Nothing }
     ensures pass { IsSender cell.now pass.new }
     ensures taken { OneTaken (seen pass.old) (seen pass.new) (parcel_of result.item) result.front.backlog }
-    ensures was { head_of (result.item ∷ []) ≡ front_after (seen pass.old) }
+    ensures was { FirstStays (first_after (seen pass.old)) (Some (parcel_of result.item)) }
     ensures numbered { IsNumbered result.item }
     ensures size { HasLength (opened_with cell.now).size result.item }
     ensures front { front_after (seen pass.new) ≡ result.front.head }

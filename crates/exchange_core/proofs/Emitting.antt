@@ -1,14 +1,15 @@
 -- What is put on a channel, by what its lane is.
-use Rattle.std.proofs.Common.{◌≡◌, ℕ, suc, ◌+◌, ◌-◌, ◌≤◌, cond, ltb, eqb, Bool, true, false, not, ◌||◌, List, [], ◌∷◌, length, Option, None, Some, inl, inr, sym, ap, ◌∙◌, arith}
+use Rattle.std.proofs.Common.{◌≡◌, ℕ, suc, ◌+◌, ◌-◌, ◌≤◌, cond, ltb, eqb, Bool, true, false, not, ◌||◌, List, [], ◌∷◌, length, Option, None, Some, inl, inr, refl, sym, ap, ◌∙◌, arith}
 use Rattle.std.proofs.lemmas.Bool.{cases_eq, eq-eqb, ne_eqb}
 use Rattle.std.specs.Option.{SomeIff, option_eq}
-use Rattle.flow_defs.specs.declared.task.BarrierKind.TheVariants.{Inline}
+use Rattle.flow_defs.specs.declared.task.BarrierKind.{BarrierKind}
+use Rattle.flow_defs.specs.declared.task.BarrierKind.TheVariants.{Inline, Front}
 use Rattle.flow_defs.specs.declared.parcel.Parcel.TheVariants as parcels
 use Rattle.script_text.specs.declared.reply.Reply.{Reply}
 use Rattle.script_text.specs.declared.reply.Reply.TheVariants as replies
 use Rattle.exchange_world.specs.Lanes.{Lane, ITEMS_MAX}
 use Rattle.exchange_world.specs.Worlds.{World, lane_of, partition_limit, partition_lent}
-use Rattle.exchange_world.specs.Steps.{buffers_of, with_items, puts, emits, bars, finishes}
+use Rattle.exchange_world.specs.Steps.{buffers_of, with_items, puts, emits, barred, bar_reply, bars, finishes}
 
 -- ---- a record
 
@@ -62,29 +63,34 @@ module _ (w : World) (n : ℕ) where
 
 -- ---- a barrier
 
-module _ (w : World) (n k : ℕ) where
+module _ (w : World) (n k : ℕ) (kind : BarrierKind) where
   abbrev pub is_wrong : Lane → Bool
   is_wrong lane = lane.finished || not (eqb k (suc lane.barriers))
 
-  abbrev barred : Lane → World × Reply
-  barred lane = (puts w n (record (with_items lane (parcels.Barrier k Inline ∷ [])) { barriers = k }), replies.Done)
+  abbrev put_bar : Lane → World × Reply
+  put_bar lane = (puts w n (barred k kind lane), bar_reply n k kind lane)
 
   abbrev bars_on : Lane → World × Reply
-  bars_on lane = cond (is_wrong lane) (w, replies.Refused) (cond (ltb (length lane.items) ITEMS_MAX) (barred lane) (w, replies.Full))
+  bars_on lane = cond (is_wrong lane) (w, replies.Refused) (cond (ltb (length lane.items) ITEMS_MAX) (put_bar lane) (w, replies.Full))
 
-  bars_is : (lane : Lane) → lane_of w n ≡ lane → bars w n k ≡ bars_on lane
+  bars_is : (lane : Lane) → lane_of w n ≡ lane → bars w n k kind ≡ bars_on lane
   bars_is lane is = ap bars_on is
 
-  pub bars_refused : (lane : Lane) → lane_of w n ≡ lane → is_wrong lane ≡ true → bars w n k ≡ (w, replies.Refused)
-  bars_refused lane is wrong = bars_is lane is ∙ ap (λ b. cond b (w, replies.Refused) (cond (ltb (length lane.items) ITEMS_MAX) (barred lane) (w, replies.Full))) wrong
+  pub bars_refused : (lane : Lane) → lane_of w n ≡ lane → is_wrong lane ≡ true → bars w n k kind ≡ (w, replies.Refused)
+  bars_refused lane is wrong = bars_is lane is ∙ ap (λ b. cond b (w, replies.Refused) (cond (ltb (length lane.items) ITEMS_MAX) (put_bar lane) (w, replies.Full))) wrong
 
-  pub bars_full : (lane : Lane) → lane_of w n ≡ lane → is_wrong lane ≡ false → ltb (length lane.items) ITEMS_MAX ≡ false → bars w n k ≡ (w, replies.Full)
+  pub bars_full : (lane : Lane) → lane_of w n ≡ lane → is_wrong lane ≡ false → ltb (length lane.items) ITEMS_MAX ≡ false → bars w n k kind ≡ (w, replies.Full)
   bars_full lane is right full =
-      bars_is lane is ∙ ap (λ b. cond b (w, replies.Refused) (cond (ltb (length lane.items) ITEMS_MAX) (barred lane) (w, replies.Full))) right ∙ ap (λ b. cond b (barred lane) (w, replies.Full)) full
+      bars_is lane is ∙ ap (λ b. cond b (w, replies.Refused) (cond (ltb (length lane.items) ITEMS_MAX) (put_bar lane) (w, replies.Full))) right ∙ ap (λ b. cond b (put_bar lane) (w, replies.Full)) full
 
-  pub bars_done : (lane : Lane) → lane_of w n ≡ lane → is_wrong lane ≡ false → ltb (length lane.items) ITEMS_MAX ≡ true → bars w n k ≡ barred lane
+  pub bars_done : (lane : Lane) → lane_of w n ≡ lane → is_wrong lane ≡ false → ltb (length lane.items) ITEMS_MAX ≡ true → bars w n k kind ≡ put_bar lane
   bars_done lane is right fits =
-      bars_is lane is ∙ ap (λ b. cond b (w, replies.Refused) (cond (ltb (length lane.items) ITEMS_MAX) (barred lane) (w, replies.Full))) right ∙ ap (λ b. cond b (barred lane) (w, replies.Full)) fits
+      bars_is lane is ∙ ap (λ b. cond b (w, replies.Refused) (cond (ltb (length lane.items) ITEMS_MAX) (put_bar lane) (w, replies.Full))) right ∙ ap (λ b. cond b (put_bar lane) (w, replies.Full)) fits
+
+-- the receiving end stays
+pub barred_inbox : (k : ℕ) (kind : BarrierKind) (lane : Lane) → (barred k kind lane).inbox ≡ lane.inbox
+barred_inbox k Inline lane = refl
+barred_inbox k Front lane = refl
 
 -- one less than k is the number of the last barrier, where k is the next
 pub next_is : (o : Option ℕ) (k b : ℕ) → SomeIff o (1 ≤ k) (k - 1) → option_eq eqb o (Some b) ≡ eqb k (suc b)

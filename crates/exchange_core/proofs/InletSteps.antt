@@ -117,7 +117,7 @@ module _ (w : World) (c : ℕ) (l : Lane) (low : 1 ≤ c) (high : c ≤ length w
       ap (λ (y : Lane). let d : World × Reply = (w, polled_reply c y.inbox y.rest None) in d) is
       ∙ ap (λ (v : World). let d : World × Reply = (v, polled_reply c l.inbox l.rest None) in d) (put_same w c low high l is)
   polls_is hold (Some (parcels.Data bytes)) = reads_is hold bytes
-  polls_is hold (Some (parcels.Barrier k kind)) = ap (λ (v : World). let d : World × Reply = (v, replies.Barrier c k) in d) (receives_is w c low high l (entries.Poll hold gaves.NoBuffer) is)
+  polls_is hold (Some (parcels.Barrier k kind)) = ap (λ (v : World). let d : World × Reply = (v, replies.Barrier c k kind) in d) (receives_is w c low high l (entries.Poll hold gaves.NoBuffer) is)
   polls_is hold (Some parcels.End) = ap (λ (v : World). let d : World × Reply = (v, replies.End c) in d) (receives_is w c low high l (entries.Poll hold gaves.NoBuffer) is)
 
 -- ---- arrivals

@@ -1,29 +1,32 @@
 -- One channel of a connection, once an item was put behind the others or the first one was taken.
-use Rattle.std.proofs.Common.{◌≡◌, ℕ, suc, ◌+◌, ◌≤◌, min, cond, Some, true, List, [], ◌∷◌, ◌++◌, length, map, take, drop, refl, sym, ap, subst, ◌∙◌, arith, length-append}
-use Rattle.std.specs.Prelude.{slice_get}
-use Rattle.std.specs.List.{refill}
+use Rattle.std.proofs.Common.{◌≡◌, ℕ, suc, ◌+◌, ◌≤◌, min, cond, Some, true, false, List, [], ◌∷◌, ◌++◌, length, map, take, drop, refl, sym, ap, subst, ◌∙◌, arith, length-append}
+use Rattle.std.specs.Prelude.{◌||◌, All, slice_get}
+use Rattle.std.specs.List.{AllByRecursion, list_any, refill}
 use Rattle.std.proofs.lemmas.List.{map-append, take_at, length-take, length-drop, length-map}
-use Rattle.std.proofs.lemmas.List.Elements.{All-push, All-drop}
+use Rattle.std.proofs.lemmas.List.Elements.{All-push, All-drop, All-from_recursion, recursion_from_All}
 use Rattle.std.proofs.lemmas.List.Sums.{sum_by-cons}
 use Rattle.flow_defs.specs.declared.task.BarrierKind.{BarrierKind}
-use Rattle.flow_defs.specs.declared.task.BarrierKind.TheVariants.{Inline}
+use Rattle.flow_defs.specs.declared.task.BarrierKind.TheVariants.{Inline, Front}
 use Rattle.flow_defs.specs.declared.parcel.Parcel.{Parcel}
 use Rattle.flow_defs.specs.declared.parcel.Parcel.TheVariants as parcels
-use Rattle.flow_defs.specs.Parcels.{is_data}
+use Rattle.flow_defs.specs.Parcels.{data_of, is_data}
 use Rattle.flow_defs.proofs.Lists.{refilled}
 use Rattle.segment_pool.specs.declared.pool.Pool.{Pool}
 use Rattle.segment_pool.specs.Pools.{size_of}
 use Rattle.subpartition.specs.declared.item.Filled.{Filled}
 use Rattle.subpartition.specs.declared.item.Item.{Item}
 use Rattle.subpartition.specs.declared.item.Item.TheVariants as items
-use Rattle.subpartition.specs.Queues.{Queue, bytes_of, parcel_of, backlog_of, head_of, with_buffer, with_barrier, with_end, without_first, HasLength}
+use Rattle.subpartition.specs.Queues.{Queue, bytes_of, parcel_of, is_mark, data_in, backlog_of, head_of, with_buffer, with_end, without_first, HasLength}
+use Rattle.subpartition.specs.Barriers.{is_barrier, up_to_last, behind_last}
+use Rattle.subpartition.proofs.Fronts.{cut_in_two}
+use Rattle.subpartition.proofs.Items.{backlog_with_barrier_in}
 use Rattle.local_pool.specs.declared.local.LocalPool.{LocalPool}
 use Rattle.local_pool.specs.Locals.{IsLocalOf, IsSameLocal, lent_of}
 use Rattle.exchange_world.specs.Lanes.{backlog_in, head_in}
-use Rattle.exchange_world.specs.Steps.{with_items}
+use Rattle.exchange_world.specs.Steps.{with_items, barred}
 use Rattle.exchange_core.specs.declared.lane.Lane.{Lane}
 use Rattle.exchange_core.specs.Exchanges.{world_lane, IsLaneOf}
-use Rattle.exchange_core.specs.Lanes.{HasPut}
+use Rattle.exchange_core.specs.Lanes.{with_barrier as put_barrier, HasPut}
 
 -- ---- the queue and its parcels
 
@@ -44,6 +47,38 @@ head_is [] = refl
 head_is (items.Buffer filled ∷ xs) = refl
 head_is (items.Barrier k kind ∷ xs) = refl
 head_is (items.End ∷ xs) = refl
+
+-- a barrier stands among parcels where it stands among items
+any-parcels : (xs : List Item) → list_any is_barrier (map parcel_of xs) ≡ list_any is_mark xs
+any-parcels [] = refl
+any-parcels (x ∷ xs) = ap (λ b. is_mark x || b) (any-parcels xs)
+
+up_to_last-parcels : (xs : List Item) → map parcel_of (up_to_last is_mark xs) ≡ up_to_last is_barrier (map parcel_of xs)
+up_to_last-parcels [] = refl
+up_to_last-parcels (x ∷ xs) =
+    elim (list_any is_mark (x ∷ xs)) as (λ b. map parcel_of (cond b (x ∷ up_to_last is_mark xs) []) ≡ cond b (parcel_of x ∷ up_to_last is_barrier (map parcel_of xs)) []) [
+      | true ↦ ap (λ z. parcel_of x ∷ z) (up_to_last-parcels xs)
+      | false ↦ refl
+    ]
+    ∙ ap (λ b. cond b (parcel_of x ∷ up_to_last is_barrier (map parcel_of xs)) []) (sym (any-parcels (x ∷ xs)))
+
+behind_last-parcels : (xs : List Item) → map parcel_of (behind_last is_mark xs) ≡ behind_last is_barrier (map parcel_of xs)
+behind_last-parcels [] = refl
+behind_last-parcels (x ∷ xs) =
+    elim (list_any is_mark (x ∷ xs)) as (λ b. map parcel_of (cond b (behind_last is_mark xs) (x ∷ xs)) ≡ cond b (behind_last is_barrier (map parcel_of xs)) (map parcel_of (x ∷ xs))) [
+      | true ↦ behind_last-parcels xs
+      | false ↦ refl
+    ]
+    ∙ ap (λ b. cond b (behind_last is_barrier (map parcel_of xs)) (map parcel_of (x ∷ xs))) (sym (any-parcels (x ∷ xs)))
+
+segments_between : (size : ℕ) (xs : List Item) (k : ℕ) → All (HasLength size) xs → All (HasLength size) (up_to_last is_mark xs ++ items.Barrier k Front ∷ behind_last is_mark xs)
+segments_between size xs k all =
+    let both = subst (λ l. AllByRecursion (HasLength size) l) (sym (cut_in_two is_mark xs)) (recursion_from_All (HasLength size) xs all) in
+    All-from_recursion (HasLength size) (up_to_last is_mark xs ++ items.Barrier k Front ∷ behind_last is_mark xs) (with_one (up_to_last is_mark xs) (behind_last is_mark xs) both)
+  where
+    with_one : (front back : List Item) → AllByRecursion (HasLength size) (front ++ back) → AllByRecursion (HasLength size) (front ++ items.Barrier k Front ∷ back)
+    with_one [] back all = (tt, all)
+    with_one (x ∷ front) back all = (all.0, with_one front back all.1)
 
 -- ---- a buffer put
 
@@ -94,8 +129,8 @@ module _ (pool : Pool) (limit : ℕ) (before : Lane) (here : IsLaneOf pool limit
     owed = here.owed;
   }
 
-  pub barrier_at : (k : ℕ) (queue : Queue) → queue ≡ with_barrier before.queue k → IsLaneOf pool limit (record before { queue = queue; barriers = k })
-  barrier_at k queue is = subst (λ (q : Queue). IsLaneOf pool limit (record before { queue = q; barriers = k })) (sym is) record {
+  pub barrier_at : (k : ℕ) (kind : BarrierKind) (after : Lane) → after ≡ put_barrier before k kind → IsLaneOf pool limit after
+  barrier_at k Inline after is = subst (λ (l : Lane). IsLaneOf pool limit l) (sym is) record {
     size = here.size;
     room = here.room;
     barriers = refl;
@@ -105,6 +140,18 @@ module _ (pool : Pool) (limit : ℕ) (before : Lane) (here : IsLaneOf pool limit
     need = here.need;
     limit_is = here.limit_is;
     lent = omega (arith, here.lent, backlog-append before.queue.items (items.Barrier k Inline ∷ []));
+    owed = here.owed;
+  }
+  barrier_at k Front after is = subst (λ (l : Lane). IsLaneOf pool limit l) (sym is) record {
+    size = here.size;
+    room = here.room;
+    barriers = refl;
+    finished = here.finished;
+    segments = segments_between (size_of pool) before.queue.items k here.segments;
+    partition = here.partition;
+    need = here.need;
+    limit_is = here.limit_is;
+    lent = here.lent ∙ ap backlog_of (sym (cut_in_two is_mark before.queue.items)) ∙ sym (backlog_with_barrier_in (up_to_last is_mark before.queue.items) (behind_last is_mark before.queue.items) k Front);
     owed = here.owed;
   }
 
@@ -150,10 +197,18 @@ end_put before queue is =
     ap (λ (q : Queue). world_lane (record before { queue = q; finished = true })) is
     ∙ ap (λ ps. record (world_lane before) { items = ps; finished = true }) (map-append parcel_of before.queue.items (items.End ∷ []))
 
-pub barrier_put : (before : Lane) (k : ℕ) (queue : Queue) → queue ≡ with_barrier before.queue k → world_lane (record before { queue = queue; barriers = k }) ≡ record (with_items (world_lane before) (parcels.Barrier k Inline ∷ [])) { barriers = k }
-barrier_put before k queue is =
-    ap (λ (q : Queue). world_lane (record before { queue = q; barriers = k })) is
-    ∙ ap (λ ps. record (world_lane before) { items = ps; barriers = k }) (map-append parcel_of before.queue.items (items.Barrier k Inline ∷ []))
+pub barrier_put : (before : Lane) (k : ℕ) (kind : BarrierKind) → world_lane (put_barrier before k kind) ≡ barred k kind (world_lane before)
+barrier_put before k Inline = ap (λ ps. record (world_lane before) { items = ps; barriers = k }) (map-append parcel_of before.queue.items (items.Barrier k Inline ∷ []))
+barrier_put before k Front =
+    let all = before.queue.items in
+    ap (λ ps. record (world_lane before) { items = ps; barriers = k })
+    (map-append parcel_of (up_to_last is_mark all) (items.Barrier k Front ∷ behind_last is_mark all)
+    ∙ ap (λ ps. ps ++ parcels.Barrier k Front ∷ map parcel_of (behind_last is_mark all)) (up_to_last-parcels all)
+    ∙ ap (λ ps. up_to_last is_barrier (map parcel_of all) ++ parcels.Barrier k Front ∷ ps) (behind_last-parcels all))
+
+-- the data that a front barrier overtakes
+pub overtaken_is : (all : List Item) → data_in (behind_last is_mark all) ≡ data_of (behind_last is_barrier (map parcel_of all))
+overtaken_is all = ap data_of (behind_last-parcels all)
 
 -- ---- a segment written
 

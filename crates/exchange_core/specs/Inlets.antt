@@ -68,5 +68,5 @@ polled_rest rest (Some parcels.End) = rest
 abbrev pub polled_reply : ℕ → ChannelState → List ℕ → Option Parcel → Reply
 polled_reply c inbox rest None = if length inbox.queue == 0 then replies.Empty c else replies.Held c
 polled_reply c inbox rest (Some (parcels.Data bytes)) = replies.Data c (length bytes) (listed (records_in (rest ++ bytes)))
-polled_reply c inbox rest (Some (parcels.Barrier k kind)) = replies.Barrier c k
+polled_reply c inbox rest (Some (parcels.Barrier k kind)) = replies.Barrier c k kind
 polled_reply c inbox rest (Some parcels.End) = replies.End c

@@ -3,10 +3,14 @@
 use Rattle.std.specs.Prelude.{◌≡◌, ℕ, ◌+◌, ◌<◌, List, [], ◌∷◌, length, map, slice_index}
 use Rattle.flow_defs.specs.Items.{Items}
 use Rattle.flow_defs.specs.Records.{encoded}
+use Rattle.flow_defs.specs.declared.task.BarrierKind.{BarrierKind}
+use Rattle.flow_defs.specs.declared.task.BarrierKind.TheVariants.{Inline, Front}
 use Rattle.flow_defs.specs.declared.parcel.Parcel.{Parcel}
 use Rattle.flow_defs.specs.declared.parcel.Parcel.TheVariants as parcels
 use Rattle.segment_pool.specs.declared.pool.Pool.{Pool}
 use Rattle.segment_pool.specs.Pools.{size_of}
+use Rattle.subpartition.specs.Queues as queues
+use Rattle.subpartition.specs.Queues.{with_front_barrier}
 use Rattle.local_pool.specs.Locals.{lent_of}
 use Rattle.exchange_world.specs.Lanes as lanes
 use Rattle.exchange_world.specs.Lanes.{content_len, records_in, behind_records}
@@ -26,6 +30,11 @@ pub record HasPut (pool : Pool) (limit : ℕ) (before after : Lane) (bytes : Lis
   pub finished : after.finished ≡ before.finished
   pub lent : lent_of after.partition ≡ lent_of before.partition + 1
   pub more : length after.queue.items ≡ length before.queue.items + 1
+
+-- A channel with a barrier that was put on it.
+abbrev pub with_barrier : Lane → ℕ → BarrierKind → Lane
+with_barrier lane k Inline = record lane { queue = queues.with_barrier lane.queue k; barriers = k }
+with_barrier lane k Front = record lane { queue = with_front_barrier lane.queue k; barriers = k }
 
 -- This is sent of an item.
 pub record IsSent (p : Parcel) (sent : Sent) : Type 0 where

@@ -52,7 +52,7 @@ impl Connection {
                 let text = vec![in alloc; b'a'; n as usize]?;
                 Ok(self.emit(rt, c, &text))
             }
-            Event::Barrier { c, k } => Ok(self.put_barrier(c, k)),
+            Event::Barrier { c, k, kind } => self.put_barrier(alloc, c, k, kind),
             Event::Finish { c } => Ok(self.finish(c)),
             Event::Send => self.send(rt, alloc),
             Event::Announce => self.announce(),

@@ -5,15 +5,16 @@ ghost use Rattle.flow_defs.specs.Records.{encoded};
 ghost use Rattle.segment_pool.specs.Pools.{IsLimited, size_of};
 ghost use Rattle.local_pool.specs.Locals.{lent_of};
 ghost use Rattle.exchange_world.specs.Lanes.{ITEMS_MAX, backlog_in};
-ghost use Rattle.exchange_world.specs.Steps.{with_items};
+ghost use Rattle.exchange_world.specs.Steps.{with_items, bar_reply, bare};
 ghost use Rattle.exchange_core.specs.Exchanges.{IsLaneOf, world_lane};
-ghost use Rattle.exchange_core.specs.Lanes.{buffers, HasPut, HasTaken, HasRead, AreBytes};
+ghost use Rattle.exchange_core.specs.Lanes.{buffers, with_barrier, HasPut, HasTaken, HasRead, AreBytes};
 
 use crate::sent::Sent;
-use flow_defs::{Bytes, ListOf};
+use flow_defs::{BarrierKind, Bytes, ListOf};
 use input_channel::InputChannel;
 use local_pool::LocalPool;
 use record_spans::{NextFault, Reader, write_span};
+use script_text::Reply;
 use segment_pool::Pool;
 use std::alloc::{AllocError, Global};
 use std::sync::Wait;
@@ -78,6 +79,34 @@ pub(crate) fn put_record<R: Wait>(rt: &R, pool: &Pool, lane: &mut Lane, limit: u
     let mut done = 0;
     'buffers: while done < len {
         done += put_buffer(rt, pool, lane, limit, text, done);
+    }
+}
+
+// Puts a barrier, and replies to it.
+#[tactic(auto, using(crate::proofs::LaneSteps::overtaken_is))]
+pub(crate) fn put_barrier(
+    alloc: Global,
+    lane: &mut Lane,
+    c: u32,
+    k: u64,
+    kind: BarrierKind,
+) -> Result<Reply, AllocError>
+    requires unfinished { lane.old.queue.finished ≡ false }
+    requires room { length lane.old.queue.items < lane.old.queue.room }
+    requires next { k ≡ lane.old.queue.barriers + 1 }
+    ensures lane { IfOk result (λ _. lane.new ≡ with_barrier lane.old k kind) }
+    ensures reply { IfOk result (λ reply. bare reply ≡ bar_reply c k kind (world_lane lane.old)) }
+{
+    lane.barriers = k;
+    match kind {
+        BarrierKind::Inline => {
+            lane.queue.put_inline(k);
+            Ok(Reply::Done)
+        }
+        BarrierKind::Front => {
+            let bytes = lane.queue.put_front(alloc, k)?;
+            Ok(Reply::SavedOut { c, k, bytes })
+        }
     }
 }
 

@@ -117,7 +117,7 @@ fn poll_lane<R: Wait>(
             if let BarrierKind::Inline = kind {
                 lane.owed += 1;
             }
-            Ok(Reply::Barrier { c, k })
+            Ok(Reply::Barrier { c, k, kind })
         }
         Polled::Buffer(buf) => {
             let len = buf.len;

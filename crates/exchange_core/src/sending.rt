@@ -13,10 +13,10 @@ ghost use Rattle.exchange_core.specs.Exchanges.{IsWhole, world_of, world_lane, H
 
 use crate::connection::Connection;
 use crate::frames::{ControlFrame, DataFrame};
-use crate::lane::{Lane, put_record, take_item};
+use crate::lane::{Lane, put_barrier, put_record, take_item};
 use credit_reader::{Readers, Told};
 use exchange_world::laws::{connections_stay_sound, sound_has_turns, sound_takes_and_lends};
-use flow_defs::ChannelId;
+use flow_defs::{BarrierKind, ChannelId};
 use script_text::Reply;
 use std::alloc::{AllocError, Global};
 use std::sync::Wait;
@@ -77,24 +77,29 @@ impl Connection {
         Reply::Queued { c, n }
     }
 
-    // An inline barrier is put on a channel.
-    pub(crate) fn put_barrier(&mut self, c: u32, k: u64) -> Reply
+    // A barrier is put on a channel.
+    pub(crate) fn put_barrier(
+        &mut self,
+        alloc: Global,
+        c: u32,
+        k: u64,
+        kind: BarrierKind,
+    ) -> Result<Reply, AllocError>
         requires whole { IsWhole self.old }
         requires channel { IsChannel (length self.old.lanes.items) c }
-        ensures { HasActed self.old self.new result (bars (world_of self.old) c k) }
+        ensures { IfOk result (λ reply. HasActed self.old self.new reply (bars (world_of self.old) c k kind)) }
     {
         connections_stay_sound();
         let lane = &mut self.lanes.as_mut_slice()[c as usize - 1];
         if lane.finished || k.checked_sub(1) != Some(lane.barriers) {
-            return Reply::Refused;
+            return Ok(Reply::Refused);
         }
         if lane.queue.spare() == 0 {
-            return Reply::Full;
+            return Ok(Reply::Full);
         }
-        lane.queue.put_inline(k);
-        lane.barriers = k;
+        let reply = put_barrier(alloc, lane, c, k, kind)?;
         tell(&mut self.readers, lane, c);
-        Reply::Done
+        Ok(reply)
     }
 
     // The end is put on a channel.

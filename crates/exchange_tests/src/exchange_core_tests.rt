@@ -44,6 +44,31 @@ static CASES: &[(&str, &str)] = &[
         "open 1 64 40\nemit 1 a\nemit 1 b\nsend\nsend\nannounce\nemit 1 c\nannounce\nannounce\ndeliver\ndeliver\ncredit 1\ndeliver\npool\ncredit 1\ncontrol\nsend\n",
         "queued 1 1\nqueued 1 2\nframe 1 0 data 5 1\nframe 1 1 data 5 0\nnothing\nqueued 1 1\nannounce 1 1\nnothing\naccepted 1 0\naccepted 1 1\ncredit 1 2\nbacklog 1 1\npool 33 7\ncredit 1 1\ngranted 1 2\nframe 1 2 data 5 0\n",
     ),
+    // A front barrier goes before all data, and costs no credit.
+    (
+        "open 1 64 40\nemit 1 x\nemit 1 y\nemit 1 z\nbarrier 1 1 front\nsend\nsend\nsend\nsend\n",
+        "queued 1 1\nqueued 1 2\nqueued 1 3\nsaved_out 1 1 00000001780000000179000000017a\nframe 1 0 front 8 3\nframe 1 1 data 5 2\nframe 1 2 data 5 1\nnothing\n",
+    ),
+    // It goes behind an inline barrier, and what stands before that it does not overtake.
+    (
+        "open 1 64 40\nemit 1 x\nbarrier 1 1 inline\nemit 1 y\nbarrier 1 2 front\nemit 1 z\nsend\nsend\nsend\ndeliver\ndeliver\npoll 1\npoll 1\nresume 1\ncontrol\nsend\nsend\n",
+        "queued 1 1\nok\nqueued 1 2\nsaved_out 1 2 0000000179\nqueued 1 3\nframe 1 0 data 5 2\nframe 1 1 inline 8 2\nnothing\naccepted 1 0\naccepted 1 1\ndata 1 5 1\nrecord 1 x\nbarrier 1 1 inline\nok\nresumed 1\nframe 1 2 front 8 2\nframe 1 3 data 5 1\n",
+    ),
+    // Two front barriers in a row overtake the same data, and travel in the order of their numbers.
+    (
+        "open 1 64 40\nbarrier 1 1 front\nemit 1 x\nbarrier 1 2 front\nbarrier 1 3 front\nsend\nsend\nsend\nsend\n",
+        "saved_out 1 1 -\nqueued 1 1\nsaved_out 1 2 0000000178\nsaved_out 1 3 0000000178\nframe 1 0 front 8 1\nframe 1 1 front 8 1\nframe 1 2 front 8 1\nframe 1 3 data 5 0\n",
+    ),
+    // At the receiving end it is given before the data that came before it. Nothing is to be resumed.
+    (
+        "open 1 64 40\nemit 1 x\nsend\nbarrier 1 1 front\nsend\ndeliver\ndeliver\nhold 1\npoll 1\nresume 1\npoll 1\n",
+        "queued 1 1\nframe 1 0 data 5 0\nsaved_out 1 1 -\nframe 1 1 front 8 0\naccepted 1 0\naccepted 1 1\nheld 1\nbarrier 1 1 front\nrefused\ndata 1 5 1\nrecord 1 x\n",
+    ),
+    // It must have the next number, and nothing is put behind the end.
+    (
+        "open 1 64 40\nbarrier 1 2 front\nbarrier 1 1 front\nbarrier 1 1 front\nbarrier 1 3 front\nfinish 1\nbarrier 1 2 front\n",
+        "refused\nsaved_out 1 1 -\nrefused\nrefused\nok\nrefused\n",
+    ),
     // A record of eleven buffers is not put in part, and behind ten there is no segment for one more.
     (
         "open 1 64 40\nfill 1 700\nfill 1 600\npool\nfill 1 0\n",
@@ -132,13 +157,13 @@ fn four_segments_are_needed_for_each_channel(rt: HostRuntime) -> Result<(), Fail
     Ok(())
 }
 
-// A script that puts 4,097 barriers on a channel, and then a record and the end.
+// A script that puts 4,097 barriers on a channel, and then a front one, a record and the end.
 fn barriers(alloc: Global) -> Result<String, Fail> {
     let mut text = String::from_str(alloc, "open 1 64 40\n")?;
     for k in 1..4098 {
         text.push_str(&format!(in alloc; "barrier 1 {k} inline\n")?)?;
     }
-    text.push_str("emit 1 a\nfinish 1\n")?;
+    text.push_str("barrier 1 4097 front\nemit 1 a\nfinish 1\n")?;
     Ok(text)
 }
 
@@ -148,7 +173,7 @@ fn no_more_than_4096_items_wait(rt: HostRuntime) -> Result<(), Fail> {
     let script = barriers(alloc)?;
     let printed = replies(&rt, alloc, &script)?;
     let lines = printed.as_slice();
-    let full = b"full\nfull\nfull\n";
+    let full = b"full\nfull\nfull\nfull\n";
     assert_eq!(rt; lines.len(), 4096 * 3 + full.len());
     assert!(rt; lines.ends_with(full));
     Ok(())

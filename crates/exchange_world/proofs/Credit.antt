@@ -17,7 +17,7 @@ module _ (m c : ℕ) (low : 1 ≤ c) (high : c ≤ m) where
   step_paid : (w : World) (e : Event) → IsSound m w → IsPaid c w (step w e)
   step_paid w (events.Emit d text) sound = emits_paid w c d text.items
   step_paid w (events.Fill d n) sound = emits_paid w c d (replicate n 97)
-  step_paid w (events.Barrier d k) sound = barrier_paid w c d k
+  step_paid w (events.Barrier d k kind) sound = barrier_paid w c d k kind
   step_paid w (events.Finish d) sound = finish_paid w c d
   step_paid w events.Send sound = send_paid m w sound c low high
   step_paid w events.Announce sound = announce_paid w c

@@ -5,6 +5,7 @@ use Rattle.std.specs.Prelude.{◌||◌, ◌&&◌}
 use Rattle.std.specs.Option.{option_map, option_map_or}
 use Rattle.std.proofs.lemmas.Bool.{cond_both}
 use Rattle.std.proofs.lemmas.Option.{same_Some}
+use Rattle.flow_defs.specs.declared.task.BarrierKind.{BarrierKind}
 use Rattle.flow_defs.specs.declared.task.BarrierKind.TheVariants.{Inline, Front}
 use Rattle.flow_defs.specs.declared.task.ChannelId.{ChannelId}
 use Rattle.flow_defs.specs.declared.parcel.Parcel.{Parcel}
@@ -22,7 +23,7 @@ use Rattle.script_text.specs.declared.reply.Reply.{Reply}
 use Rattle.script_text.specs.declared.reply.Reply.TheVariants as replies
 use Rattle.exchange_world.specs.Lanes.{Lane, ITEMS_MAX, channel_id, backlog_in, head_in}
 use Rattle.exchange_world.specs.Worlds.{World, DataFrame, Response, Announcement, ControlFrame, AddCredit, Resumption, lane_of, partition_limit, partition_lent}
-use Rattle.exchange_world.specs.Steps.{step, buffers_of, with_items, puts, emits, number_of, sent_kind, sends_first, sends_of, announces, obeys, receives, delivers, polls_item, polls}
+use Rattle.exchange_world.specs.Steps.{step, buffers_of, with_items, puts, emits, barred, bar_reply, number_of, sent_kind, sends_first, sends_of, announces, obeys, receives, delivers, polls_item, polls}
 use Rattle.exchange_world.specs.Theorems.{is_buffer, sent_in, granted_in, announced_in}
 use Rattle.exchange_world.specs.Sound.{IsSound, ControlsAreOfChannels, credit_coming}
 use Rattle.exchange_world.proofs.LaneLemmas.{other_channel, reader_here, reader_there}
@@ -85,20 +86,24 @@ module _ (w : World) (c : ℕ) where
       puts_paid d (with_items lane buffers) (replies.Queued d (partition_lent lane + length buffers)) refl))
 
   -- what is put with no record, or nothing
-  done_paid : (d : ℕ) (lane : Lane) (stop fits : Bool) → IsPaid c w (cond {A = World × Reply} stop (w, replies.Refused) (cond fits (puts w d lane, replies.Done) (w, replies.Full)))
-  done_paid d lane true fits = stays replies.Refused refl
-  done_paid d lane false true = puts_paid d lane replies.Done refl
-  done_paid d lane false false = stays replies.Full refl
+  done_paid : (d : ℕ) (lane : Lane) (reply : Reply) (stop fits : Bool) → SaysNone c reply → IsPaid c w (cond {A = World × Reply} stop (w, replies.Refused) (cond fits (puts w d lane, reply) (w, replies.Full)))
+  done_paid d lane reply true fits none = stays replies.Refused refl
+  done_paid d lane reply false true none = puts_paid d lane reply none
+  done_paid d lane reply false false none = stays replies.Full refl
 
-  pub barrier_paid : (d k : ℕ) → IsPaid c w (step w (events.Barrier d k))
-  barrier_paid d k =
+  bar_says_none : (d k : ℕ) (kind : BarrierKind) (lane : Lane) → SaysNone c (bar_reply d k kind lane)
+  bar_says_none d k Inline lane = refl
+  bar_says_none d k Front lane = refl
+
+  pub barrier_paid : (d k : ℕ) (kind : BarrierKind) → IsPaid c w (step w (events.Barrier d k kind))
+  barrier_paid d k kind =
       let lane = lane_of w d in
-      done_paid d (record (with_items lane (Barrier k Inline ∷ [])) { barriers = k }) (lane.finished || not (eqb k (suc lane.barriers))) (ltb (length lane.items) ITEMS_MAX)
+      done_paid d (barred k kind lane) (bar_reply d k kind lane) (lane.finished || not (eqb k (suc lane.barriers))) (ltb (length lane.items) ITEMS_MAX) (bar_says_none d k kind lane)
 
   pub finish_paid : (d : ℕ) → IsPaid c w (step w (events.Finish d))
   finish_paid d =
       let lane = lane_of w d in
-      done_paid d (record (with_items lane (End ∷ [])) { finished = true }) lane.finished (ltb (length lane.items) ITEMS_MAX)
+      done_paid d (record (with_items lane (End ∷ [])) { finished = true }) replies.Done lane.finished (ltb (length lane.items) ITEMS_MAX) refl
 
   -- ---- a backlog is announced
 
@@ -150,7 +155,7 @@ module _ (w : World) (c : ℕ) where
         | false ↦ stays (replies.Held d) refl
       ]
   polls_paid_item d hold (Some (Data bytes)) = nothing_paid c w (polls_item w d hold (Some (Data bytes))).0 (polls_item w d hold (Some (Data bytes))).1 refl refl refl
-  polls_paid_item d hold (Some (Barrier k kind)) = nothing_paid c w (polls_item w d hold (Some (Barrier k kind))).0 (replies.Barrier d k) refl refl refl
+  polls_paid_item d hold (Some (Barrier k kind)) = nothing_paid c w (polls_item w d hold (Some (Barrier k kind))).0 (replies.Barrier d k kind) refl refl refl
   polls_paid_item d hold (Some End) = nothing_paid c w (polls_item w d hold (Some End)).0 (replies.End d) refl refl refl
 
   pub polls_paid : (d : ℕ) (hold : Bool) → IsPaid c w (polls w d hold)

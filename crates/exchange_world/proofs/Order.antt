@@ -25,7 +25,7 @@ step_moves : (m : ℕ) (w : World) (c : ℕ) (e : Event) → IsSound m w → IsE
     → Moves c w (step w e).0 (emitted_by c w e) (bytes_polled_by c w e) (polled_in c (step w e).1)
 step_moves m w c (events.Emit d text) sound is low high some = emits_moves w c low high d is.0.0 text.items some (let short = is.1.not_long in omega (arith, short))
 step_moves m w c (events.Fill d n) sound is low high some = emits_moves w c low high d is.0.0 (replicate n 97) some (let fits = is.1 in omega (arith, fits, length-replicate {A = ℕ} n 97))
-step_moves m w c (events.Barrier d k) sound is low high some = barrier_moves w c low high d is.0.0 k
+step_moves m w c (events.Barrier d k kind) sound is low high some = barrier_moves w c low high d is.0.0 k kind
 step_moves m w c (events.Finish d) sound is low high some = finish_moves w c low high d is.0
 step_moves m w c events.Send sound is low high some = send_moves w c low high
 step_moves m w c events.Announce sound is low high some = announce_moves w c
@@ -33,8 +33,8 @@ step_moves m w c events.Deliver sound is low high some = deliver_moves m w c low
 step_moves m w c (events.Credit d) sound is low high some = credit_moves w c low high d is.0
 step_moves m w c (events.Resume d) sound is low high some = resume_moves w c low high d is.0
 step_moves m w c events.Control sound is low high some = control_moves w c
-step_moves m w c (events.Poll d) sound is low high some = polls_moves w c low high d is.0 m sound is.1 false
-step_moves m w c (events.Hold d) sound is low high some = polls_moves w c low high d is.0 m sound is.1 true
+step_moves m w c (events.Poll d) sound is low high some = polls_moves w c low high d is.0 false
+step_moves m w c (events.Hold d) sound is low high some = polls_moves w c low high d is.0 true
 step_moves m w c events.Pool sound is low high some = moves_none c w w (quiet c w)
 
 -- ---- all events

@@ -1,5 +1,5 @@
 -- What the events of the receiving end and of the receiving task do to the bytes of a channel.
-use Rattle.std.proofs.Common.{◌≡◌, ℕ, ◌≤◌, eqb, true, false, cond, Bool, List, [], ◌∷◌, ◌++◌, length, drop, map, Option, Some, None, refl, sym, ap, subst, ◌∙◌, append_assoc, append-nil, arith}
+use Rattle.std.proofs.Common.{◌≡◌, ℕ, ◌≤◌, eqb, true, false, cond, Bool, List, [], ◌∷◌, ◌++◌, length, map, Option, Some, None, refl, sym, ap, subst, ◌∙◌, append_assoc, append-nil, arith}
 use Rattle.std.proofs.lemmas.Bool.{cond_both}
 use Rattle.flow_defs.proofs.ParcelLemmas.{data_of-append}
 use Rattle.flow_defs.specs.Items.{Items}
@@ -20,10 +20,10 @@ use Rattle.exchange_world.specs.Lanes.{Lane, records_in, behind_records}
 use Rattle.exchange_world.specs.Worlds.{World, DataFrame, Response, Announcement, AddCredit, Resumption, lane_of, with_lane}
 use Rattle.exchange_world.specs.Steps.{step, receives, delivers, listed, is_exclusive, reads, polls, polls_item}
 use Rattle.exchange_world.specs.Theorems.{polled_in, bytes_in}
-use Rattle.exchange_world.specs.Sound.{IsSound, AreOfChannels, responses, coming}
+use Rattle.exchange_world.specs.Sound.{AreOfChannels, responses, coming}
 use Rattle.exchange_world.proofs.LaneLemmas.{lane_put, lane_stays, lanes_stay}
 use Rattle.exchange_world.proofs.ReceivingWays.{response_here, response_there}
-use Rattle.exchange_world.proofs.ReceivingPolls.{TakesFirst, takes_first}
+use Rattle.exchange_world.proofs.ReceivingPolls.{takes}
 use Rattle.exchange_world.proofs.OrderMoves.{Reads, reads_records, waits, waits_of, Moves, MovesNone, IsQuiet, quiet, quiet_twice, quiet_there, moves_none, moves_then, by_channel, lane_quiet, asks_quiet}
 
 -- the records of a reply are those that it lists
@@ -112,16 +112,13 @@ module _ (w : World) (c : ℕ) (low : 1 ≤ c) (high : c ≤ length w.lanes) (d 
       subst (λ rs. Moves c w v [] (cond (eqb d c) [] []) rs) (sym none)
       (elim (eqb d c) as (λ b. Moves c w v [] (cond b [] []) []) [ true ↦ moves_none c w v q | false ↦ moves_none c w v q ])
 
-  -- the inbox of a channel where a poll took the first, and the channel
-  module _ (hold : Bool) (p : Parcel) (takes : TakesFirst hold (lane_of w d).inbox.queue p) where
-    left_is : data_of (lane_of w d).inbox.queue ≡ data_of (p ∷ []) ++ data_of (poll_leaves hold (lane_of w d).inbox.queue)
-    left_is = ap data_of takes.queue_is ∙ data_of-append (p ∷ []) (drop 1 (lane_of w d).inbox.queue) ∙ ap (λ q. data_of (p ∷ []) ++ data_of q) (sym takes.leaves)
-
-    event_moves : (reply : Reply) → data_of (p ∷ []) ≡ [] → polled_in c reply ≡ [] → MovesPolled [] (receives w d (entries.Poll hold NoBuffer), reply)
-    event_moves reply no_data none =
-        polled_none reply (receives w d (entries.Poll hold NoBuffer))
-        (lane_quiet w d (record (lane_of w d) { inbox = channel_next (lane_of w d).inbox (entries.Poll hold NoBuffer) }) c d_low low high
-        (sym (left_is ∙ ap (λ xs. xs ++ data_of (poll_leaves hold (lane_of w d).inbox.queue)) no_data)) refl refl) none
+  -- a channel of which a poll took what has no data
+  event_moves : (hold : Bool) (p : Parcel) (reply : Reply) → poll_gives hold (lane_of w d).inbox.queue ≡ Some p → data_of (p ∷ []) ≡ [] → polled_in c reply ≡ [] → MovesPolled [] (receives w d (entries.Poll hold NoBuffer), reply)
+  event_moves hold p reply gives no_data none =
+      let queue = (lane_of w d).inbox.queue in
+      polled_none reply (receives w d (entries.Poll hold NoBuffer))
+      (lane_quiet w d (record (lane_of w d) { inbox = channel_next (lane_of w d).inbox (entries.Poll hold NoBuffer) }) c d_low low high
+      (sym ((takes hold queue p gives).data_are ∙ ap (λ xs. xs ++ data_of (poll_leaves hold queue)) no_data)) refl refl) none
 
   -- a channel of which a buffer was read
   abbrev read_lane : Bool → List ℕ → Lane
@@ -133,15 +130,15 @@ module _ (w : World) (c : ℕ) (low : 1 ≤ c) (high : c ≤ length w.lanes) (d 
   queue_left : (inbox : ChannelState) (hold : Bool) (gave : Gave) (exclusive : Bool) → (channel_next (channel_next inbox (entries.Poll hold gave)) (entries.Returned exclusive)).queue ≡ poll_leaves hold inbox.queue
   queue_left inbox hold gave exclusive = refl
 
-  reads_here : (hold : Bool) (bytes : List ℕ) → TakesFirst hold (lane_of w d).inbox.queue (Data bytes) → d ≡ c
+  reads_here : (hold : Bool) (bytes : List ℕ) → poll_gives hold (lane_of w d).inbox.queue ≡ Some (Data bytes) → d ≡ c
       → Moves d w (with_lane w d (read_lane hold bytes)) [] bytes (map (λ (r : Items ℕ). r.items) (listed (records_in ((lane_of w d).rest ++ bytes))).items)
-  reads_here hold bytes takes is =
+  reads_here hold bytes gives is =
       let lane = lane_of w d in
       let now = read_lane hold bytes in
       let there = lane_put w d now d_low (omega (arith, is, high)) in
       let left = data_of (poll_leaves hold lane.inbox.queue) in
       let behind = data_of (coming d w) ++ data_of lane.items in
-      let first : data_of lane.inbox.queue ≡ bytes ++ left = left_is hold (Data bytes) takes ∙ ap (λ xs. xs ++ left) (append-nil bytes) in
+      let first : data_of lane.inbox.queue ≡ bytes ++ left = (takes hold lane.inbox.queue (Data bytes) gives).data_are ∙ ap (λ xs. xs ++ left) (append-nil bytes) in
       record {
         account = append-nil (waits_of d w) ∙ ap (λ xs. xs ++ behind) first ∙ append_assoc bytes left behind ∙ ap (λ (l : Lane). bytes ++ waits l (coming d w)) (sym there);
         reads = subst (λ (l : Lane). Reads lane.rest l.rest bytes (map (λ (r : Items ℕ). r.items) (listed (records_in (lane.rest ++ bytes))).items)) (sym there)
@@ -149,25 +146,24 @@ module _ (w : World) (c : ℕ) (low : 1 ≤ c) (high : c ≤ length w.lanes) (d 
         short = tt;
       }
 
-  reads_moves : (hold : Bool) (bytes : List ℕ) → TakesFirst hold (lane_of w d).inbox.queue (Data bytes) → MovesPolled bytes (reads w d hold bytes)
-  reads_moves hold bytes takes =
+  reads_moves : (hold : Bool) (bytes : List ℕ) → poll_gives hold (lane_of w d).inbox.queue ≡ Some (Data bytes) → MovesPolled bytes (reads w d hold bytes)
+  reads_moves hold bytes gives =
       let now = read_lane hold bytes in
       let u = with_lane w d now in
       let records = map (λ (r : Items ℕ). r.items) (listed (records_in ((lane_of w d).rest ++ bytes))).items in
       moves_then c w u (reads w d hold bytes).0 [] (cond (eqb d c) bytes []) (cond (eqb d c) records [])
-      (by_channel d c (λ b x. Moves x w u [] (cond b bytes []) (cond b records [])) (λ is. reads_here hold bytes takes is) (λ other. moves_none c w u (quiet_there c w u (lane_stays w d now d_low c low other) refl)))
+      (by_channel d c (λ b x. Moves x w u [] (cond b bytes []) (cond b records [])) (λ is. reads_here hold bytes gives is) (λ other. moves_none c w u (quiet_there c w u (lane_stays w d now d_low c low other) refl)))
       (asks_quiet u d c d_low low (omega (arith, lanes_stay w d now, high)))
 
-  module _ (m : ℕ) (sound : IsSound m w) (d_high : d ≤ m) where
-    polls_moves_item : (hold : Bool) (given : Option Parcel) → poll_gives hold (lane_of w d).inbox.queue ≡ given → MovesPolled (bytes_in given) (polls_item w d hold given)
-    polls_moves_item hold None gives =
-        elim (eqb (length (lane_of w d).inbox.queue) 0) as (λ b. MovesPolled [] (w, cond b (replies.Empty d) (replies.Held d))) [
-          | true ↦ polled_none (replies.Empty d) w (quiet c w) refl
-          | false ↦ polled_none (replies.Held d) w (quiet c w) refl
-        ]
-    polls_moves_item hold (Some (Data bytes)) gives = reads_moves hold bytes (takes_first w.size hold (lane_of w d).inbox.queue (Data bytes) (sound.each d d_low d_high).inbox.fit gives)
-    polls_moves_item hold (Some (Barrier k kind)) gives = event_moves hold (Barrier k kind) (takes_first w.size hold (lane_of w d).inbox.queue (Barrier k kind) (sound.each d d_low d_high).inbox.fit gives) (replies.Barrier d k) refl refl
-    polls_moves_item hold (Some End) gives = event_moves hold End (takes_first w.size hold (lane_of w d).inbox.queue End (sound.each d d_low d_high).inbox.fit gives) (replies.End d) refl refl
+  polls_moves_item : (hold : Bool) (given : Option Parcel) → poll_gives hold (lane_of w d).inbox.queue ≡ given → MovesPolled (bytes_in given) (polls_item w d hold given)
+  polls_moves_item hold None gives =
+      elim (eqb (length (lane_of w d).inbox.queue) 0) as (λ b. MovesPolled [] (w, cond b (replies.Empty d) (replies.Held d))) [
+        | true ↦ polled_none (replies.Empty d) w (quiet c w) refl
+        | false ↦ polled_none (replies.Held d) w (quiet c w) refl
+      ]
+  polls_moves_item hold (Some (Data bytes)) gives = reads_moves hold bytes gives
+  polls_moves_item hold (Some (Barrier k kind)) gives = event_moves hold (Barrier k kind) (replies.Barrier d k kind) gives refl refl
+  polls_moves_item hold (Some End) gives = event_moves hold End (replies.End d) gives refl refl
 
-    pub polls_moves : (hold : Bool) → MovesPolled (bytes_in (poll_gives hold (lane_of w d).inbox.queue)) (polls w d hold)
-    polls_moves hold = polls_moves_item hold (poll_gives hold (lane_of w d).inbox.queue) refl
+  pub polls_moves : (hold : Bool) → MovesPolled (bytes_in (poll_gives hold (lane_of w d).inbox.queue)) (polls w d hold)
+  polls_moves hold = polls_moves_item hold (poll_gives hold (lane_of w d).inbox.queue) refl

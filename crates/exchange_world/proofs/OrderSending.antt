@@ -5,12 +5,16 @@ use Rattle.std.specs.List.{AllByRecursion}
 use Rattle.std.proofs.lemmas.Bool.{cond_both}
 use Rattle.std.proofs.lemmas.List.{map-append}
 use Rattle.flow_defs.proofs.ParcelLemmas.{data_of-append}
-use Rattle.flow_defs.specs.declared.task.BarrierKind.TheVariants.{Inline}
+use Rattle.flow_defs.specs.declared.task.BarrierKind.{BarrierKind}
+use Rattle.flow_defs.specs.declared.task.BarrierKind.TheVariants.{Inline, Front}
 use Rattle.flow_defs.specs.declared.task.ChannelId.{ChannelId}
 use Rattle.flow_defs.specs.declared.parcel.Parcel.{Parcel}
 use Rattle.flow_defs.specs.declared.parcel.Parcel.TheVariants.{Barrier, End}
 use Rattle.flow_defs.specs.Parcels.{data_of}
 use Rattle.flow_defs.specs.Records.{IsShort, encoded, all_encoded}
+use Rattle.subpartition.specs.Sending.{with_front}
+use Rattle.subpartition.specs.declared.entry.SendEntry.TheVariants.{PutFront}
+use Rattle.subpartition.proofs.Travelling.{grows, grows-data_of}
 use Rattle.credit_reader.specs.declared.reader.Reader.{Reader}
 use Rattle.credit_reader.specs.Answers.{due_first}
 use Rattle.script_text.specs.declared.event.Event.TheVariants as events
@@ -18,12 +22,12 @@ use Rattle.script_text.specs.declared.reply.Reply.{Reply}
 use Rattle.script_text.specs.declared.reply.Reply.TheVariants as replies
 use Rattle.exchange_world.specs.Lanes.{Lane, ITEMS_MAX, backlog_in}
 use Rattle.exchange_world.specs.Worlds.{World, ControlFrame, AddCredit, Resumption, Announcement, lane_of, partition_limit, partition_lent}
-use Rattle.exchange_world.specs.Steps.{step, buffers_of, with_items, puts, emits, number_of, sequence_of, sends_first, sends_of, announces, obeys}
+use Rattle.exchange_world.specs.Steps.{step, buffers_of, with_items, puts, emits, barred, bar_reply, number_of, sequence_of, sends_first, sends_of, announces, obeys}
 use Rattle.exchange_world.specs.Theorems.{is_queued, emitted_if, polled_in}
 use Rattle.exchange_world.specs.Sound.{responses, coming}
 use Rattle.exchange_world.proofs.LaneLemmas.{lane_put, lane_stays}
 use Rattle.exchange_world.proofs.WorldLemmas.{responses-append}
-use Rattle.exchange_world.proofs.PuttingLemmas.{more}
+use Rattle.exchange_world.proofs.PuttingLemmas.{changed}
 use Rattle.exchange_world.proofs.SendingLemmas.{response_here, response_there}
 use Rattle.exchange_world.proofs.Bytes.{pieces_whole}
 use Rattle.exchange_world.proofs.OrderMoves.{Reads, reads_none, waits, Moves, MovesNone, IsQuiet, quiet, quiet_there, moves_none, by_channel}
@@ -34,18 +38,17 @@ module _ (w : World) (c : ℕ) (low : 1 ≤ c) (high : c ≤ length w.lanes) (d 
   puts_there : (lane : Lane) → (c ≡ d → ⊥) → IsQuiet c w (puts w d lane)
   puts_there lane other = quiet_there c w (puts w d lane) (lane_stays w d lane d_low c low other) refl
 
-  puts_here : (ps : List Parcel) (barriers : ℕ) (finished : Bool) (put : List (List ℕ)) → data_of ps ≡ all_encoded put → AllByRecursion IsShort put → d ≡ c
-      → Moves d w (puts w d (more (lane_of w d) ps barriers finished)) put [] []
-  puts_here ps barriers finished put same short is =
+  puts_here : (items : List Parcel) (barriers : ℕ) (finished : Bool) (put : List (List ℕ)) → data_of items ≡ data_of (lane_of w d).items ++ all_encoded put → AllByRecursion IsShort put → d ≡ c
+      → Moves d w (puts w d (changed (lane_of w d) items barriers finished)) put [] []
+  puts_here items barriers finished put same short is =
       let lane = lane_of w d in
-      let there = lane_put w d (more lane ps barriers finished) d_low (omega (arith, is, high)) in
+      let there = lane_put w d (changed lane items barriers finished) d_low (omega (arith, is, high)) in
       let queue = data_of lane.inbox.queue in
       let way = data_of (coming d w) in
       record {
         account = append_assoc queue (way ++ data_of lane.items) (all_encoded put)
             ∙ ap (λ xs. queue ++ xs) (append_assoc way (data_of lane.items) (all_encoded put))
-            ∙ ap (λ xs. queue ++ (way ++ (data_of lane.items ++ xs))) (sym same)
-            ∙ ap (λ xs. queue ++ (way ++ xs)) (sym (data_of-append lane.items ps))
+            ∙ ap (λ xs. queue ++ (way ++ xs)) (sym same)
             ∙ ap (λ (l : Lane). waits l (coming d w)) (sym there);
         reads = subst (λ (l : Lane). Reads lane.rest l.rest [] []) (sym there) (reads_none lane.rest);
         short = short;
@@ -61,7 +64,7 @@ module _ (w : World) (c : ℕ) (low : 1 ≤ c) (high : c ≤ length w.lanes) (d 
       cond_both lane.finished (w, replies.Refused) (cond full (w, replies.Full) put) IsSo (λ is. none replies.Refused refl refl) (λ going.
       cond_both full (w, replies.Full) put IsSo (λ is. none replies.Full refl refl) (λ fits.
       by_channel d c (λ b x. Moves x w (puts w d (with_items lane buffers)) (emitted_if (b && true) text) [] [])
-      (λ is. puts_here buffers lane.barriers lane.finished (text ∷ []) (pieces_whole w.size (encoded text) some ∙ sym (append-nil (encoded text))) (short, tt) is)
+      (λ is. puts_here (lane.items ++ buffers) lane.barriers lane.finished (text ∷ []) (data_of-append lane.items buffers ∙ ap (λ xs. data_of lane.items ++ xs) (pieces_whole w.size (encoded text) some ∙ sym (append-nil (encoded text)))) (short, tt) is)
       (λ other. moves_none c w (puts w d (with_items lane buffers)) (puts_there (with_items lane buffers) other))))
     where
       IsSo : World × Reply → Type 0
@@ -74,19 +77,23 @@ module _ (w : World) (c : ℕ) (low : 1 ≤ c) (high : c ≤ length w.lanes) (d 
           (elim (eqb d c) as (λ b. Moves c w w (emitted_if (b && false) text) [] []) [ true ↦ moves_none c w w (quiet c w) | false ↦ moves_none c w w (quiet c w) ]))
 
   -- what is no data is put, or nothing
-  puts_none : (ps : List Parcel) (barriers : ℕ) (finished : Bool) → data_of ps ≡ [] → MovesNone c w (puts w d (more (lane_of w d) ps barriers finished), replies.Done)
-  puts_none ps barriers finished none =
-      by_channel d c (λ b x. Moves x w (puts w d (more (lane_of w d) ps barriers finished)) [] [] [])
-      (λ is. puts_here ps barriers finished [] none tt is)
-      (λ other. moves_none c w (puts w d (more (lane_of w d) ps barriers finished)) (puts_there (more (lane_of w d) ps barriers finished) other))
+  puts_none : (items : List Parcel) (barriers : ℕ) (finished : Bool) (reply : Reply) → data_of items ≡ data_of (lane_of w d).items ++ [] → polled_in c reply ≡ [] → MovesNone c w (puts w d (changed (lane_of w d) items barriers finished), reply)
+  puts_none items barriers finished reply none not_polled =
+      let lane = changed (lane_of w d) items barriers finished in
+      subst (λ rs. Moves c w (puts w d lane) [] [] rs) (sym not_polled)
+      (by_channel d c (λ b x. Moves x w (puts w d lane) [] [] []) (λ is. puts_here items barriers finished [] none tt is) (λ other. moves_none c w (puts w d lane) (puts_there lane other)))
 
-  pub barrier_moves : (k : ℕ) → MovesNone c w (step w (events.Barrier d k))
-  barrier_moves k =
+  barred_moves : (k : ℕ) (kind : BarrierKind) → MovesNone c w (puts w d (barred k kind (lane_of w d)), bar_reply d k kind (lane_of w d))
+  barred_moves k Inline = let lane = lane_of w d in puts_none (lane.items ++ Barrier k Inline ∷ []) k lane.finished replies.Done (data_of-append lane.items (Barrier k Inline ∷ [])) refl
+  barred_moves k Front = let lane = lane_of w d in puts_none (with_front k lane.items) k lane.finished (bar_reply d k Front lane) (grows-data_of (grows (record { taken = []; items = lane.items }) (PutFront k))) refl
+
+  pub barrier_moves : (k : ℕ) (kind : BarrierKind) → MovesNone c w (step w (events.Barrier d k kind))
+  barrier_moves k kind =
       let lane = lane_of w d in
-      let put : World × Reply = (puts w d (record (with_items lane (Barrier k Inline ∷ [])) { barriers = k }), replies.Done) in
+      let put : World × Reply = (puts w d (barred k kind lane), bar_reply d k kind lane) in
       let fits = ltb (length lane.items) ITEMS_MAX in
       cond_both (lane.finished || not (eqb k (suc lane.barriers))) (w, replies.Refused) (cond fits put (w, replies.Full)) (MovesNone c w) (λ is. moves_none c w w (quiet c w)) (λ may.
-      cond_both fits put (w, replies.Full) (MovesNone c w) (λ less. puts_none (Barrier k Inline ∷ []) k lane.finished refl) (λ is. moves_none c w w (quiet c w)))
+      cond_both fits put (w, replies.Full) (MovesNone c w) (λ less. barred_moves k kind) (λ is. moves_none c w w (quiet c w)))
 
   pub finish_moves : MovesNone c w (step w (events.Finish d))
   finish_moves =
@@ -94,7 +101,7 @@ module _ (w : World) (c : ℕ) (low : 1 ≤ c) (high : c ≤ length w.lanes) (d 
       let put : World × Reply = (puts w d (record (with_items lane (End ∷ [])) { finished = true }), replies.Done) in
       let fits = ltb (length lane.items) ITEMS_MAX in
       cond_both lane.finished (w, replies.Refused) (cond fits put (w, replies.Full)) (MovesNone c w) (λ is. moves_none c w w (quiet c w)) (λ going.
-      cond_both fits put (w, replies.Full) (MovesNone c w) (λ less. puts_none (End ∷ []) lane.barriers true refl) (λ is. moves_none c w w (quiet c w)))
+      cond_both fits put (w, replies.Full) (MovesNone c w) (λ less. puts_none (lane.items ++ End ∷ []) lane.barriers true replies.Done (data_of-append lane.items (End ∷ [])) refl) (λ is. moves_none c w w (quiet c w)))
 
   -- ---- the first item of a channel goes on its way
 

@@ -1,18 +1,21 @@
 -- A sound connection stays sound when something is put on a channel.
-use Rattle.std.proofs.Common.{◌≡◌, ℕ, zero, suc, ◌+◌, ◌<◌, ◌≤◌, Bool, true, false, not, cond, eqb, ltb, List, [], ◌∷◌, ◌++◌, length, drop, map, refl, sym, ap, subst, ◌∙◌, append_assoc, length-append, arith, inr}
+use Rattle.std.proofs.Common.{◌≡◌, ℕ, zero, suc, ◌+◌, ◌<◌, ◌≤◌, Bool, true, false, not, cond, eqb, ltb, List, [], ◌∷◌, ◌++◌, length, drop, map, refl, sym, ap, subst, ◌∙◌, append_assoc, append-nil, length-append, arith, inr}
 use Rattle.std.specs.Prelude.{◌||◌, replicate}
 use Rattle.std.specs.List.{range_with_len}
 use Rattle.std.proofs.lemmas.Bool.{cond_both, or_parts, not-false, eqb-true, ltb-true, ltb-false, true≢false}
 use Rattle.std.proofs.lemmas.List.{length-take, map-append}
 use Rattle.std.proofs.lemmas.List.Sums.{sum_by-append, sum_by-cons}
-use Rattle.flow_defs.proofs.ParcelLemmas.{barriers_of-append, end_behind}
 use Rattle.flow_defs.specs.Records.{length_bytes, encoded}
 use Rattle.flow_defs.specs.declared.task.BarrierKind.{BarrierKind}
 use Rattle.flow_defs.specs.declared.task.BarrierKind.TheVariants.{Inline, Front}
 use Rattle.flow_defs.specs.declared.parcel.Parcel.{Parcel}
 use Rattle.flow_defs.specs.declared.parcel.Parcel.TheVariants.{Data, Barrier, End}
-use Rattle.flow_defs.specs.Parcels.{is_data, barriers_of, has_end}
+use Rattle.flow_defs.specs.Parcels.{data_of, is_data, barriers_of, has_end}
 use Rattle.flow_defs.specs.Items.{Items}
+use Rattle.flow_defs.proofs.ParcelLemmas.{has_end-append, end_behind}
+use Rattle.subpartition.specs.declared.entry.SendEntry.TheVariants.{PutFront}
+use Rattle.subpartition.specs.Sending.{with_front}
+use Rattle.subpartition.proofs.Travelling.{Grows, grows, grows-barriers_of}
 use Rattle.credit_reader.specs.declared.reader.Reader.{Reader}
 use Rattle.credit_reader.specs.Readers.{Ready, reader_next}
 use Rattle.credit_reader.specs.Senders.{happened}
@@ -20,10 +23,10 @@ use Rattle.credit_reader.proofs.Channels.{channels_after}
 use Rattle.script_text.specs.declared.event.Event.TheVariants as events
 use Rattle.script_text.specs.declared.reply.Reply.{Reply}
 use Rattle.script_text.specs.declared.reply.Reply.TheVariants as replies
-use Rattle.script_text.specs.Scripts.{IsEvent}
+use Rattle.script_text.specs.Scripts.{IsChannel, IsEvent}
 use Rattle.exchange_world.specs.Lanes.{Lane, ITEMS_MAX, channel_id, backlog_in, head_in}
 use Rattle.exchange_world.specs.Worlds.{World, lane_of, with_lane, partition_limit, partition_lent}
-use Rattle.exchange_world.specs.Steps.{step, pieces_within, pieces, buffers_of, with_items, puts, emits}
+use Rattle.exchange_world.specs.Steps.{step, pieces_within, pieces, buffers_of, with_items, puts, emits, barred, bar_reply}
 use Rattle.exchange_world.specs.Sound.{responses, credit_coming, resumptions_coming, AreFit, IsSound}
 use Rattle.exchange_world.proofs.LaneLemmas.{other_channel, lane_put, lane_stays, lanes_stay, reader_here, reader_there, SoundOn, sound_on, is_sound_lane}
 use Rattle.exchange_world.proofs.QueueLemmas.{happened_holds}
@@ -34,8 +37,7 @@ use Rattle.exchange_world.proofs.WorldLemmas.{keeps_sound, limit_stays, gate_lim
 pub fit-append : (size : ℕ) (ps qs : List Parcel) → has_end ps ≡ false → AreFit size ps → AreFit size qs → AreFit size (ps ++ qs)
 fit-append size [] qs none here there = there
 fit-append size (Data bytes ∷ ps) qs none here there = (here.0, here.1, fit-append size ps qs none here.2 there)
-fit-append size (Barrier k Inline ∷ ps) qs none here there = fit-append size ps qs none here there
-fit-append size (Barrier k Front ∷ ps) qs none here there = absurd here
+fit-append size (Barrier k kind ∷ ps) qs none here there = fit-append size ps qs none here there
 fit-append size (End ∷ ps) qs none here there = absurd (true≢false none)
 
 pub backlog_in-append : (ps qs : List Parcel) → backlog_in (ps ++ qs) ≡ backlog_in ps + backlog_in qs
@@ -59,10 +61,21 @@ numbered-append last bs cs here there =
     ∙ sym (range-append (suc last) (length bs) (length cs))
     ∙ ap (range_with_len (suc last)) (sym (length-append bs cs))
 
+-- where these have no end, they are fit in two parts
+fit_parts : (size : ℕ) (ps qs : List Parcel) → has_end (ps ++ qs) ≡ false → AreFit size (ps ++ qs) → (has_end ps ≡ false) × AreFit size ps × AreFit size qs
+fit_parts size [] qs none fit = (refl, tt, fit)
+fit_parts size (Data bytes ∷ ps) qs none fit = let parts = fit_parts size ps qs none fit.2 in (parts.0, (fit.0, fit.1, parts.1), parts.2)
+fit_parts size (Barrier k kind ∷ ps) qs none fit = fit_parts size ps qs none fit
+fit_parts size (End ∷ ps) qs none fit = absurd (true≢false none)
+
 -- ---- a channel on which something is put
 
+-- The channel with these items.
+abbrev pub changed : Lane → List Parcel → ℕ → Bool → Lane
+changed lane items barriers finished = record lane { items = items; barriers = barriers; finished = finished }
+
 abbrev pub more : Lane → List Parcel → ℕ → Bool → Lane
-more lane ps barriers finished = record lane { items = lane.items ++ ps; barriers = barriers; finished = finished }
+more lane ps barriers finished = changed lane (lane.items ++ ps) barriers finished
 
 abbrev told : Reader → List Parcel → Reader
 told r items = reader_next r (Ready (head_in items) (backlog_in items))
@@ -71,40 +84,69 @@ told r items = reader_next r (Ready (head_in items) (backlog_in items))
 abbrev pub brought : List (ℕ × Parcel) → List Parcel
 brought way = map (λ (r : ℕ × Parcel). r.1) way
 
-more_sound : (size limit : ℕ) (lane : Lane) (r : Reader) (way : List (ℕ × Parcel)) (credit resumptions : ℕ) (ps : List Parcel) (barriers : ℕ) (finished : Bool)
-    → SoundOn size limit lane r way credit resumptions → lane.finished ≡ false → AreFit size ps
-    → map (λ (b : ℕ × BarrierKind). b.0) (barriers_of ps) ≡ range_with_len (suc lane.barriers) (length (barriers_of ps))
-    → barriers ≡ lane.barriers + length (barriers_of ps) → finished ≡ has_end ps
-    → length lane.items + length ps ≤ ITEMS_MAX → backlog_in lane.items + backlog_in ps ≤ limit
-    → SoundOn size limit (more lane ps barriers finished) (told r (lane.items ++ ps)) way credit resumptions
-more_sound size limit lane r way credit resumptions ps barriers finished s going fit numbers barriers_is finished_is room lent =
-    let before = brought way ++ lane.items in
-    let joined : before ++ ps ≡ brought way ++ (lane.items ++ ps) = append_assoc (brought way) lane.items ps in
-    let no_end = s.agree.unfinished going in
-    let all_barriers : barriers_of (brought way ++ (lane.items ++ ps)) ≡ barriers_of before ++ barriers_of ps = ap barriers_of (sym joined) ∙ barriers_of-append before ps in
-    let ends : has_end (brought way ++ (lane.items ++ ps)) ≡ has_end ps = ap has_end (sym joined) ∙ end_behind before ps no_end.1 in
-    let last = s.agree.last in
-    record {
-      sender = record { requested = s.sender.requested; head_is = refl; backlog_is = refl };
-      inbox = s.inbox;
-      agree = record {
-        numbered = s.agree.numbered;
-        next = s.agree.next;
-        credit_is = s.agree.credit_is;
-        fit = subst (AreFit size) joined (fit-append size before ps no_end.1 s.agree.fit fit);
-        barriers =
-            subst (λ bs. map (λ (b : ℕ × BarrierKind). b.0) bs ≡ range_with_len (suc lane.inbox.last) (length bs)) (sym all_barriers)
-            (numbered-append lane.inbox.last (barriers_of before) (barriers_of ps) s.agree.barriers (numbers ∙ ap (λ k. range_with_len (suc k) (length (barriers_of ps))) last));
-        last = let counted : length (barriers_of (brought way ++ (lane.items ++ ps))) ≡ length (barriers_of before) + length (barriers_of ps) = ap length all_barriers ∙ length-append (barriers_of before) (barriers_of ps) in
-            omega (arith, counted, last, barriers_is);
-        ended = λ e. absurd (true≢false (sym e ∙ no_end.0));
-        finished = λ e. inr (ends ∙ sym finished_is ∙ e);
-        unfinished = λ e. (no_end.0, ends ∙ sym finished_is ∙ e);
-        blocked = s.agree.blocked;
-      };
-      room = omega (arith, length-append lane.items ps, room);
-      lent = omega (arith, backlog_in-append lane.items ps, lent);
-    }
+or_false : (b : Bool) → cond b true false ≡ b
+or_false true = refl
+or_false false = refl
+
+-- What is put comes in at one place, behind which no barrier stands.
+module _ (size limit : ℕ) (lane : Lane) (r : Reader) (way : List (ℕ × Parcel)) (credit resumptions : ℕ) (items ps : List Parcel) (barriers : ℕ) (finished : Bool)
+    (g : Grows (brought way ++ lane.items) (brought way ++ items) ps) where
+  -- a count of parcels grows by what is put
+  grown : (count : List Parcel → ℕ) → ((xs ys : List Parcel) → count (xs ++ ys) ≡ count xs + count ys) → count items ≡ count lane.items + count ps
+  grown count adds =
+      let was = sym (adds (brought way) lane.items) ∙ ap count g.was ∙ adds g.front g.back in
+      let is = sym (adds (brought way) items) ∙ ap count g.is ∙ adds g.front (ps ++ g.back) in
+      let both = adds ps g.back in
+      omega (arith, was, is, both)
+
+  put_sound : SoundOn size limit lane r way credit resumptions → lane.finished ≡ false → AreFit size (ps ++ g.back)
+      → map (λ (b : ℕ × BarrierKind). b.0) (barriers_of ps) ≡ range_with_len (suc lane.barriers) (length (barriers_of ps))
+      → barriers ≡ lane.barriers + length (barriers_of ps) → finished ≡ has_end ps
+      → length lane.items + length ps ≤ ITEMS_MAX → backlog_in lane.items + backlog_in ps ≤ limit
+      → SoundOn size limit (changed lane items barriers finished) (told r items) way credit resumptions
+  put_sound s going fit numbers barriers_is finished_is room lent =
+      let before = brought way ++ lane.items in
+      let no_end = s.agree.unfinished going in
+      let parts = fit_parts size g.front g.back (ap has_end (sym g.was) ∙ no_end.1) (subst (AreFit size) g.was s.agree.fit) in
+      let all_barriers = grows-barriers_of g in
+      let none : has_end g.back ≡ false = sym (end_behind g.front g.back parts.0) ∙ ap has_end (sym g.was) ∙ no_end.1 in
+      let ends : has_end (brought way ++ items) ≡ has_end ps = ap has_end g.is ∙ end_behind g.front (ps ++ g.back) parts.0 ∙ has_end-append ps g.back ∙ ap (λ b. cond (has_end ps) true b) none ∙ or_false (has_end ps) in
+      let last = s.agree.last in
+      record {
+        sender = record { requested = s.sender.requested; head_is = refl; backlog_is = refl };
+        inbox = s.inbox;
+        agree = record {
+          numbered = s.agree.numbered;
+          next = s.agree.next;
+          credit_is = s.agree.credit_is;
+          fit = subst (AreFit size) (sym g.is) (fit-append size g.front (ps ++ g.back) parts.0 parts.1 fit);
+          barriers =
+              subst (λ bs. map (λ (b : ℕ × BarrierKind). b.0) bs ≡ range_with_len (suc lane.inbox.last) (length bs)) (sym all_barriers)
+              (numbered-append lane.inbox.last (barriers_of before) (barriers_of ps) s.agree.barriers (numbers ∙ ap (λ k. range_with_len (suc k) (length (barriers_of ps))) last));
+          last = let counted : length (barriers_of (brought way ++ items)) ≡ length (barriers_of before) + length (barriers_of ps) = ap length all_barriers ∙ length-append (barriers_of before) (barriers_of ps) in
+              omega (arith, counted, last, barriers_is);
+          ended = λ e. absurd (true≢false (sym e ∙ no_end.0));
+          finished = λ e. inr (ends ∙ sym finished_is ∙ e);
+          unfinished = λ e. (no_end.0, ends ∙ sym finished_is ∙ e);
+          blocked = s.agree.blocked;
+        };
+        room = let longer = grown length length-append in omega (arith, longer, room);
+        lent = let longer = grown backlog_in backlog_in-append in omega (arith, longer, lent);
+      }
+
+-- it comes behind all others, or as a front barrier does
+abbrev behind_all : (before items ps : List Parcel) → Grows (before ++ items) (before ++ (items ++ ps)) ps
+behind_all before items ps = record {
+  front = before ++ items;
+  back = [];
+  was = sym (append-nil (before ++ items));
+  is = sym (append_assoc before items ps) ∙ ap (λ z. (before ++ items) ++ z) (sym (append-nil ps));
+  bare = refl;
+  order = append-nil (data_of ps);
+}
+
+in_front : (before items : List Parcel) (k : ℕ) → Grows (before ++ items) (before ++ with_front k items) (Barrier k Front ∷ [])
+in_front before items k = grows (record { taken = before; items = items }) (PutFront k)
 
 -- ---- the world in which it is put
 
@@ -141,17 +183,27 @@ keeps_put_in m c w lane sound low high same here =
     (let lent = gate_lent_stays w c lane low within same in let limit = gate_limit_stays w (put_in w c lane) refl lanes in let gate = sound.gate in omega (arith, lent, limit, gate))
 
 -- what is put on a channel that isn't finished
+keeps_put : (m c : ℕ) (w : World) (items ps : List Parcel) (barriers : ℕ) (finished : Bool)
+    (g : Grows (brought (responses c w.frames) ++ (lane_of w c).items) (brought (responses c w.frames) ++ items) ps) → IsSound m w → 1 ≤ c → c ≤ m
+    → (lane_of w c).finished ≡ false → AreFit w.size (ps ++ g.back)
+    → map (λ (b : ℕ × BarrierKind). b.0) (barriers_of ps) ≡ range_with_len (suc (lane_of w c).barriers) (length (barriers_of ps))
+    → barriers ≡ (lane_of w c).barriers + length (barriers_of ps) → finished ≡ has_end ps
+    → length (lane_of w c).items + length ps ≤ ITEMS_MAX → backlog_in (lane_of w c).items + backlog_in ps ≤ partition_limit w
+    → IsSound m (puts w c (changed (lane_of w c) items barriers finished))
+keeps_put m c w items ps barriers finished g sound low high going fit numbers barriers_is finished_is room lent =
+    let number = sound.lanes in
+    subst (IsSound m) (sym (puts_is w c (changed (lane_of w c) items barriers finished) low (omega arith)))
+    (keeps_put_in m c w (changed (lane_of w c) items barriers finished) sound low high refl
+    (λ r s. put_sound w.size (partition_limit w) (lane_of w c) r (responses c w.frames) (credit_coming c w.controls) (resumptions_coming c w.controls) items ps barriers finished g s going fit numbers barriers_is finished_is room lent))
+
 keeps_more : (m c : ℕ) (w : World) (ps : List Parcel) (barriers : ℕ) (finished : Bool) → IsSound m w → 1 ≤ c → c ≤ m
     → (lane_of w c).finished ≡ false → AreFit w.size ps
     → map (λ (b : ℕ × BarrierKind). b.0) (barriers_of ps) ≡ range_with_len (suc (lane_of w c).barriers) (length (barriers_of ps))
     → barriers ≡ (lane_of w c).barriers + length (barriers_of ps) → finished ≡ has_end ps
     → length (lane_of w c).items + length ps ≤ ITEMS_MAX → backlog_in (lane_of w c).items + backlog_in ps ≤ partition_limit w
     → IsSound m (puts w c (more (lane_of w c) ps barriers finished))
-keeps_more m c w ps barriers finished sound low high going fit numbers barriers_is finished_is room lent =
-    let number = sound.lanes in
-    subst (IsSound m) (sym (puts_is w c (more (lane_of w c) ps barriers finished) low (omega arith)))
-    (keeps_put_in m c w (more (lane_of w c) ps barriers finished) sound low high refl
-    (λ r s. more_sound w.size (partition_limit w) (lane_of w c) r (responses c w.frames) (credit_coming c w.controls) (resumptions_coming c w.controls) ps barriers finished s going fit numbers barriers_is finished_is room lent))
+keeps_more m c w ps barriers finished sound low high going fit =
+    keeps_put m c w ((lane_of w c).items ++ ps) ps barriers finished (behind_all (brought (responses c w.frames)) (lane_of w c).items ps) sound low high going (subst (AreFit w.size) (sym (append-nil ps)) fit)
 
 -- ---- a record
 
@@ -217,18 +269,29 @@ keeps_fill m c n w sound event = emits_sound m c w (replicate n 97) sound event.
 
 -- ---- a barrier, and the end
 
-pub keeps_barrier : (m c k : ℕ) (w : World) → IsSound m w → IsEvent m (events.Barrier c k) → IsSound m (step w (events.Barrier c k)).0
-keeps_barrier m c k w sound event =
+barred_sound : (m c k : ℕ) (kind : BarrierKind) (w : World) → IsSound m w → IsChannel m c → (lane_of w c).finished ≡ false → k ≡ suc (lane_of w c).barriers → length (lane_of w c).items < ITEMS_MAX
+    → IsSound m (puts w c (barred k kind (lane_of w c)))
+barred_sound m c k Inline w sound channel going next room =
     let lane = lane_of w c in
-    let put : World × Reply = (puts w c (record (with_items lane (Barrier k Inline ∷ [])) { barriers = k }), replies.Done) in
+    let within = (sound.each c channel.0 channel.1).lent in
+    keeps_more m c w (Barrier k Inline ∷ []) k lane.finished sound channel.0 channel.1 going tt (ap (λ n. n ∷ []) next) (omega (arith, next)) going (omega (arith, room)) (omega (arith, within))
+barred_sound m c k Front w sound channel going next room =
+    let lane = lane_of w c in
+    let s = sound.each c channel.0 channel.1 in
+    let within = s.lent in
+    let g = in_front (brought (responses c w.frames)) lane.items k in
+    let parts = fit_parts w.size g.front g.back (ap has_end (sym g.was) ∙ (s.agree.unfinished going).1) (subst (AreFit w.size) g.was s.agree.fit) in
+    keeps_put m c w (with_front k lane.items) (Barrier k Front ∷ []) k lane.finished g sound channel.0 channel.1 going parts.2 (ap (λ n. n ∷ []) next) (omega (arith, next)) going (omega (arith, room)) (omega (arith, within))
+
+pub keeps_barrier : (m c k : ℕ) (kind : BarrierKind) (w : World) → IsSound m w → IsEvent m (events.Barrier c k kind) → IsSound m (step w (events.Barrier c k kind)).0
+keeps_barrier m c k kind w sound event =
+    let lane = lane_of w c in
+    let put : World × Reply = (puts w c (barred k kind lane), bar_reply c k kind lane) in
     let fits = ltb (length lane.items) ITEMS_MAX in
     cond_both (lane.finished || not (eqb k (suc lane.barriers))) (w, replies.Refused) (cond fits put (w, replies.Full)) (WithSound m) (λ is. sound) (λ may.
     cond_both fits put (w, replies.Full) (WithSound m) (λ less.
     let parts = or_parts _ _ may in
-    let next : k ≡ suc lane.barriers = eqb-true _ _ (not-false _ parts.1) in
-    let room : length lane.items < ITEMS_MAX = ltb-true _ _ less in
-    let within = (sound.each c event.0.0 event.0.1).lent in
-    keeps_more m c w (Barrier k Inline ∷ []) k lane.finished sound event.0.0 event.0.1 parts.0 tt (ap (λ n. n ∷ []) next) (omega (arith, next)) parts.0 (omega (arith, room)) (omega (arith, within))) (λ is. sound))
+    barred_sound m c k kind w sound event.0 parts.0 (eqb-true _ _ (not-false _ parts.1)) (ltb-true _ _ less)) (λ is. sound))
 
 pub keeps_finish : (m c : ℕ) (w : World) → IsSound m w → IsEvent m (events.Finish c) → IsSound m (step w (events.Finish c)).0
 keeps_finish m c w sound event =

@@ -20,7 +20,7 @@ use Rattle.exchange_world.specs.Sound.{IsSound, AreOfChannels, responses, credit
 use Rattle.exchange_world.proofs.LaneLemmas.{SoundOn, sound_on, lane_put}
 use Rattle.exchange_world.proofs.WorldLemmas.{controls_are-append}
 use Rattle.exchange_world.proofs.Counting.{floating_taken}
-use Rattle.exchange_world.proofs.ReceivingPolls.{takes_first, read_inbox, is_read}
+use Rattle.exchange_world.proofs.ReceivingPolls.{takes, read_inbox, is_read}
 use Rattle.exchange_world.proofs.ReceivingLanes.{pushed_on, told_on, polled_on, read_on, credited_on, resumed_on}
 use Rattle.exchange_world.proofs.ReceivingWays.{response_here, response_there, credit_here, credit_there, no_resumption, resumption_here, resumption_there, no_credit}
 use Rattle.exchange_world.proofs.ReceivingWorlds.{keeps_lane, keeps_own, keeps_asks}
@@ -122,18 +122,17 @@ module _ (m : ℕ) (w : World) (sound : IsSound m w) where
     polled_event : (hold : Bool) (p : Parcel) → data_in p ≡ 0 → poll_gives hold (lane_of w c).inbox.queue ≡ Some p → IsSound m (receives w c (entries.Poll hold gaves.NoBuffer))
     polled_event hold p none gives =
         let lane = sound.each c channel.0 channel.1 in
-        let takes = takes_first w.size hold (lane_of w c).inbox.queue p lane.inbox.fit gives in
-        let on = polled_on w.size (lane_of w c) lane.reader (responses c w.frames) (credit_coming c w.controls) (resumptions_coming c w.controls) (partition_limit w) hold p (sound_on c w lane) takes gives none in
+        let on = polled_on w.size (lane_of w c) lane.reader (responses c w.frames) (credit_coming c w.controls) (resumptions_coming c w.controls) (partition_limit w) hold p (sound_on c w lane) (takes hold (lane_of w c).inbox.queue p gives) gives none in
         keeps_own m w sound c channel.0 channel.1 (record (lane_of w c) { inbox = channel_next (lane_of w c).inbox (entries.Poll hold gaves.NoBuffer) }) w.frames w.controls refl refl on (omega (arith, sound.gate))
 
     polled_data : (hold : Bool) (bytes : List ℕ) → poll_gives hold (lane_of w c).inbox.queue ≡ Some (parcels.Data bytes) → IsSound m (reads w c hold bytes).0
     polled_data hold bytes gives =
         let lane = sound.each c channel.0 channel.1 in
         let inbox = (lane_of w c).inbox in
-        let takes = takes_first w.size hold inbox.queue (parcels.Data bytes) lane.inbox.fit gives in
+        let gone = takes hold inbox.queue (parcels.Data bytes) gives in
         let rest = behind_records ((lane_of w c).rest ++ bytes) in
-        let on = read_on w.size (lane_of w c) lane.reader (responses c w.frames) (credit_coming c w.controls) (resumptions_coming c w.controls) (partition_limit w) hold bytes rest (sound_on c w lane) takes gives in
-        let few = (is_read w.size hold inbox bytes inbox.counts.held lane.inbox takes refl).fewer in
+        let on = read_on w.size (lane_of w c) lane.reader (responses c w.frames) (credit_coming c w.controls) (resumptions_coming c w.controls) (partition_limit w) hold bytes rest (sound_on c w lane) gone gives in
+        let few = (is_read w.size hold inbox bytes inbox.counts.held lane.inbox gone refl).fewer in
         let now : Lane = record (lane_of w c) { inbox = read_inbox inbox hold bytes inbox.counts.held; rest = rest } in
         let next = keeps_own m w sound c channel.0 channel.1 now w.frames w.controls refl refl on (omega (arith, sound.gate, few)) in
         keeps_asks m (with_lane w c now) c next channel.0 channel.1

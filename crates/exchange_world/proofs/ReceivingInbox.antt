@@ -1,6 +1,5 @@
 -- A channel's receiving end stays sound: with what arrives, and with what is polled and comes back.
 use Rattle.std.proofs.Common.{◌≡◌, ℕ, ◌+◌, ◌≤◌, eqb, Bool, true, false, true≢false, List, [], ◌∷◌, ◌++◌, refl, sym, ◌∙◌, arith, length-append}
-use Rattle.flow_defs.specs.declared.task.BarrierKind.TheVariants.{Inline, Front}
 use Rattle.flow_defs.specs.declared.parcel.Parcel.{Parcel}
 use Rattle.flow_defs.specs.declared.parcel.Parcel.TheVariants.{Data, Barrier, End}
 use Rattle.flow_defs.specs.Parcels.{has_end}
@@ -17,21 +16,18 @@ use Rattle.exchange_world.proofs.Counting.{backlog-snoc, end-snoc, exclusive_tak
 pub fit-snoc : (size : ℕ) (ps : List Parcel) (p : Parcel) → AreFit size ps → has_end ps ≡ false → AreFit size (p ∷ []) → AreFit size (ps ++ p ∷ [])
 fit-snoc size [] p fit more own = own
 fit-snoc size (Data bytes ∷ ps) p fit more own = (fit.0, fit.1, fit-snoc size ps p fit.2 more own)
-fit-snoc size (Barrier k Inline ∷ ps) p fit more own = fit-snoc size ps p fit more own
-fit-snoc size (Barrier k Front ∷ ps) p fit more own = fit
+fit-snoc size (Barrier k kind ∷ ps) p fit more own = fit-snoc size ps p fit more own
 fit-snoc size (End ∷ ps) p fit more own = absurd (true≢false more)
 
 -- the first of these alone is fit, and so are the others
 pub fit_first : (size : ℕ) (p : Parcel) (ps : List Parcel) → AreFit size (p ∷ ps) → AreFit size (p ∷ [])
 fit_first size (Data bytes) ps fit = (fit.0, fit.1, tt)
-fit_first size (Barrier k Inline) ps fit = tt
-fit_first size (Barrier k Front) ps fit = fit
+fit_first size (Barrier k kind) ps fit = tt
 fit_first size End ps fit = refl
 
 pub fit_rest : (size : ℕ) (p : Parcel) (ps : List Parcel) → AreFit size (p ∷ ps) → AreFit size ps
 fit_rest size (Data bytes) ps fit = fit.2
-fit_rest size (Barrier k Inline) ps fit = fit
-fit_rest size (Barrier k Front) ps fit = absurd fit
+fit_rest size (Barrier k kind) ps fit = fit
 fit_rest size End [] fit = tt
 fit_rest size End (q ∷ qs) fit = absurd (no fit)
   where

@@ -19,7 +19,7 @@ use Rattle.exchange_world.specs.Sound.{AreFit, IsSoundInbox}
 use Rattle.exchange_world.proofs.LaneLemmas.{AgreesOn, SoundOn}
 use Rattle.exchange_world.proofs.Counting.{backlog-cons, inline-cons}
 use Rattle.exchange_world.proofs.ReceivingInbox.{fit_first, fit_rest, inbox_pushed, inbox_told, inbox_added}
-use Rattle.exchange_world.proofs.ReceivingPolls.{TakesFirst, inbox_polled, inline_polled, read_inbox, is_read}
+use Rattle.exchange_world.proofs.ReceivingPolls.{Takes, inbox_polled, inline_polled, read_inbox, is_read}
 
 -- ---- the first that is on the way arrives
 
@@ -132,13 +132,13 @@ module _ (size : ℕ) (lane : Lane) (r : Reader) (way : List (ℕ × Parcel)) (c
 
   -- ---- what waits is polled
 
-  pub polled_on : (limit : ℕ) (hold : Bool) (p : Parcel) → SoundOn size limit lane r way credit resumptions → TakesFirst hold lane.inbox.queue p → poll_gives hold lane.inbox.queue ≡ Some p → data_in p ≡ 0 →
+  pub polled_on : (limit : ℕ) (hold : Bool) (p : Parcel) → SoundOn size limit lane r way credit resumptions → Takes lane.inbox.queue p (poll_leaves hold lane.inbox.queue) → poll_gives hold lane.inbox.queue ≡ Some p → data_in p ≡ 0 →
       SoundOn size limit (record lane { inbox = channel_next lane.inbox (Poll hold NoBuffer) }) r way credit resumptions
   polled_on limit hold p sound takes gives none =
       sound_inbox limit (poll_leaves hold lane.inbox.queue) lane.inbox.counts (lane.inbox.owed + inline_in (option_to_list (poll_gives hold lane.inbox.queue))) lane.rest
       (inline_polled hold lane.inbox.queue p lane.inbox.owed takes gives) sound (inbox_polled size hold lane.inbox p sound.inbox takes none)
 
-  pub read_on : (limit : ℕ) (hold : Bool) (bytes rest : List ℕ) → SoundOn size limit lane r way credit resumptions → TakesFirst hold lane.inbox.queue (Data bytes) → poll_gives hold lane.inbox.queue ≡ Some (Data bytes) →
+  pub read_on : (limit : ℕ) (hold : Bool) (bytes rest : List ℕ) → SoundOn size limit lane r way credit resumptions → Takes lane.inbox.queue (Data bytes) (poll_leaves hold lane.inbox.queue) → poll_gives hold lane.inbox.queue ≡ Some (Data bytes) →
       SoundOn size limit (record lane { inbox = read_inbox lane.inbox hold bytes lane.inbox.counts.held; rest = rest }) r way credit resumptions
   read_on limit hold bytes rest sound takes gives =
       let now = read_inbox lane.inbox hold bytes lane.inbox.counts.held in

@@ -1,12 +1,13 @@
--- What a poll gives of an inbox is the first that waits, since no front barrier does; the inbox stays sound.
-use Rattle.std.proofs.Common.{◌≡◌, ℕ, suc, ◌+◌, ◌-◌, ◌≤◌, ◌<◌, Bool, true, false, not, ◌&&◌, cond, List, [], ◌∷◌, length, drop, refl, sym, ap, subst, ◌∙◌, arith, Some, None}
+-- A poll takes what is due of an inbox, the first or a front barrier; the inbox stays sound.
+use Rattle.std.proofs.Common.{◌≡◌, ℕ, suc, ◌+◌, ◌-◌, ◌≤◌, ◌<◌, Bool, true, false, not, ◌&&◌, cond, List, [], ◌∷◌, ◌++◌, length, drop, refl, sym, ap, subst, ◌∙◌, arith, Some, None}
 use Rattle.std.specs.Prelude.{count_by, option_to_list}
 use Rattle.std.proofs.lemmas.Bool.{ltb-true, and_parts}
 use Rattle.std.proofs.lemmas.Option.{none-some, same_Some}
-use Rattle.flow_defs.specs.declared.task.BarrierKind.TheVariants.{Inline, Front}
 use Rattle.flow_defs.specs.declared.parcel.Parcel.{Parcel}
 use Rattle.flow_defs.specs.declared.parcel.Parcel.TheVariants.{Data, Barrier, End}
-use Rattle.flow_defs.specs.Parcels.{has_end}
+use Rattle.flow_defs.specs.Parcels.{data_of, has_end}
+use Rattle.flow_defs.proofs.Lists.{no_cons}
+use Rattle.flow_defs.proofs.ParcelLemmas.{data_of-append}
 use Rattle.input_channel.specs.declared.entry.Gave.TheVariants.{NoBuffer}
 use Rattle.input_channel.specs.declared.entry.ReceiveEntry.TheVariants.{Poll, Returned}
 use Rattle.input_channel.specs.Inboxes.{front_waits, first_parcel, first_barrier, without_barrier, due, undue, is_barrier, poll_gives, poll_leaves}
@@ -14,50 +15,81 @@ use Rattle.input_channel.specs.Counts.{Counts, data_in, gave_by, lets_go}
 use Rattle.input_channel.specs.States.{ChannelState, channel_next}
 use Rattle.input_channel.specs.Legal.{inline_in}
 use Rattle.input_channel.proofs.CountLemmas.{count-cons}
+use Rattle.input_channel.proofs.InboxLaws.{inline_in-append}
 use Rattle.exchange_world.specs.Lanes.{backlog_in, floating_here}
 use Rattle.exchange_world.specs.Steps.{is_exclusive}
 use Rattle.exchange_world.specs.Sound.{IsSoundInbox, AreFit}
 use Rattle.exchange_world.proofs.Counting.{backlog-cons, inline-cons}
+use Rattle.exchange_world.proofs.PuttingLemmas.{backlog_in-append}
 use Rattle.exchange_world.proofs.ReceivingInbox.{fit_rest}
 
 -- ---- what is due
 
-no_front : (size : ℕ) (ps : List Parcel) → AreFit size ps → front_waits ps ≡ false
-no_front size [] fit = refl
-no_front size (Data bytes ∷ ps) fit = no_front size ps fit.2
-no_front size (Barrier k Inline ∷ ps) fit = refl
-no_front size (Barrier k Front ∷ ps) fit = absurd fit
-no_front size (End ∷ ps) fit = ap front_waits fit
+-- This one is taken out of a queue, and these are left. No data wait before it if it has data itself.
+pub record Takes (queue : List Parcel) (p : Parcel) (left : List Parcel) : Type 0 where
+  pub before : List Parcel
+  pub behind : List Parcel
+  pub queue_is : queue ≡ before ++ p ∷ behind
+  pub left_is : left ≡ before ++ behind
+  pub data_are : data_of queue ≡ data_of (p ∷ []) ++ data_of left
 
-due_is : (size : ℕ) (ps : List Parcel) → AreFit size ps → due ps ≡ first_parcel ps
-due_is size ps fit = ap (λ b. cond b (first_barrier ps) (first_parcel ps)) (no_front size ps fit)
+first_takes : (ps : List Parcel) (p : Parcel) → first_parcel ps ≡ Some p → Takes ps p (drop 1 ps)
+first_takes [] p e = absurd (none-some _ e)
+first_takes (q ∷ ps) p e = subst (λ (x : Parcel). Takes (q ∷ ps) x ps) (same_Some _ _ e) (record { before = []; behind = ps; queue_is = refl; left_is = refl; data_are = data_of-append (q ∷ []) ps })
 
-undue_is : (size : ℕ) (ps : List Parcel) → AreFit size ps → undue ps ≡ drop 1 ps
-undue_is size ps fit = ap (λ b. cond b (without_barrier ps) (drop 1 ps)) (no_front size ps fit)
+barrier_takes : (ps : List Parcel) (p : Parcel) → first_barrier ps ≡ Some p → (data_of (p ∷ []) ≡ []) × Takes ps p (without_barrier ps)
+barrier_takes [] p e = absurd (none-some _ e)
+barrier_takes (Data bytes ∷ ps) p e =
+    let later = barrier_takes ps p e in
+    let t = later.1 in
+    let left = data_of (without_barrier ps) in (
+      later.0,
+      record {
+        before = Data bytes ∷ t.before;
+        behind = t.behind;
+        queue_is = ap (λ l. Data bytes ∷ l) t.queue_is;
+        left_is = ap (λ l. Data bytes ∷ l) t.left_is;
+        data_are = ap (λ l. bytes ++ l) (t.data_are ∙ ap (λ l. l ++ left) later.0) ∙ ap (λ l. l ++ (bytes ++ left)) (sym later.0);
+      },
+    )
+barrier_takes (Barrier k kind ∷ ps) p e =
+    subst (λ (x : Parcel). (data_of (x ∷ []) ≡ []) × Takes (Barrier k kind ∷ ps) x ps) (same_Some _ _ e) (refl, record { before = []; behind = ps; queue_is = refl; left_is = refl; data_are = refl })
+barrier_takes (End ∷ ps) p e =
+    let later = barrier_takes ps p e in
+    let t = later.1 in
+    (later.0, record { before = End ∷ t.before; behind = t.behind; queue_is = ap (λ l. End ∷ l) t.queue_is; left_is = ap (λ l. End ∷ l) t.left_is; data_are = t.data_are })
 
-first_is : (ps : List Parcel) (p : Parcel) → first_parcel ps ≡ Some p → ps ≡ p ∷ drop 1 ps
-first_is [] p e = absurd (none-some _ e)
-first_is (q ∷ ps) p e = ap (λ x. x ∷ ps) (same_Some _ _ e)
+due_takes : (ps : List Parcel) (p : Parcel) → due ps ≡ Some p → Takes ps p (undue ps)
+due_takes ps p =
+    elim (front_waits ps) as (λ b. cond b (first_barrier ps) (first_parcel ps) ≡ Some p → Takes ps p (cond b (without_barrier ps) (drop 1 ps))) [
+      | true ↦ λ e. (barrier_takes ps p e).1
+      | false ↦ first_takes ps p
+    ]
 
--- a poll that gives something takes the first
-pub record TakesFirst (hold : Bool) (queue : List Parcel) (p : Parcel) : Type 0 where
-  pub queue_is : queue ≡ p ∷ drop 1 queue
-  pub leaves : poll_leaves hold queue ≡ drop 1 queue
-
-pub takes_first : (size : ℕ) (hold : Bool) (queue : List Parcel) (p : Parcel) → AreFit size queue → poll_gives hold queue ≡ Some p → TakesFirst hold queue p
-takes_first size hold queue p fit gives =
-    let parts = at (hold && is_barrier (due queue)) gives in record { queue_is = parts.0; leaves = parts.1 }
-  where
-    at : (b : Bool) → cond b None (due queue) ≡ Some p → (queue ≡ p ∷ drop 1 queue) × (cond b queue (undue queue) ≡ drop 1 queue)
-    at true e = absurd (none-some _ e)
-    at false e = (first_is queue p (sym (due_is size queue fit) ∙ e), undue_is size queue fit)
+-- a poll that gives something takes it
+pub takes : (hold : Bool) (queue : List Parcel) (p : Parcel) → poll_gives hold queue ≡ Some p → Takes queue p (poll_leaves hold queue)
+takes hold queue p =
+    elim (hold && is_barrier (due queue)) as (λ b. cond b None (due queue) ≡ Some p → Takes queue p (cond b queue (undue queue))) [
+      | true ↦ λ e. absurd (none-some _ e)
+      | false ↦ due_takes queue p
+    ]
 
 -- ---- the inbox after a poll
 
-end_rest : (p : Parcel) (ps : List Parcel) → has_end ps ≡ true → has_end (p ∷ ps) ≡ true
-end_rest (Data bytes) ps e = e
-end_rest (Barrier k kind) ps e = e
-end_rest End ps e = refl
+fit_without : (size : ℕ) (before : List Parcel) (p : Parcel) (behind : List Parcel) → AreFit size (before ++ p ∷ behind) → AreFit size (before ++ behind)
+fit_without size [] p behind fit = fit_rest size p behind fit
+fit_without size (Data bytes ∷ before) p behind fit = (fit.0, fit.1, fit_without size before p behind fit.2)
+fit_without size (Barrier k kind ∷ before) p behind fit = fit_without size before p behind fit
+fit_without size (End ∷ []) p behind fit = absurd (no_cons p behind fit)
+fit_without size (End ∷ q ∷ before) p behind fit = absurd (no_cons q (before ++ p ∷ behind) fit)
+
+end_with : (before : List Parcel) (p : Parcel) (behind : List Parcel) → has_end (before ++ behind) ≡ true → has_end (before ++ p ∷ behind) ≡ true
+end_with [] (Data bytes) behind e = e
+end_with [] (Barrier k kind) behind e = e
+end_with [] End behind e = refl
+end_with (Data bytes ∷ before) p behind e = end_with before p behind e
+end_with (Barrier k kind ∷ before) p behind e = end_with before p behind e
+end_with (End ∷ before) p behind e = refl
 
 -- what holds of the queue that is left
 record IsRest (size : ℕ) (inbox : ChannelState) (p : Parcel) (left : List Parcel) : Type 0 where
@@ -65,16 +97,19 @@ record IsRest (size : ℕ) (inbox : ChannelState) (p : Parcel) (left : List Parc
   pub fit : AreFit size left
   pub end : has_end left ≡ true → inbox.ended ≡ true
 
-is_rest : (size : ℕ) (hold : Bool) (inbox : ChannelState) (p : Parcel) → IsSoundInbox size inbox → TakesFirst hold inbox.queue p → IsRest size inbox p (poll_leaves hold inbox.queue)
-is_rest size hold inbox p sound takes = subst (IsRest size inbox p) (sym takes.leaves) (record {
-  data_is = ap backlog_in takes.queue_is ∙ backlog-cons p (drop 1 inbox.queue);
-  fit = fit_rest size p (drop 1 inbox.queue) (subst (AreFit size) takes.queue_is sound.fit);
-  end = λ e. sound.end (ap has_end takes.queue_is ∙ end_rest p (drop 1 inbox.queue) e);
-})
+is_rest : (size : ℕ) (inbox : ChannelState) (p : Parcel) (left : List Parcel) → IsSoundInbox size inbox → Takes inbox.queue p left → IsRest size inbox p left
+is_rest size inbox p left sound t = record {
+  data_is =
+      let all = ap backlog_in t.queue_is ∙ backlog_in-append t.before (p ∷ t.behind) in
+      let rest = ap backlog_in t.left_is ∙ backlog_in-append t.before t.behind in
+      omega (arith, all, rest, backlog-cons p t.behind);
+  fit = subst (AreFit size) (sym t.left_is) (fit_without size t.before p t.behind (subst (AreFit size) t.queue_is sound.fit));
+  end = λ e. sound.end (ap has_end t.queue_is ∙ end_with t.before p t.behind (ap has_end (sym t.left_is) ∙ e));
+}
 
-pub inbox_polled : (size : ℕ) (hold : Bool) (inbox : ChannelState) (p : Parcel) → IsSoundInbox size inbox → TakesFirst hold inbox.queue p → data_in p ≡ 0 → IsSoundInbox size (channel_next inbox (Poll hold NoBuffer))
-inbox_polled size hold inbox p sound takes none =
-    let rest = is_rest size hold inbox p sound takes in
+pub inbox_polled : (size : ℕ) (hold : Bool) (inbox : ChannelState) (p : Parcel) → IsSoundInbox size inbox → Takes inbox.queue p (poll_leaves hold inbox.queue) → data_in p ≡ 0 → IsSoundInbox size (channel_next inbox (Poll hold NoBuffer))
+inbox_polled size hold inbox p sound t none =
+    let rest = is_rest size inbox p (poll_leaves hold inbox.queue) sound t in
     record {
       size_is = sound.size_is;
       room_is = sound.room_is;
@@ -168,12 +203,12 @@ exclusive_fewer inbox left owed rest false is = let fl = ap (count_by not) is �
 goes_floating : (c : Counts) → lets_go c ≡ true → 0 < c.floating
 goes_floating c e = ltb-true 0 c.floating (and_parts _ _ e).1
 
-pub is_read : (size : ℕ) (hold : Bool) (inbox : ChannelState) (bytes : List ℕ) (held : List Bool) → IsSoundInbox size inbox → TakesFirst hold inbox.queue (Data bytes) → inbox.counts.held ≡ held → IsRead size inbox (read_inbox inbox hold bytes held)
-is_read size hold inbox bytes [] sound takes is =
-    let rest = is_rest size hold inbox (Data bytes) sound takes in
+pub is_read : (size : ℕ) (hold : Bool) (inbox : ChannelState) (bytes : List ℕ) (held : List Bool) → IsSoundInbox size inbox → Takes inbox.queue (Data bytes) (poll_leaves hold inbox.queue) → inbox.counts.held ≡ held → IsRead size inbox (read_inbox inbox hold bytes held)
+is_read size hold inbox bytes [] sound t is =
+    let rest = is_rest size inbox (Data bytes) (poll_leaves hold inbox.queue) sound t in
     absurd (none_held (backlog_in (poll_leaves hold inbox.queue)) (backlog_in inbox.queue) inbox.counts.held sound.held (let e : backlog_in inbox.queue ≡ suc (backlog_in (poll_leaves hold inbox.queue)) = omega (arith, rest.data_is) in e) is)
-is_read size hold inbox bytes (true ∷ held) sound takes is =
-    let rest = is_rest size hold inbox (Data bytes) sound takes in
+is_read size hold inbox bytes (true ∷ held) sound t is =
+    let rest = is_rest size inbox (Data bytes) (poll_leaves hold inbox.queue) sound t in
     let left = poll_leaves hold inbox.queue in
     let owed = inbox.owed + inline_in (option_to_list (poll_gives hold inbox.queue)) in
     let first = head_held true held inbox.counts.held is in
@@ -182,8 +217,8 @@ is_read size hold inbox bytes (true ∷ held) sound takes is =
       sound = exclusive_back size inbox left owed (drop 1 inbox.counts.held) (lets_go polled) sound first (let e : suc (backlog_in left) ≡ backlog_in inbox.queue = omega (arith, rest.data_is) in e) rest.fit rest.end (goes_floating polled);
       fewer = exclusive_fewer inbox left owed (drop 1 inbox.counts.held) (lets_go polled) first;
     }
-is_read size hold inbox bytes (false ∷ held) sound takes is =
-    let rest = is_rest size hold inbox (Data bytes) sound takes in
+is_read size hold inbox bytes (false ∷ held) sound t is =
+    let rest = is_rest size inbox (Data bytes) (poll_leaves hold inbox.queue) sound t in
     let left = poll_leaves hold inbox.queue in
     let owed = inbox.owed + inline_in (option_to_list (poll_gives hold inbox.queue)) in
     let first = head_held false held inbox.counts.held is in
@@ -194,10 +229,10 @@ is_read size hold inbox bytes (false ∷ held) sound takes is =
     }
 
 -- the inline barriers that wait and those that are owed are as many as before
-pub inline_polled : (hold : Bool) (queue : List Parcel) (p : Parcel) (owed : ℕ) → TakesFirst hold queue p → poll_gives hold queue ≡ Some p →
+pub inline_polled : (hold : Bool) (queue : List Parcel) (p : Parcel) (owed : ℕ) → Takes queue p (poll_leaves hold queue) → poll_gives hold queue ≡ Some p →
     inline_in (poll_leaves hold queue) + (owed + inline_in (option_to_list (poll_gives hold queue))) ≡ inline_in queue + owed
-inline_polled hold queue p owed takes gives =
-    let left : inline_in (poll_leaves hold queue) ≡ inline_in (drop 1 queue) = ap inline_in takes.leaves in
+inline_polled hold queue p owed t gives =
+    let left = ap inline_in t.left_is ∙ inline_in-append t.before t.behind in
     let given : inline_in (option_to_list (poll_gives hold queue)) ≡ inline_in (p ∷ []) = ap (λ o. inline_in (option_to_list o)) gives in
-    let all : inline_in queue ≡ inline_in (p ∷ []) + inline_in (drop 1 queue) = ap inline_in takes.queue_is ∙ inline-cons p (drop 1 queue) in
-    omega (arith, left, given, all)
+    let all = ap inline_in t.queue_is ∙ inline_in-append t.before (p ∷ t.behind) in
+    omega (arith, left, given, all, inline-cons p t.behind)

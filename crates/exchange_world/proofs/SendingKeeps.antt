@@ -22,7 +22,7 @@ pub record ReceivingKeeps : Type 0 where
 pub steps_keep_sound : ReceivingKeeps → StepsKeepSound
 steps_keep_sound receiving m w (events.Emit c text) sound is = keeps_emit m c w text sound is
 steps_keep_sound receiving m w (events.Fill c n) sound is = keeps_fill m c n w sound is
-steps_keep_sound receiving m w (events.Barrier c k) sound is = keeps_barrier m c k w sound is
+steps_keep_sound receiving m w (events.Barrier c k kind) sound is = keeps_barrier m c k kind w sound is
 steps_keep_sound receiving m w (events.Finish c) sound is = keeps_finish m c w sound is
 steps_keep_sound receiving m w events.Send sound is = keeps_send m w sound
 steps_keep_sound receiving m w events.Announce sound is = keeps_announce m w sound

@@ -3,7 +3,6 @@ use Rattle.std.proofs.Common.{◌≡◌, ℕ, suc, ◌+◌, ◌%◌, ◌^◌, �
 use Rattle.std.specs.Prelude.{Ok, Err}
 use Rattle.std.specs.List.{range_with_len}
 use Rattle.std.proofs.lemmas.Bool.{ne_eqb, le-ltb}
-use Rattle.flow_defs.specs.declared.task.BarrierKind.TheVariants.{Inline, Front}
 use Rattle.flow_defs.specs.declared.parcel.Parcel.{Parcel}
 use Rattle.flow_defs.specs.declared.parcel.Parcel.TheVariants.{Data, Barrier, End}
 use Rattle.flow_defs.specs.Parcels.{barriers_of}
@@ -34,9 +33,8 @@ kind_taken : (size : ℕ) (inbox : ChannelState) (p : Parcel) (behind : List Par
 kind_taken size inbox (Data bytes) behind size_is fit paid barriers =
     ap (λ b. cond b (Some (OverCredit ((inbox.received + 1) % 2 ^ 64) inbox.announced)) (cond (ltb inbox.size (length bytes)) (Some (OverSize (length bytes) inbox.size)) None)) (ne_eqb inbox.credit 0 (λ none. omega (arith, paid, none)))
     ∙ ap (λ b. cond b (Some (OverSize (length bytes) inbox.size)) None) (le-ltb inbox.size (length bytes) (omega (arith, fit.1, size_is)))
-kind_taken size inbox (Barrier k Inline) behind size_is fit paid barriers =
+kind_taken size inbox (Barrier k kind) behind size_is fit paid barriers =
     ap (λ b. cond b None (Some (WrongBarrier (suc inbox.last % 2 ^ 64) k))) (eq-eqb k (suc inbox.last) (head_same k (suc inbox.last) _ _ barriers))
-kind_taken size inbox (Barrier k Front) behind size_is fit paid barriers = absurd fit
 kind_taken size inbox End behind size_is fit paid barriers = refl
 
 first_taken : (size limit : ℕ) (lane : Lane) (r : Reader) (number : ℕ) (p : Parcel) (way : List (ℕ × Parcel)) (credit resumptions backlog : ℕ) → SoundOn size limit lane r ((number, p) ∷ way) credit resumptions →

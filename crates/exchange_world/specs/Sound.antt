@@ -5,7 +5,6 @@
 -- buffers. It says nothing of refusals, since there are none.
 use Rattle.std.specs.Prelude.{◌≡◌, ◌⊎◌, ℕ, suc, ◌+◌, ◌%◌, ◌^◌, ◌≤◌, ◌==◌, true, false, List, [], ◌∷◌, ◌++◌, length, map, if◌then◌else◌, Some}
 use Rattle.std.specs.List.{range_with_len}
-use Rattle.flow_defs.specs.declared.task.BarrierKind.TheVariants.{Inline, Front}
 use Rattle.flow_defs.specs.declared.parcel.Parcel.{Parcel}
 use Rattle.flow_defs.specs.declared.parcel.Parcel.TheVariants as parcels
 use Rattle.flow_defs.specs.Parcels.{barriers_of, has_end}
@@ -48,12 +47,11 @@ not_arrived c w = coming c w ++ (lane_of w c).items
 
 -- ---- parcels
 
--- Data fit in a segment and are not empty, barriers are inline, and nothing is behind the end.
+-- Data fit in a segment and are not empty, and nothing is behind the end.
 abbrev pub AreFit : ℕ → List Parcel → Type 0
 AreFit size [] = Unit {0}
 AreFit size (parcels.Data bytes ∷ ps) = (1 ≤ length bytes) × (length bytes ≤ size) × AreFit size ps
-AreFit size (parcels.Barrier k Inline ∷ ps) = AreFit size ps
-AreFit size (parcels.Barrier k Front ∷ ps) = ⊥
+AreFit size (parcels.Barrier k kind ∷ ps) = AreFit size ps
 AreFit size (parcels.End ∷ ps) = ps ≡ []
 
 -- These have the numbers from this one on, modulo 2^32.

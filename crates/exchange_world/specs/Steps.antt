@@ -5,9 +5,13 @@ use Rattle.std.specs.Option.{option_map_or}
 use Rattle.flow_defs.specs.Items.{Items}
 use Rattle.flow_defs.specs.Records.{encoded}
 use Rattle.flow_defs.specs.declared.task.ChannelId.{ChannelId}
+use Rattle.flow_defs.specs.Parcels.{data_of}
+use Rattle.flow_defs.specs.declared.task.BarrierKind.{BarrierKind}
 use Rattle.flow_defs.specs.declared.task.BarrierKind.TheVariants.{Inline, Front}
 use Rattle.flow_defs.specs.declared.parcel.Parcel.{Parcel}
 use Rattle.flow_defs.specs.declared.parcel.Parcel.TheVariants as parcels
+use Rattle.subpartition.specs.Barriers.{is_barrier, behind_last}
+use Rattle.subpartition.specs.Sending.{with_front}
 use Rattle.credit_reader.specs.declared.reader.Reader.{Reader}
 use Rattle.credit_reader.specs.declared.reader.SentKind.{SentKind}
 use Rattle.credit_reader.specs.declared.reader.SentKind.TheVariants as sent
@@ -61,12 +65,22 @@ emits w c text =
     else if nat_lt (partition_limit w) (partition_lent lane + length buffers) || nat_lt ITEMS_MAX (length lane.items + length buffers) then (w, replies.Full)
     else (puts w c (with_items lane buffers), replies.Queued c (partition_lent lane + length buffers))
 
--- An inline barrier is put, where it has the next number and there is room for it.
-abbrev pub bars : World → ℕ → ℕ → World × Reply
-bars w c k =
+-- The channel with a barrier: an inline one comes behind all others, a front one before the data behind the last barrier.
+abbrev pub barred : ℕ → BarrierKind → Lane → Lane
+barred k Inline lane = record (with_items lane (parcels.Barrier k Inline ∷ [])) { barriers = k }
+barred k Front lane = record lane { items = with_front k lane.items; barriers = k }
+
+-- What is replied to it: a front barrier tells the data that it overtakes.
+abbrev pub bar_reply : ℕ → ℕ → BarrierKind → Lane → Reply
+bar_reply c k Inline lane = replies.Done
+bar_reply c k Front lane = replies.SavedOut c k (record { items = data_of (behind_last is_barrier lane.items); room = 0 })
+
+-- A barrier is put, where it has the next number and there is room for it.
+abbrev pub bars : World → ℕ → ℕ → BarrierKind → World × Reply
+bars w c k kind =
     let lane = lane_of w c in
     if lane.finished || not (k == suc lane.barriers) then (w, replies.Refused)
-    else if nat_lt (length lane.items) ITEMS_MAX then (puts w c (record (with_items lane (parcels.Barrier k Inline ∷ [])) { barriers = k }), replies.Done)
+    else if nat_lt (length lane.items) ITEMS_MAX then (puts w c (barred k kind lane), bar_reply c k kind lane)
     else (w, replies.Full)
 
 -- The end is put, where there is room for it.
@@ -182,7 +196,7 @@ reads w c hold bytes =
 abbrev pub polls_item : World → ℕ → Bool → Option Parcel → World × Reply
 polls_item w c hold None = (w, if length (lane_of w c).inbox.queue == 0 then replies.Empty c else replies.Held c)
 polls_item w c hold (Some (parcels.Data bytes)) = reads w c hold bytes
-polls_item w c hold (Some (parcels.Barrier k kind)) = (receives w c (entries.Poll hold gaves.NoBuffer), replies.Barrier c k)
+polls_item w c hold (Some (parcels.Barrier k kind)) = (receives w c (entries.Poll hold gaves.NoBuffer), replies.Barrier c k kind)
 polls_item w c hold (Some parcels.End) = (receives w c (entries.Poll hold gaves.NoBuffer), replies.End c)
 
 abbrev pub polls : World → ℕ → Bool → World × Reply
@@ -194,7 +208,7 @@ polls w c hold = polls_item w c hold (poll_gives hold (lane_of w c).inbox.queue)
 abbrev pub step : World → Event → World × Reply
 step w (events.Emit c text) = emits w c text.items
 step w (events.Fill c n) = emits w c (replicate n 97)
-step w (events.Barrier c k) = bars w c k
+step w (events.Barrier c k kind) = bars w c k kind
 step w (events.Finish c) = finishes w c
 step w events.Send = sends_of w w.sender.queue
 step w events.Announce = announces w (due_first w.sender)
@@ -215,7 +229,8 @@ abbrev pub replies_to : World → List Event → List Reply
 replies_to w [] = []
 replies_to w (e ∷ es) = (step w e).1 ∷ replies_to (step w e).0 es
 
--- A reply, whatever the room is that its records have for more.
+-- A reply, whatever the room is that its records or its bytes have for more.
 abbrev pub bare : Reply → Reply
 bare (replies.Data c len records) = replies.Data c len (listed (map (λ (r : Items ℕ). r.items) records.items))
+bare (replies.SavedOut c k bytes) = replies.SavedOut c k (record { items = bytes.items; room = 0 })
 bare reply = reply

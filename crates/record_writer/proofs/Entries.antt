@@ -3,7 +3,7 @@ use Rattle.std.proofs.Common.{◌≡◌, ℕ, suc, ◌+◌, true, false, cond, O
 use Rattle.std.proofs.lemmas.List.{map-append}
 use Rattle.flow_defs.specs.declared.task.BarrierKind.TheVariants.{Inline}
 use Rattle.subpartition.specs.declared.entry.SendEntry.{SendEntry}
-use Rattle.subpartition.specs.declared.entry.SendEntry.TheVariants.{Put, PutInline, Finish, Take, Size}
+use Rattle.subpartition.specs.declared.entry.SendEntry.TheVariants.{Put, PutInline, PutFront, Finish, Take, Size}
 use Rattle.subpartition.specs.Sending.{put, barriers_put, is_finished}
 use Rattle.subpartition.proofs.Travelling.{barriers_put-append, is_finished-append}
 use Rattle.record_writer.specs.Writers.{AreCutFrom, last_put, GrewByData, GrewUpTo}
@@ -16,6 +16,7 @@ pub last-append : (before : Option ℕ) (own more : List SendEntry) → last_put
 last-append before [] more = refl
 last-append before (Put b ∷ own) more = last-append (Some (length b)) own more
 last-append before (PutInline k ∷ own) more = last-append None own more
+last-append before (PutFront k ∷ own) more = last-append None own more
 last-append before (Finish ∷ own) more = last-append None own more
 last-append before (Take ∷ own) more = last-append before own more
 last-append before (Size n ∷ own) more = last-append before own more
@@ -25,6 +26,7 @@ pub cut-append : (size : ℕ) (before : Option ℕ) (own more : List SendEntry) 
 cut-append size before [] more was behind = behind
 cut-append size before (Put b ∷ own) more was behind = (was.0, was.1, cut-append size (Some (length b)) own more was.2 behind)
 cut-append size before (PutInline k ∷ own) more was behind = cut-append size None own more was behind
+cut-append size before (PutFront k ∷ own) more was behind = cut-append size None own more was behind
 cut-append size before (Finish ∷ own) more was behind = cut-append size None own more was behind
 cut-append size before (Take ∷ own) more was behind = cut-append size before own more was behind
 cut-append size before (Size n ∷ own) more was behind = cut-append size before own more was behind

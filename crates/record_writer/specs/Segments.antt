@@ -6,7 +6,7 @@ use Rattle.turn_cell.specs.Passes.{mine}
 use Rattle.local_pool.specs.Lending.{PoolPass, lends, returns}
 use Rattle.local_pool.specs.declared.entry.PoolEntry.{PoolEntry}
 use Rattle.subpartition.specs.declared.entry.SendEntry.{SendEntry}
-use Rattle.subpartition.specs.declared.entry.SendEntry.TheVariants.{Put, PutInline, Finish, Take, Size}
+use Rattle.subpartition.specs.declared.entry.SendEntry.TheVariants.{Put, PutInline, PutFront, Finish, Take, Size}
 use Rattle.record_writer.specs.declared.part.Part.{Part}
 use Rattle.record_writer.specs.declared.supply.Supply.{Supply}
 use Rattle.record_writer.specs.declared.channels.Channels.{Channels}
@@ -16,6 +16,7 @@ use Rattle.record_writer.specs.Writers.{SendPass, Writer}
 abbrev pub is_buffer : SendEntry → Bool
 is_buffer (Put bytes) = true
 is_buffer (PutInline k) = false
+is_buffer (PutFront k) = false
 is_buffer Finish = false
 is_buffer Take = false
 is_buffer (Size n) = false

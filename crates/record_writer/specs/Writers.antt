@@ -16,7 +16,7 @@ pub use Rattle.local_pool.specs.Lending.{PoolCell}
 use Rattle.local_pool.specs.declared.entry.PoolEntry.{PoolEntry}
 use Rattle.flow_defs.specs.Limits.{segment_min}
 use Rattle.subpartition.specs.declared.entry.SendEntry.{SendEntry}
-use Rattle.subpartition.specs.declared.entry.SendEntry.TheVariants.{Put, PutInline, Finish, Take, Size}
+use Rattle.subpartition.specs.declared.entry.SendEntry.TheVariants.{Put, PutInline, PutFront, Finish, Take, Size}
 use Rattle.subpartition.specs.Queues.{Queue}
 use Rattle.subpartition.specs.Sending.{put, barriers_put, is_finished}
 use Rattle.record_writer.specs.declared.part.Part.{Part}
@@ -78,6 +78,7 @@ abbrev pub AreCutFrom : ℕ → Option ℕ → List SendEntry → Type 0
 AreCutFrom size before [] = ⊤
 AreCutFrom size before (Put bytes ∷ es) = IfSome before (λ n. segment_min ≤ n) × (length bytes ≤ size) × AreCutFrom size (Some (length bytes)) es
 AreCutFrom size before (PutInline k ∷ es) = AreCutFrom size None es
+AreCutFrom size before (PutFront k ∷ es) = AreCutFrom size None es
 AreCutFrom size before (Finish ∷ es) = AreCutFrom size None es
 AreCutFrom size before (Take ∷ es) = AreCutFrom size before es
 AreCutFrom size before (Size n ∷ es) = AreCutFrom size before es
@@ -90,6 +91,7 @@ abbrev pub last_put : Option ℕ → List SendEntry → Option ℕ
 last_put before [] = before
 last_put before (Put bytes ∷ es) = last_put (Some (length bytes)) es
 last_put before (PutInline k ∷ es) = last_put None es
+last_put before (PutFront k ∷ es) = last_put None es
 last_put before (Finish ∷ es) = last_put None es
 last_put before (Take ∷ es) = last_put before es
 last_put before (Size n ∷ es) = last_put before es

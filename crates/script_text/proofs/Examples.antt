@@ -5,8 +5,10 @@ use Rattle.std.specs.Fmt.{digits}
 use Rattle.flow_defs.specs.Items.{Items}
 use Rattle.flow_defs.specs.Lines.{lines}
 use Rattle.script_text.specs.declared.event.Event.TheVariants.{Emit, Barrier, Pool}
+use Rattle.flow_defs.specs.declared.task.BarrierKind.TheVariants.{Inline, Front}
+use Rattle.hex.specs.Hex.{encode_with}
 use Rattle.credit_reader.specs.declared.reader.SentKind.TheVariants as sent
-use Rattle.script_text.specs.declared.reply.Reply.TheVariants.{Queued, Frame, Data}
+use Rattle.script_text.specs.declared.reply.Reply.TheVariants.{Queued, Frame, SavedOut, Data}
 use Rattle.script_text.specs.Scripts.{open_line, event_line}
 use Rattle.script_text.specs.ScriptFaults.{IsFirstBadLine}
 use Rattle.script_text.specs.Replies.{replies_text}
@@ -25,13 +27,17 @@ no_text : event_line (Emit 1 (bytes [])) ≡ codes "emit 1 "
 unfolding digits
 no_text = refl
 
-inline_barrier : event_line (Barrier 3 18446744073709551615) ≡ codes "barrier 3 18446744073709551615 inline"
+inline_barrier : event_line (Barrier 3 18446744073709551615 Inline) ≡ codes "barrier 3 18446744073709551615 inline"
 unfolding digits
 inline_barrier = refl
 
+front_barrier : event_line (Barrier 3 1 Front) ≡ codes "barrier 3 1 front"
+unfolding digits
+front_barrier = refl
+
 -- ---- first bad lines
 
-whole : bad_line (lines (codes "open 1 64 4\nfill 1 0\nbarrier 1 1 inline")) ≡ None
+whole : bad_line (lines (codes "open 1 64 4\nfill 1 0\nbarrier 1 1 inline\nbarrier 1 2 front")) ≡ None
 unfolding digits
 whole = refl
 
@@ -55,3 +61,7 @@ few_bytes = first_bad_found (codes "open 1 63 4\n") 1 refl
 printed_replies : replies_text (Queued 1 3 ∷ Frame 1 0 sent.Buffer 5 2 ∷ Data 1 5 (record { items = bytes (codes "a") ∷ []; room = 0 }) ∷ []) ≡ codes "queued 1 3\nframe 1 0 data 5 2\ndata 1 5 1\nrecord 1 a\n"
 unfolding digits
 printed_replies = refl
+
+saved_bytes : replies_text (SavedOut 1 2 (bytes (0 ∷ 10 ∷ 255 ∷ [])) ∷ SavedOut 1 3 (bytes []) ∷ []) ≡ codes "saved_out 1 2 000aff\nsaved_out 1 3 -\n"
+unfolding digits encode_with
+saved_bytes = refl

@@ -6,11 +6,13 @@ use Rattle.std.proofs.lemmas.List.Elements.{All-nil, All-cons, All-head, All-tai
 use Rattle.std.proofs.lemmas.Option.{none-some, same_Some}
 use Rattle.std.proofs.lemmas.Bool.{and_parts, and_from, leb-true, le-leb, cond-true}
 use Rattle.script_text.specs.declared.event.TheConstants.{CHANNELS_MAX, SIZE_MIN, SIZE_MAX, TOTAL_MAX, FILL_MAX}
+use Rattle.flow_defs.specs.declared.task.BarrierKind.{BarrierKind}
+use Rattle.flow_defs.specs.declared.task.BarrierKind.TheVariants.{Inline, Front}
 use Rattle.script_text.specs.declared.event.Event.{Event}
 use Rattle.script_text.specs.declared.event.Event.TheVariants.{Emit, Fill, Barrier, Finish, Send, Announce, Deliver, Credit, Resume, Control, Poll, Hold, Pool}
 use Rattle.script_text.specs.declared.lines.Opening.{Opening}
-use Rattle.script_text.specs.Scripts.{IsText, IsChannel, IsEvent, IsOpening, open_line, event_line, contents}
-use Rattle.script_text.specs.Reading.{cut, number_of, is_text, bare_event, channel_event, emit_event, barrier_number, long_event, event_behind, event_rest, event_of, opening_by, opening_behind, opening_rest, opening_of}
+use Rattle.script_text.specs.Scripts.{IsText, IsChannel, IsEvent, IsOpening, open_line, kind_word, event_line, contents}
+use Rattle.script_text.specs.Reading.{cut, number_of, is_text, bare_event, channel_event, emit_event, kind_of, barrier_event, long_event, event_behind, event_rest, event_of, opening_by, opening_behind, opening_rest, opening_of}
 use Rattle.script_text.proofs.Numbers.{same_bytes, number_known, number_spelled, number_cases}
 use Rattle.script_text.proofs.Cuts.{Cut, joined, joined_cut, has_no_space, cut_behind, cut_whole, decimal_no_space}
 
@@ -79,15 +81,22 @@ module _ (channels : ℕ) (word : List ℕ) (c : ℕ) (e : Event) (channel : IsC
 
 -- ---- longer lines
 
-barrier_known : (number : List ℕ) (kind : Option (List ℕ)) (k : ℕ) → barrier_number number kind ≡ Some k → (joined (number, kind) ≡ decimal k ++ 32 ∷ codes "inline") × (1 ≤ k) × (k < 2 ^ 64)
-barrier_known number None k is = absurd (none-some k is)
-barrier_known number (Some kind) k is = elim (cond_cases (bytes_eq kind (codes "inline")) (number_of 1 (2 ^ 64 - 1) number) None (Some k) is) [
-  | inl found ↦
-      let known = number_known 1 (2 ^ 64 - 1) k number found.1 in
-      let high = known.2 in
-      (ap (λ w. number ++ 32 ∷ w) (same_bytes kind (codes "inline") found.0) ∙ ap (λ w. w ++ 32 ∷ codes "inline") known.0, known.1, omega (arith, high))
-  | inr other ↦ absurd (none-some k other.1)
+kind_known : (word : List ℕ) (kind : BarrierKind) → kind_of word ≡ Some kind → word ≡ kind_word kind
+kind_known word kind is = elim (cond_cases (bytes_eq word (codes "inline")) (Some Inline) (cond (bytes_eq word (codes "front")) (Some Front) None) (Some kind) is) [
+  | inl found ↦ same_bytes word (codes "inline") found.0 ∙ ap kind_word (same_Some _ _ found.1)
+  | inr other ↦ elim (cond_cases (bytes_eq word (codes "front")) (Some Front) None (Some kind) other.1) [
+    | inl found ↦ same_bytes word (codes "front") found.0 ∙ ap kind_word (same_Some _ _ found.1)
+    | inr none ↦ absurd (none-some kind none.1)
+  ]
 ]
+
+kind_cases : (o : Option BarrierKind) → (o ≡ None) ⊎ ((kind : BarrierKind) × (o ≡ Some kind))
+kind_cases None = inl refl
+kind_cases (Some kind) = inr (kind, refl)
+
+kind_spelled : (kind : BarrierKind) → kind_of (kind_word kind) ≡ Some kind
+kind_spelled Inline = refl
+kind_spelled Front = refl
 
 module _ (channels : ℕ) (word : List ℕ) (c : ℕ) (rest : List ℕ) (e : Event) (channel : IsChannel channels c) where
   abbrev Known : Event → Type 0
@@ -110,16 +119,24 @@ module _ (channels : ℕ) (word : List ℕ) (c : ℕ) (rest : List ℕ) (e : Eve
         this_one Known word e (codes "fill") (Fill c some.0) ((channel, known.2), on (codes "fill") (decimal some.0) is known.0) (ap (option_map (λ n. Fill c n)) (sym some.1) ∙ found)
   ]
 
-  barrier_event_known : word ≡ codes "barrier" → option_map (λ k. Barrier c k) (barrier_number (cut rest).0 (cut rest).1) ≡ Some e → Known e
-  barrier_event_known is found = elim (number_cases (barrier_number (cut rest).0 (cut rest).1)) [
-    | inl none ↦ none_left Known word e (ap (option_map (λ n. Barrier c n)) (sym none) ∙ found)
+  barrier_known : word ≡ codes "barrier" → (number : List ℕ) (kind : Option (List ℕ)) → rest ≡ joined (number, kind) → barrier_event c number kind ≡ Some e → Known e
+  barrier_known is number None rest_is found = none_left Known word e found
+  barrier_known is number (Some kind) rest_is found = elim (kind_cases (kind_of kind)) [
+    | inl none ↦ none_left Known word e (ap (option_and_then (λ b. option_map (λ k. Barrier c k b) (number_of 1 (2 ^ 64 - 1) number))) (sym none) ∙ found)
     | inr some ↦
-        let known = barrier_known (cut rest).0 (cut rest).1 some.0 some.1 in
-        this_one Known word e (codes "barrier") (Barrier c some.0) ((channel, known.1, known.2), on (codes "barrier") (decimal some.0 ++ 32 ∷ codes "inline") is (sym (joined_cut rest) ∙ known.0)) (ap (option_map (λ n. Barrier c n)) (sym some.1) ∙ found)
+        let here : option_map (λ k. Barrier c k some.0) (number_of 1 (2 ^ 64 - 1) number) ≡ Some e = ap (option_and_then (λ b. option_map (λ k. Barrier c k b) (number_of 1 (2 ^ 64 - 1) number))) (sym some.1) ∙ found in
+        elim (number_cases (number_of 1 (2 ^ 64 - 1) number)) [
+          | inl none ↦ none_left Known word e (ap (option_map (λ n. Barrier c n some.0)) (sym none) ∙ here)
+          | inr k ↦
+              let known = number_known 1 (2 ^ 64 - 1) k.0 number k.1 in
+              let high = known.2 in
+              this_one Known word e (codes "barrier") (Barrier c k.0 some.0) ((channel, known.1, omega (arith, high)), on (codes "barrier") (decimal k.0 ++ 32 ∷ kind_word some.0) is (rest_is ∙ ap (λ w. w ++ 32 ∷ kind) known.0 ∙ ap (λ w. decimal k.0 ++ 32 ∷ w) (kind_known kind some.0 some.1)))
+              (ap (option_map (λ n. Barrier c n some.0)) (sym k.1) ∙ here)
+        ]
   ]
 
   long_known : long_event word c rest ≡ Some e → Known e
-  long_known = either Known word e (codes "emit") _ _ emit_known (either Known word e (codes "fill") _ _ fill_known (either Known word e (codes "barrier") _ _ barrier_event_known (none_left Known word e)))
+  long_known = either Known word e (codes "emit") _ _ emit_known (either Known word e (codes "fill") _ _ fill_known (either Known word e (codes "barrier") _ _ (λ is. barrier_known is (cut rest).0 (cut rest).1 (sym (joined_cut rest))) (none_left Known word e)))
 
 -- ---- any line
 
@@ -168,11 +185,12 @@ module _ (channels : ℕ) (few : channels ≤ CHANNELS_MAX) where
   pub event_spelled : (e : Event) → IsEvent channels e → event_of channels (event_line e) ≡ Some (contents e)
   event_spelled (Emit c text) is = with_rest (codes "emit") refl c is.0 text.items ∙ cond-true (is_text text.items) (Some (Emit c (record { items = text.items; room = 0 }))) None (text_spelled text.items is.1)
   event_spelled (Fill c n) is = with_rest (codes "fill") refl c is.0 (decimal n) ∙ ap (option_map (λ n. Fill c n)) (number_spelled 0 FILL_MAX n (let high = is.1 in omega (arith, high)) (omega arith) is.1)
-  event_spelled (Barrier c k) is =
+  event_spelled (Barrier c k kind) is =
       let fits = is.2 in
-      with_rest (codes "barrier") refl c is.0 (decimal k ++ 32 ∷ codes "inline")
-      ∙ ap (λ (p : Cut). option_map (λ n. Barrier c n) (barrier_number p.0 p.1)) (cut_behind (decimal k) (codes "inline") (decimal_no_space k fits))
-      ∙ ap (option_map (λ n. Barrier c n)) (number_spelled 1 (2 ^ 64 - 1) k fits is.1 (omega (arith, fits)))
+      with_rest (codes "barrier") refl c is.0 (decimal k ++ 32 ∷ kind_word kind)
+      ∙ ap (λ (p : Cut). barrier_event c p.0 p.1) (cut_behind (decimal k) (kind_word kind) (decimal_no_space k fits))
+      ∙ ap (option_and_then (λ b. option_map (λ n. Barrier c n b) (number_of 1 (2 ^ 64 - 1) (decimal k)))) (kind_spelled kind)
+      ∙ ap (option_map (λ n. Barrier c n kind)) (number_spelled 1 (2 ^ 64 - 1) k fits is.1 (omega (arith, fits)))
   event_spelled (Finish c) is = with_channel (codes "finish") refl c is
   event_spelled Send is = refl
   event_spelled Announce is = refl

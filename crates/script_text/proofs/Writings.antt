@@ -1,10 +1,12 @@
 -- What the writer of replies has written.
-use Rattle.std.proofs.Common.{◌≡◌, ℕ, ◌+◌, ◌≤◌, List, [], ◌∷◌, ◌++◌, length, map, take, sym, ap, ◌∙◌, arith, append_assoc, append-nil, length-append, length-take}
+use Rattle.std.proofs.Common.{◌≡◌, ℕ, ◌+◌, ◌≤◌, List, [], ◌∷◌, ◌++◌, length, map, take, refl, sym, ap, ◌∙◌, arith, append_assoc, append-nil, length-append, length-take}
 use Rattle.std.specs.Prelude.{flat_map}
 use Rattle.std.proofs.lemmas.List.{take-append-le}
+use Rattle.hex.specs.Hex.{encode_with, encode_lower}
 use Rattle.script_text.specs.declared.reply.Part.{Part}
 use Rattle.script_text.specs.Scripts.{line_of}
-use Rattle.script_text.specs.Writing.{part_word}
+use Rattle.script_text.specs.Replies.{bytes_word}
+use Rattle.script_text.specs.Writing.{part_word, digits_text}
 
 -- the parts of a line behind its first word, each behind a space
 abbrev pub parts_text : List Part → List ℕ
@@ -27,3 +29,18 @@ keeps old now new more kept is =
     let taken = length-take (length old) now in
     let within : length old ≤ length now = omega (arith, same, taken) in
     ap (take (length old)) is ∙ take-append-le (length old) now more within ∙ kept
+
+-- ---- bytes in hexadecimal
+
+digits_are : (bytes : List ℕ) → encode_lower bytes ≡ digits_text bytes
+unfolding encode_with
+digits_are [] = refl
+digits_are (b ∷ bytes) = ap (λ l. encode_lower (b ∷ []) ++ l) (digits_are bytes)
+
+pub some_bytes : (bytes : List ℕ) → (length bytes ≡ 0 → ⊥) → bytes_word bytes ≡ digits_text bytes
+some_bytes [] some = absurd (some refl)
+some_bytes (b ∷ bytes) some = digits_are (b ∷ bytes)
+
+pub no_bytes : (bytes : List ℕ) → length bytes ≡ 0 → bytes_word bytes ≡ 45 ∷ []
+no_bytes [] none = refl
+no_bytes (b ∷ bytes) none = absurd (omega (arith, none))

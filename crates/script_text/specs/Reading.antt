@@ -3,6 +3,8 @@ use Rattle.std.specs.Prelude.{◌≡◌, ℕ, suc, ◌<◌, ◌-◌, ◌^◌, �
 use Rattle.std.specs.List.{list_all}
 use Rattle.std.specs.Str.Parse.{digits_value}
 use Rattle.flow_defs.specs.Lines.{lines}
+use Rattle.flow_defs.specs.declared.task.BarrierKind.{BarrierKind}
+use Rattle.flow_defs.specs.declared.task.BarrierKind.TheVariants.{Inline, Front}
 use Rattle.script_text.specs.Limits.{text_max, channels_max}
 use Rattle.flow_defs.specs.Limits.{segment_min, segment_max, segments_max, record_max}
 use Rattle.script_text.specs.declared.event.Event.{Event}
@@ -79,17 +81,24 @@ channel_event word c =
 abbrev pub emit_event : ℕ → List ℕ → Option Event
 emit_event c text = if is_text text then Some (Emit c (record { items = text; room = 0 })) else None
 
--- The number of a barrier, by its word and the kind behind it.
-abbrev pub barrier_number : List ℕ → Option (List ℕ) → Option ℕ
-barrier_number number None = None
-barrier_number number (Some kind) = if bytes_eq kind (codes "inline") then number_of 1 (2 ^ 64 - 1) number else None
+-- The kind of a barrier that a word spells.
+abbrev pub kind_of : List ℕ → Option BarrierKind
+kind_of word =
+    if bytes_eq word (codes "inline") then Some Inline
+    else if bytes_eq word (codes "front") then Some Front
+    else None
+
+-- A barrier on a channel, by the word of its number and that of its kind.
+abbrev pub barrier_event : ℕ → List ℕ → Option (List ℕ) → Option Event
+barrier_event c number None = None
+barrier_event c number (Some word) = option_and_then (λ kind. option_map (λ k. Barrier c k kind) (number_of 1 (2 ^ 64 - 1) number)) (kind_of word)
 
 -- The event of a word, a channel, and what follows them.
 abbrev pub long_event : List ℕ → ℕ → List ℕ → Option Event
 long_event word c rest =
     if bytes_eq word (codes "emit") then emit_event c rest
     else if bytes_eq word (codes "fill") then option_map (λ n. Fill c n) (number_of 0 record_max rest)
-    else if bytes_eq word (codes "barrier") then option_map (λ k. Barrier c k) (barrier_number (cut rest).0 (cut rest).1)
+    else if bytes_eq word (codes "barrier") then barrier_event c (cut rest).0 (cut rest).1
     else None
 
 abbrev pub event_behind : List ℕ → Option ℕ → Option (List ℕ) → Option Event

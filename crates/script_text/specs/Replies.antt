@@ -2,11 +2,12 @@
 -- backlog, credit and barriers, is Flink's credit-based flow control.
 use Rattle.std.specs.Prelude.{ℕ, List, [], ◌∷◌, ◌++◌, length, map, flat_map, codes, decimal}
 use Rattle.flow_defs.specs.Items.{Items}
+use Rattle.hex.specs.Hex.{encode_lower}
 use Rattle.credit_reader.specs.declared.reader.SentKind.{SentKind}
 use Rattle.credit_reader.specs.declared.reader.SentKind.TheVariants as sent
 use Rattle.script_text.specs.declared.reply.Reply.{Reply}
-use Rattle.script_text.specs.declared.reply.Reply.TheVariants.{Refused, Full, Done, Nothing, Absent, Queued, Frame, Announced, Accepted, Backlog, Credit, Granted, Resumed, Empty, Held, Barrier, End, Data, Pool}
-use Rattle.script_text.specs.Scripts.{line_of}
+use Rattle.script_text.specs.declared.reply.Reply.TheVariants.{Refused, Full, Done, Nothing, Absent, Queued, Frame, Announced, Accepted, Backlog, Credit, Granted, Resumed, Empty, Held, Barrier, SavedOut, End, Data, Pool}
+use Rattle.script_text.specs.Scripts.{line_of, kind_word}
 
 -- How what a frame carries is spelled.
 abbrev pub sent_word : SentKind → List ℕ
@@ -14,6 +15,11 @@ sent_word sent.Buffer = codes "data"
 sent_word sent.Inline = codes "inline"
 sent_word sent.Front = codes "front"
 sent_word sent.End = codes "end"
+
+-- How bytes are spelled: each by two digits in hexadecimal, and no bytes by `-`.
+abbrev pub bytes_word : List ℕ → List ℕ
+bytes_word [] = codes "-"
+bytes_word (b ∷ bytes) = encode_lower (b ∷ bytes)
 
 -- The words of the first line of a reply.
 abbrev pub reply_words : Reply → List (List ℕ)
@@ -32,7 +38,8 @@ reply_words (Granted c n) = codes "granted" ∷ decimal c ∷ decimal n ∷ []
 reply_words (Resumed c) = codes "resumed" ∷ decimal c ∷ []
 reply_words (Empty c) = codes "empty" ∷ decimal c ∷ []
 reply_words (Held c) = codes "held" ∷ decimal c ∷ []
-reply_words (Barrier c k) = codes "barrier" ∷ decimal c ∷ decimal k ∷ codes "inline" ∷ []
+reply_words (Barrier c k kind) = codes "barrier" ∷ decimal c ∷ decimal k ∷ kind_word kind ∷ []
+reply_words (SavedOut c k bytes) = codes "saved_out" ∷ decimal c ∷ decimal k ∷ bytes_word bytes.items ∷ []
 reply_words (End c) = codes "end" ∷ decimal c ∷ []
 reply_words (Data c len records) = codes "data" ∷ decimal c ∷ decimal len ∷ decimal (length records.items) ∷ []
 reply_words (Pool free lent) = codes "pool" ∷ decimal free ∷ decimal lent ∷ []

@@ -3,6 +3,8 @@
 use Rattle.std.specs.Prelude.{◌≡◌, ℕ, ◌<◌, ◌≤◌, ◌^◌, List, [], ◌∷◌, length, map, codes, decimal, All}
 use Rattle.std.specs.List.{AllByRecursion, join_with_byte}
 use Rattle.flow_defs.specs.Lines.{lines}
+use Rattle.flow_defs.specs.declared.task.BarrierKind.{BarrierKind}
+use Rattle.flow_defs.specs.declared.task.BarrierKind.TheVariants.{Inline, Front}
 use Rattle.script_text.specs.Limits.{channels_max, text_max}
 use Rattle.flow_defs.specs.Limits.{segment_min, segment_max, segments_max, record_max}
 use Rattle.script_text.specs.declared.event.Event.{Event}
@@ -19,11 +21,16 @@ line_of words = join_with_byte 32 words
 abbrev pub open_line : ℕ → ℕ → ℕ → List ℕ
 open_line channels size total = line_of (codes "open" ∷ decimal channels ∷ decimal size ∷ decimal total ∷ [])
 
+-- The kind of a barrier.
+abbrev pub kind_word : BarrierKind → List ℕ
+kind_word Inline = codes "inline"
+kind_word Front = codes "front"
+
 -- The words of an event. A record's text is the last one of its line; it may be empty or have spaces.
 abbrev pub event_words : Event → List (List ℕ)
 event_words (Emit c text) = codes "emit" ∷ decimal c ∷ text.items ∷ []
 event_words (Fill c n) = codes "fill" ∷ decimal c ∷ decimal n ∷ []
-event_words (Barrier c k) = codes "barrier" ∷ decimal c ∷ decimal k ∷ codes "inline" ∷ []
+event_words (Barrier c k kind) = codes "barrier" ∷ decimal c ∷ decimal k ∷ kind_word kind ∷ []
 event_words (Finish c) = codes "finish" ∷ decimal c ∷ []
 event_words Send = codes "send" ∷ []
 event_words Announce = codes "announce" ∷ []
@@ -63,7 +70,7 @@ pub record IsText (text : List ℕ) : Type 0 where
 abbrev pub IsEvent : ℕ → Event → Type 0
 IsEvent channels (Emit c text) = IsChannel channels c × IsText text.items
 IsEvent channels (Fill c n) = IsChannel channels c × (n ≤ record_max)
-IsEvent channels (Barrier c k) = IsChannel channels c × (1 ≤ k) × (k < 2 ^ 64)
+IsEvent channels (Barrier c k kind) = IsChannel channels c × (1 ≤ k) × (k < 2 ^ 64)
 IsEvent channels (Finish c) = IsChannel channels c
 IsEvent channels Send = Unit {0}
 IsEvent channels Announce = Unit {0}

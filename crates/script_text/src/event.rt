@@ -1,5 +1,5 @@
 // Scripts and their events.
-use flow_defs::{Bytes, ListOf};
+use flow_defs::{BarrierKind, Bytes, ListOf};
 
 /// The most channels of an exchange.
 pub const CHANNELS_MAX: u32 = 16;
@@ -29,8 +29,9 @@ pub enum Event {
     Emit { c: u32, text: Bytes },
     /// A record of n bytes `a` is put on a channel.
     Fill { c: u32, n: u32 },
-    /// Checkpoint k's barrier is put on a channel, behind all that was put before it.
-    Barrier { c: u32, k: u64 },
+    /// Checkpoint k's barrier is put on a channel: an inline one behind all that waits there, a front one
+    /// before the data that wait behind the last barrier.
+    Barrier { c: u32, k: u64, kind: BarrierKind },
     /// The end is put on a channel.
     Finish { c: u32 },
     /// The sender sends one item.

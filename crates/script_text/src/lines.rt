@@ -1,11 +1,11 @@
 // What each line of a script's text says. Nothing here takes memory.
 ghost use Rattle.std.specs.Prelude.{◌≡◌, ℕ, ◌<◌, ◌≤◌, ◌^◌, ◌+◌, ◌∷◌, Some, None, [], length, IfOk, IfErr, IfSome, IfNone, option_map};
 ghost use Rattle.flow_defs.specs.Lines.{lines};
-ghost use Rattle.script_text.specs.Reading.{Opens, IsTold, bad_line, cut, barrier_number, told_event, bare_event, channel_event, long_event, event_of, opening_of};
+ghost use Rattle.script_text.specs.Reading.{Opens, IsTold, bad_line, cut, kind_of, barrier_event, told_event, bare_event, channel_event, long_event, event_of, opening_of};
 
 use crate::spelling::{cut_word, is, is_text, long_number_of, number_of};
 use crate::{CHANNELS_MAX, Event, FILL_MAX, SIZE_MAX, SIZE_MIN, ScriptFault, TOTAL_MAX};
-use flow_defs::cut_line;
+use flow_defs::{BarrierKind, cut_line};
 
 // What the first line of a script says.
 #[derive(Clone, Copy)]
@@ -121,23 +121,34 @@ fn long_event<'a>(word: &[u8], c: u32, rest: &'a [u8]) -> Option<EventLine<'a>>
         let n = number_of(rest, 0, FILL_MAX)?;
         Event::Fill { c, n }
     } else if is(word, "barrier") {
-        let k = barrier_number(rest)?;
-        Event::Barrier { c, k }
+        barrier_event(c, rest)?
     } else {
         return None;
     };
     Some(EventLine::Other { event })
 }
 
-// The number of an inline barrier.
-fn barrier_number(rest: &[u8]) -> Option<u64>
-    ensures { result ≡ barrier_number (cut rest.now).0 (cut rest.now).1 }
+// The event of a barrier's number and its kind.
+fn barrier_event(c: u32, rest: &[u8]) -> Option<Event>
+    ensures { result ≡ barrier_event c (cut rest.now).0 (cut rest.now).1 }
 {
-    let (number, kind) = cut_word(rest);
-    if !is(kind?, "inline") {
-        return None;
+    let (number, word) = cut_word(rest);
+    let kind = kind_of(word?)?;
+    let k = long_number_of(number, 1, u64::MAX)?;
+    Some(Event::Barrier { c, k, kind })
+}
+
+// The kind of a barrier.
+fn kind_of(word: &[u8]) -> Option<BarrierKind>
+    ensures { result ≡ kind_of word.now }
+{
+    if is(word, "inline") {
+        Some(BarrierKind::Inline)
+    } else if is(word, "front") {
+        Some(BarrierKind::Front)
+    } else {
+        None
     }
-    long_number_of(number, 1, u64::MAX)
 }
 
 // The first line of the bytes, and what follows it. Bytes without a newline are one line.

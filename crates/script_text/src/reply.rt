@@ -1,11 +1,12 @@
 // Replies, and the lines that tell them.
 ghost use Rattle.std.specs.Prelude.{◌≡◌, ◌<◌, ◌≤◌, ◌+◌, ◌++◌, ◌∷◌, [], map, length, take, decimal, IsOk, OnOk, OnErr};
-ghost use Rattle.script_text.specs.Scripts.{line_of};
-ghost use Rattle.script_text.specs.Replies.{reply_lines, printed, sent_word};
-ghost use Rattle.script_text.specs.Writing.{part_word, data_lines};
+ghost use Rattle.hex.specs.Hex.{encode_lower};
+ghost use Rattle.script_text.specs.Scripts.{line_of, kind_word};
+ghost use Rattle.script_text.specs.Replies.{reply_lines, printed, sent_word, bytes_word};
+ghost use Rattle.script_text.specs.Writing.{part_word, digits_text, data_lines};
 
 use credit_reader::SentKind;
-use flow_defs::{Bytes, ListOf};
+use flow_defs::{BarrierKind, Bytes, ListOf};
 use itoa::Buffer;
 use std::alloc::AllocError;
 
@@ -77,6 +78,13 @@ pub enum Reply {
     Barrier {
         c: u32,
         k: u64,
+        kind: BarrierKind,
+    },
+    /// Checkpoint k's front barrier was put, and has overtaken these bytes.
+    SavedOut {
+        c: u32,
+        k: u64,
+        bytes: Bytes,
     },
     /// The end of the channel was taken.
     End {
@@ -100,6 +108,7 @@ pub enum Reply {
 enum Part<'a> {
     Word { text: &'a [u8] },
     Number { number: u64 },
+    Saved { bytes: &'a [u8] },
 }
 
 /// Writes the lines of a reply at the end of what was written, all of them or none.
@@ -162,13 +171,26 @@ fn add_reply(reply: &Reply, out: &mut ListOf<u8>) -> Result<(), AllocError>
         Reply::Resumed { c } => add_line(out, "resumed", &[number(*c)]),
         Reply::Empty { c } => add_line(out, "empty", &[number(*c)]),
         Reply::Held { c } => add_line(out, "held", &[number(*c)]),
-        Reply::Barrier { c, k } => add_line(
+        Reply::Barrier { c, k, kind } => add_line(
             out,
             "barrier",
             &[
                 number(*c),
                 Part::Number { number: *k },
-                Part::Word { text: b"inline" },
+                Part::Word {
+                    text: kind_word(*kind).as_bytes(),
+                },
+            ],
+        ),
+        Reply::SavedOut { c, k, bytes } => add_line(
+            out,
+            "saved_out",
+            &[
+                number(*c),
+                Part::Number { number: *k },
+                Part::Saved {
+                    bytes: bytes.as_slice(),
+                },
             ],
         ),
         Reply::End { c } => add_line(out, "end", &[number(*c)]),
@@ -221,7 +243,46 @@ fn add_part(out: &mut ListOf<u8>, part: &Part) -> Result<(), AllocError>
     match *part {
         Part::Word { text } => out.extend(text),
         Part::Number { number } => out.extend(Buffer::new().format(number).as_bytes()),
+        Part::Saved { bytes } => add_bytes(out, bytes),
     }
+}
+
+// Writes bytes as a word, or what memory allows of it.
+#[tactic(auto, using(crate::proofs::Writings::some_bytes, crate::proofs::Writings::no_bytes))]
+fn add_bytes(out: &mut ListOf<u8>, bytes: &[u8]) -> Result<(), AllocError>
+    ensures ok { OnOk result (out.new.items ≡ out.old.items ++ bytes_word bytes.now) }
+    ensures err { OnErr result (take (length out.old.items) out.new.items ≡ out.old.items) }
+    ensures succeeds { length (bytes_word bytes.now) ≤ out.old.room → IsOk result }
+    ensures room { out.old.room ≤ out.new.room + length (bytes_word bytes.now) }
+{
+    if bytes.is_empty() {
+        return out.push(b'-');
+    }
+    add_digits(out, bytes)
+}
+
+// Writes two digits for each byte, or what memory allows of them.
+fn add_digits(out: &mut ListOf<u8>, bytes: &[u8]) -> Result<(), AllocError>
+    ensures ok { OnOk result (out.new.items ≡ out.old.items ++ digits_text bytes.now) }
+    ensures err { OnErr result (take (length out.old.items) out.new.items ≡ out.old.items) }
+    ensures succeeds { length (digits_text bytes.now) ≤ out.old.room → IsOk result }
+    ensures room { out.old.room ≤ out.new.room + length (digits_text bytes.now) }
+{
+    for byte in bytes {
+        out.extend(&digits_of(*byte))?;
+    }
+    Ok(())
+}
+
+// The two digits of a byte in hexadecimal.
+fn digits_of(byte: u8) -> [u8; 2]
+    ensures { result ≡ encode_lower (byte ∷ []) }
+{
+    let mut digits = [0; 2];
+    let Ok(()) = hex::encode_to_slice([byte], &mut digits) else {
+        unreachable!()
+    };
+    digits
 }
 
 // A number as a word.
@@ -242,5 +303,15 @@ fn sent_word(what: SentKind) -> &'static str
         SentKind::Inline => "inline",
         SentKind::Front => "front",
         SentKind::End => "end",
+    }
+}
+
+// How the kind of a barrier is spelled.
+fn kind_word(kind: BarrierKind) -> &'static str
+    ensures { result.now ≡ kind_word kind }
+{
+    match kind {
+        BarrierKind::Inline => "inline",
+        BarrierKind::Front => "front",
     }
 }

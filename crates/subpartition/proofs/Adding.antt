@@ -1,24 +1,29 @@
 -- What a queue stands for after each call, and what its calls tell.
-use Rattle.std.proofs.Common.{◌≡◌, ℕ, suc, Bool, true, false, cond, eq-eqb, List, [], ◌∷◌, ◌++◌, length, map, drop, refl, sym, ap, subst, ◌∙◌, append-nil, length-append, arith}
+use Rattle.std.proofs.Common.{◌≡◌, ℕ, suc, Bool, true, false, cond, ◌||◌, eq-eqb, List, [], ◌∷◌, ◌++◌, length, map, drop, refl, sym, ap, subst, ◌∙◌, append-nil, length-append, arith}
 use Rattle.std.specs.Prelude.{slice_get, option_to_list}
 use Rattle.std.specs.Prelude.{All}
 use Rattle.std.proofs.lemmas.List.{map-append}
-use Rattle.std.proofs.lemmas.List.Elements.{All-drop, All-nil, All-push}
-use Rattle.flow_defs.specs.declared.task.BarrierKind.TheVariants.{Inline}
+use Rattle.std.proofs.lemmas.List.Elements.{All-drop, All-nil, All-push, All-from_recursion, recursion_from_All}
+use Rattle.std.specs.List.{AllByRecursion, list_any}
+use Rattle.flow_defs.specs.declared.task.BarrierKind.TheVariants.{Inline, Front}
 use Rattle.flow_defs.specs.declared.parcel.Parcel.{Parcel}
 use Rattle.turn_cell.specs.History.{by}
 use Rattle.subpartition.specs.declared.entry.SendEntry.{SendEntry}
-use Rattle.subpartition.specs.declared.entry.SendEntry.TheVariants.{Put, PutInline, Finish, Take, Size}
+use Rattle.subpartition.specs.declared.entry.SendEntry.TheVariants.{Put, PutInline, PutFront, Finish, Take, Size}
 use Rattle.subpartition.specs.declared.item.Item.{Item}
 use Rattle.subpartition.specs.declared.item.Item.TheVariants.{Buffer, Barrier, End}
 use Rattle.turn_cell.specs.History.{IsHistory, entries_of}
 use Rattle.turn_cell.proofs.Histories.{history_nil, history_more, entries_of-append}
-use Rattle.subpartition.specs.Sending.{Outbox, take_first, sent_one, outbox, barriers_put, is_finished, filled_to, MaySend, may_send, MaySendAs}
-use Rattle.subpartition.specs.Queues.{Queue, HasLength, bytes_of, parcel_of, with_buffer, with_barrier, with_end, without_first, filling_to}
+use Rattle.flow_defs.specs.Parcels.{data_of}
+use Rattle.subpartition.specs.Barriers.{is_barrier, up_to_last, behind_last}
+use Rattle.subpartition.specs.Sending.{Outbox, overtaken, with_front, take_first, sent_one, outbox, barriers_put, is_finished, filled_to, MaySend, may_send, MaySendAs}
+use Rattle.subpartition.specs.Queues.{Queue, HasLength, bytes_of, parcel_of, is_mark, data_in, overtaken_in, with_buffer, with_barrier, with_front_barrier, with_end, without_first, filling_to}
 use Rattle.subpartition.specs.Standing.{QueueStandsFor}
-use Rattle.subpartition.specs.Theorems.{NewStandsForNone, PutAdds, PutInlineAdds, FinishAdds, TakeAdds, SizeAdds, LastIsPut, TakeTells, TaskTellsQueue}
+use Rattle.subpartition.specs.Theorems.{NewStandsForNone, PutAdds, PutInlineAdds, PutFrontAdds, FrontOvertakes, FinishAdds, TakeAdds, SizeAdds, LastIsPut, TakeTells, TaskTellsQueue}
 use Rattle.subpartition.proofs.Items.{last_bytes-buffer}
-use Rattle.subpartition.proofs.Travelling.{barriers_put-append, is_finished-append, sent_from-append}
+use Rattle.subpartition.proofs.Fronts.{cut_in_two}
+use Rattle.subpartition.proofs.Travelling.{barriers_put-append, is_finished-append, sent_from-append, front_overtakes_last}
+use Rattle.subpartition.proofs.Allowed.{entries_are_history, not_yet}
 use Rattle.subpartition.proofs.Telling.{task_tells_puts}
 
 pub new_stands_for_none : NewStandsForNone
@@ -42,6 +47,7 @@ filled_to-append : (first : ℕ) (xs ys : List SendEntry) → filled_to first (x
 filled_to-append first [] ys = refl
 filled_to-append first (Put bytes ∷ xs) ys = filled_to-append first xs ys
 filled_to-append first (PutInline k ∷ xs) ys = filled_to-append first xs ys
+filled_to-append first (PutFront k ∷ xs) ys = filled_to-append first xs ys
 filled_to-append first (Finish ∷ xs) ys = filled_to-append first xs ys
 filled_to-append first (Take ∷ xs) ys = filled_to-append first xs ys
 filled_to-append first (Size n ∷ xs) ys = filled_to-append n xs ys
@@ -98,6 +104,57 @@ put_inline_adds queue history number k stands task open_end next =
     (items_more queue history (Barrier k Inline) stands)
     (next ∙ ap suc stands.barriers ∙ (let one : suc (length bs) ≡ length (bs ++ (k, Inline) ∷ []) = omega (arith, length-append bs ((k, Inline) ∷ [])) in one))
     (same_finished queue history stands) refl (All-push (HasLength queue.size) queue.items (Barrier k Inline) stands.segments tt)
+
+-- A front barrier stands among parcels where it stands among items.
+any-parcels : (items : List Item) → list_any is_barrier (map parcel_of items) ≡ list_any is_mark items
+any-parcels [] = refl
+any-parcels (item ∷ items) = ap (λ b. is_mark item || b) (any-parcels items)
+
+up_to_last-parcels : (items : List Item) → map parcel_of (up_to_last is_mark items) ≡ up_to_last is_barrier (map parcel_of items)
+up_to_last-parcels [] = refl
+up_to_last-parcels (item ∷ items) =
+    elim (list_any is_mark (item ∷ items)) as (λ b. map parcel_of (cond b (item ∷ up_to_last is_mark items) []) ≡ cond b (parcel_of item ∷ up_to_last is_barrier (map parcel_of items)) []) [
+      | true ↦ ap (λ z. parcel_of item ∷ z) (up_to_last-parcels items)
+      | false ↦ refl
+    ]
+    ∙ ap (λ b. cond b (parcel_of item ∷ up_to_last is_barrier (map parcel_of items)) []) (sym (any-parcels (item ∷ items)))
+
+behind_last-parcels : (items : List Item) → map parcel_of (behind_last is_mark items) ≡ behind_last is_barrier (map parcel_of items)
+behind_last-parcels [] = refl
+behind_last-parcels (item ∷ items) =
+    elim (list_any is_mark (item ∷ items)) as (λ b. map parcel_of (cond b (behind_last is_mark items) (item ∷ items)) ≡ cond b (behind_last is_barrier (map parcel_of items)) (map parcel_of (item ∷ items))) [
+      | true ↦ behind_last-parcels items
+      | false ↦ refl
+    ]
+    ∙ ap (λ b. cond b (behind_last is_barrier (map parcel_of items)) (map parcel_of (item ∷ items))) (sym (any-parcels (item ∷ items)))
+
+segments_between : (size : ℕ) (items : List Item) (k : ℕ) → All (HasLength size) items → All (HasLength size) (up_to_last is_mark items ++ Barrier k Front ∷ behind_last is_mark items)
+segments_between size items k all =
+    let both = subst (λ l. AllByRecursion (HasLength size) l) (sym (cut_in_two is_mark items)) (recursion_from_All (HasLength size) items all) in
+    All-from_recursion (HasLength size) (up_to_last is_mark items ++ Barrier k Front ∷ behind_last is_mark items) (with_one (up_to_last is_mark items) (behind_last is_mark items) both)
+  where
+    with_one : (front back : List Item) → AllByRecursion (HasLength size) (front ++ back) → AllByRecursion (HasLength size) (front ++ Barrier k Front ∷ back)
+    with_one [] back all = (tt, all)
+    with_one (item ∷ front) back all = (all.0, with_one front back all.1)
+
+pub put_front_adds : PutFrontAdds
+put_front_adds queue history number k stands task open_end next =
+    let bs = barriers_put (entries_of history) in
+    stands_more queue (with_front_barrier queue k) history number (PutFront k) stands refl (eq-eqb number 0 task)
+    (record { unfinished = sym stands.finished ∙ open_end; next = next ∙ ap suc stands.barriers })
+    (map-append parcel_of (up_to_last is_mark queue.items) (Barrier k Front ∷ behind_last is_mark queue.items)
+    ∙ ap (λ z. z ++ parcel_of (Barrier k Front) ∷ map parcel_of (behind_last is_mark queue.items)) (up_to_last-parcels queue.items)
+    ∙ ap (λ z. up_to_last is_barrier (map parcel_of queue.items) ++ parcel_of (Barrier k Front) ∷ z) (behind_last-parcels queue.items)
+    ∙ ap (λ ps. with_front k ps) stands.items)
+    (next ∙ ap suc stands.barriers ∙ (let one : suc (length bs) ≡ length (bs ++ (k, Front) ∷ []) = omega (arith, length-append bs ((k, Front) ∷ [])) in one))
+    (same_finished queue history stands) refl (segments_between queue.size queue.items k stands.segments)
+
+pub front_overtakes : FrontOvertakes
+front_overtakes queue history number k stands next =
+    let es = entries_of history in
+    ap (overtaken k) (entries_of-append history ((number, PutFront k) ∷ []))
+    ∙ front_overtakes_last es k (not_yet queue.size es k (entries_are_history queue.size history stands.legal) (next ∙ ap suc stands.barriers))
+    ∙ ap (λ ps. data_of (behind_last is_barrier ps)) (sym stands.items) ∙ ap data_of (sym (behind_last-parcels queue.items))
 
 pub finish_adds : FinishAdds
 finish_adds queue history number stands task open_end =

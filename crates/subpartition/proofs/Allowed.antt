@@ -1,20 +1,23 @@
 -- What histories keep whose entries were all allowed.
-use Rattle.std.proofs.Common.{◌≡◌, ℕ, suc, true, false, true≢false, List, [], ◌∷◌, ◌++◌, length, refl, sym, ap, subst, ◌∙◌, append-nil, inl, inr}
+use Rattle.std.proofs.Common.{◌≡◌, ℕ, zero, suc, ◌+◌, ◌≤◌, ◌==◌, ◌||◌, arith, true, false, cond, true≢false, append_assoc, List, [], ◌∷◌, ◌++◌, length, refl, sym, ap, subst, ◌∙◌, append-nil, inl, inr}
+use Rattle.std.proofs.lemmas.Bool.Decides.{eqb_tells}
 use Rattle.std.proofs.lemmas.List.{map-append}
 use Rattle.flow_defs.specs.declared.task.BarrierKind.{BarrierKind}
-use Rattle.flow_defs.specs.declared.task.BarrierKind.TheVariants.{Inline}
+use Rattle.flow_defs.specs.declared.task.BarrierKind.TheVariants.{Inline, Front}
 use Rattle.flow_defs.specs.declared.parcel.Parcel.{Parcel}
 use Rattle.flow_defs.specs.declared.parcel.Parcel.TheVariants.{Data, Barrier, End}
-use Rattle.flow_defs.specs.Parcels.{has_end}
+use Rattle.flow_defs.specs.Parcels.{barriers_of, has_end}
+use Rattle.std.specs.List.{list_any}
+use Rattle.subpartition.specs.Barriers.{has_barrier}
 use Rattle.flow_defs.proofs.Lists.{count-next}
 use Rattle.subpartition.specs.declared.entry.SendEntry.{SendEntry}
-use Rattle.subpartition.specs.declared.entry.SendEntry.TheVariants.{Put, PutInline, Finish, Take, Size}
+use Rattle.subpartition.specs.declared.entry.SendEntry.TheVariants.{Put, PutInline, PutFront, Finish, Take, Size}
 use Rattle.turn_cell.specs.History.{IsHistory, entries_of}
 use Rattle.turn_cell.proofs.Histories.{split_last, history_nil, history_more, history_keeps, entries_of-append}
 use Rattle.std.specs.List.{range_with_len}
-use Rattle.subpartition.specs.Sending.{parcels_put, barriers_put, MaySend, MaySendAs, numbers_of}
+use Rattle.subpartition.specs.Sending.{sent_one, outbox, travelled, parcels_put, barriers_put, MaySend, MaySendAs, numbers_of}
 use Rattle.subpartition.specs.Theorems.{BarriersAreNumbered, EndIsLast, EntriesAreHistory}
-use Rattle.subpartition.proofs.Travelling.{parcels_put-append, barriers_put-append, travelled_is}
+use Rattle.subpartition.proofs.Travelling.{empty_outbox, all_of, barriers_put-append, sent_from-append, end_travels, none_added, one-has_end}
 
 abbrev IsNumbered : List (ℕ × BarrierKind) → Type 0
 IsNumbered bs = numbers_of bs ≡ range_with_len 1 (length bs)
@@ -38,6 +41,7 @@ none_more bs numbered = subst IsNumbered (sym (append-nil bs)) numbered
 put_step : (size : ℕ) (es : List SendEntry) (e : SendEntry) → IsNumbered (barriers_put es) → MaySend size es e → IsNumbered (barriers_put es ++ barriers_put (e ∷ []))
 put_step size es (Put bytes) numbered may = none_more (barriers_put es) numbered
 put_step size es (PutInline k) numbered may = numbered_more (barriers_put es) k Inline numbered may.next
+put_step size es (PutFront k) numbered may = numbered_more (barriers_put es) k Front numbered may.next
 put_step size es Finish numbered may = none_more (barriers_put es) numbered
 put_step size es Take numbered may = none_more (barriers_put es) numbered
 put_step size es (Size n) numbered may = none_more (barriers_put es) numbered
@@ -65,15 +69,17 @@ ends_more ps p none front back e =
       | inr r ↦ absurd (true≢false (sym (ap has_end r.1 ∙ has_end-there front r.0) ∙ none))
     ]
 
-none_ends : (ps : List Parcel) → EndsLast ps → EndsLast (ps ++ [])
-none_ends ps ends = subst EndsLast (sym (append-nil ps)) ends
+-- where there is no end, none has anything behind it
+no_end_ends : (ps : List Parcel) → has_end ps ≡ false → EndsLast ps
+no_end_ends ps none front back e = absurd (true≢false (sym (ap has_end e ∙ has_end-there front back) ∙ none))
 
-end_step : (size : ℕ) (es : List SendEntry) (e : SendEntry) → EndsLast (parcels_put es) → MaySend size es e → EndsLast (parcels_put es ++ parcels_put (e ∷ []))
-end_step size es (Put bytes) ends may = ends_more (parcels_put es) (Data bytes) may
-end_step size es (PutInline k) ends may = ends_more (parcels_put es) (Barrier k Inline) may.unfinished
-end_step size es Finish ends may = ends_more (parcels_put es) End may
-end_step size es Take ends may = none_ends (parcels_put es) ends
-end_step size es (Size n) ends may = none_ends (parcels_put es) ends
+end_step : (size : ℕ) (es : List SendEntry) (e : SendEntry) → EndsLast (travelled es) → MaySend size es e → EndsLast (all_of (sent_one (outbox es) e))
+end_step size es (Put bytes) ends may = no_end_ends (all_of (sent_one (outbox es) (Put bytes))) (one-has_end (outbox es) (Put bytes) ∙ ap (λ b. cond b true false) (end_travels es ∙ may))
+end_step size es (PutInline k) ends may = no_end_ends (all_of (sent_one (outbox es) (PutInline k))) (one-has_end (outbox es) (PutInline k) ∙ ap (λ b. cond b true false) (end_travels es ∙ may.unfinished))
+end_step size es (PutFront k) ends may = no_end_ends (all_of (sent_one (outbox es) (PutFront k))) (one-has_end (outbox es) (PutFront k) ∙ ap (λ b. cond b true false) (end_travels es ∙ may.unfinished))
+end_step size es Finish ends may = subst EndsLast (append_assoc (outbox es).taken (outbox es).items (End ∷ [])) (ends_more (travelled es) End (end_travels es ∙ may))
+end_step size es Take ends may = subst EndsLast (sym (none_added (outbox es) Take refl)) ends
+end_step size es (Size n) ends may = ends
 
 no_end_first : EndsLast []
 no_end_first [] back e = absurd (no_cons End back e)
@@ -85,12 +91,35 @@ no_end_first (p ∷ front) back e = absurd (no_cons p (front ++ End ∷ back) e)
     no_cons : (p : Parcel) (ps : List Parcel) → [] ≡ p ∷ ps → ⊥
     no_cons p ps e = cc
 
+travelled-more : (es : List SendEntry) (e : SendEntry) → travelled (es ++ e ∷ []) ≡ all_of (sent_one (outbox es) e)
+travelled-more es e = ap all_of (sent_from-append empty_outbox es (e ∷ []))
+
 pub end_is_last : EndIsLast
 end_is_last size es front back history e =
-    history_keeps (MaySend size) (λ xs. EndsLast (parcels_put xs)) no_end_first
-    (λ xs x ends may. subst EndsLast (sym (parcels_put-append xs (x ∷ []))) (end_step size xs x ends may)) es history front back (sym (travelled_is es) ∙ e)
+    history_keeps (MaySend size) (λ xs. EndsLast (travelled xs)) no_end_first
+    (λ xs x ends may. subst EndsLast (sym (travelled-more xs x)) (end_step size xs x ends may)) es history front back e
 
 pub entries_are_history : EntriesAreHistory
 entries_are_history size history legal =
     history_keeps (MaySendAs size) (λ xs. IsHistory (MaySend size) (entries_of xs)) (history_nil (MaySend size))
     (λ xs x known may. subst (IsHistory (MaySend size)) (sym (entries_of-append xs (x ∷ []))) (history_more (MaySend size) (entries_of xs) x.1 known may.1)) history legal
+
+-- The next barrier was not put yet.
+other : (j k : ℕ) → (j ≡ k → ⊥) → (j == k) ≡ false
+other j k apart = elim (eqb_tells j k) [ inl same ↦ absurd (apart same.1) | inr differs ↦ differs.0 ]
+
+above : (n k j : ℕ) (ns : List ℕ) → ns ≡ range_with_len j n → j + n ≤ k → list_any (λ m. m == k) ns ≡ false
+above zero k j ns is low = ap (list_any (λ m. m == k)) is
+above (suc n) k j ns is low =
+    ap (list_any (λ m. m == k)) is ∙ ap (λ b. b || list_any (λ m. m == k) (range_with_len (j + 1) n)) (other j k (λ e. omega (arith, e, low)))
+    ∙ above n k (j + 1) (range_with_len (j + 1) n) refl (omega (arith, low))
+
+has_barrier-numbers : (k : ℕ) (ps : List Parcel) → has_barrier k ps ≡ list_any (λ m. m == k) (numbers_of (barriers_of ps))
+has_barrier-numbers k [] = refl
+has_barrier-numbers k (Data bytes ∷ ps) = has_barrier-numbers k ps
+has_barrier-numbers k (Barrier j kind ∷ ps) = ap (λ b. (j == k) || b) (has_barrier-numbers k ps)
+has_barrier-numbers k (End ∷ ps) = has_barrier-numbers k ps
+
+pub not_yet : (size : ℕ) (es : List SendEntry) (k : ℕ) → IsHistory (MaySend size) es → k ≡ suc (length (barriers_put es)) → has_barrier k (parcels_put es) ≡ false
+not_yet size es k history next =
+    has_barrier-numbers k (parcels_put es) ∙ above (length (barriers_put es)) k 1 (numbers_of (barriers_put es)) (barriers_are_numbered size es history) (omega (arith, next))

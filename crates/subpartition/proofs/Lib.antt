@@ -1,6 +1,9 @@
 pub mod Items
+pub mod Fronts
+pub mod BarrierLemmas
 pub mod Travelling
 pub mod Allowed
 pub mod Telling
+pub mod Heads
 pub mod Adding
 pub mod Examples

@@ -1,14 +1,14 @@
 -- What a pass's own entries tell of a cell.
 use Rattle.std.proofs.Common.{◌≡◌, ℕ, true, false, cond, eqb, true≢false, List, [], ◌∷◌, ◌++◌, refl, sym, ap, subst, ◌∙◌}
 use Rattle.std.specs.Prelude.{⊤}
-use Rattle.flow_defs.specs.declared.task.BarrierKind.TheVariants.{Inline}
+use Rattle.flow_defs.specs.declared.task.BarrierKind.TheVariants.{Inline, Front}
 use Rattle.flow_defs.specs.declared.parcel.Parcel.TheVariants.{Data, Barrier, End}
 use Rattle.flow_defs.specs.Parcels.{data_of, barriers_of, has_end}
 use Rattle.flow_defs.proofs.Lists.{cancel_nil}
 use Rattle.flow_defs.proofs.NumberLemmas.{eqb_comm}
 use Rattle.turn_cell.specs.History.{by}
 use Rattle.subpartition.specs.declared.entry.SendEntry.{SendEntry}
-use Rattle.subpartition.specs.declared.entry.SendEntry.TheVariants.{Put, PutInline, Finish, Take, Size}
+use Rattle.subpartition.specs.declared.entry.SendEntry.TheVariants.{Put, PutInline, PutFront, Finish, Take, Size}
 use Rattle.turn_cell.specs.History.{IsHistory, entries_of}
 use Rattle.turn_cell.proofs.Histories.{history_keeps, entries_of-append}
 use Rattle.turn_cell.proofs.Lists.{by-cons, by-append, first_apart}
@@ -36,6 +36,7 @@ are_by_passes size history legal = history_keeps (MaySendAs size) (λ xs. AreByP
 other_sender : (n : ℕ) (e : SendEntry) → may_send n e ≡ true → eqb 0 n ≡ false → may_send 0 e ≡ false
 other_sender n (Put bytes) h apart = absurd (true≢false (sym h ∙ eqb_comm n 0 ∙ apart))
 other_sender n (PutInline k) h apart = absurd (true≢false (sym h ∙ eqb_comm n 0 ∙ apart))
+other_sender n (PutFront k) h apart = absurd (true≢false (sym h ∙ eqb_comm n 0 ∙ apart))
 other_sender n Finish h apart = absurd (true≢false (sym h ∙ eqb_comm n 0 ∙ apart))
 other_sender n Take h apart = refl
 other_sender n (Size size) h apart = refl
@@ -43,6 +44,7 @@ other_sender n (Size size) h apart = refl
 parcels-more : (e : SendEntry) (xs ys : List SendEntry) → parcels_put xs ≡ parcels_put ys → parcels_put (e ∷ xs) ≡ parcels_put (e ∷ ys)
 parcels-more (Put bytes) xs ys h = ap (λ z. Data bytes ∷ z) h
 parcels-more (PutInline k) xs ys h = ap (λ z. Barrier k Inline ∷ z) h
+parcels-more (PutFront k) xs ys h = ap (λ z. Barrier k Front ∷ z) h
 parcels-more Finish xs ys h = ap (λ z. End ∷ z) h
 parcels-more Take xs ys h = h
 parcels-more (Size n) xs ys h = h
@@ -50,6 +52,7 @@ parcels-more (Size n) xs ys h = h
 parcels-skips : (e : SendEntry) (xs : List SendEntry) → may_send 0 e ≡ false → parcels_put (e ∷ xs) ≡ parcels_put xs
 parcels-skips (Put bytes) xs h = absurd (true≢false h)
 parcels-skips (PutInline k) xs h = absurd (true≢false h)
+parcels-skips (PutFront k) xs h = absurd (true≢false h)
 parcels-skips Finish xs h = absurd (true≢false h)
 parcels-skips Take xs h = refl
 parcels-skips (Size n) xs h = refl
@@ -80,6 +83,7 @@ task_tells_puts size history legal =
 no_take : (n : ℕ) (o : Outbox) (e : SendEntry) → may_send n e ≡ true → eqb 1 n ≡ false → (sent_one o e).taken ≡ o.taken
 no_take n o (Put bytes) h apart = refl
 no_take n o (PutInline k) h apart = refl
+no_take n o (PutFront k) h apart = refl
 no_take n o Finish h apart = refl
 no_take n o Take h apart = absurd (true≢false (sym h ∙ eqb_comm n 1 ∙ apart))
 no_take n o (Size size) h apart = refl

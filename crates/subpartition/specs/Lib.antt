@@ -1,3 +1,4 @@
+pub mod Barriers
 pub mod Sending
 pub mod Queues
 pub mod Standing

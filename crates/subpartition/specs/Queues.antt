@@ -1,11 +1,13 @@
 -- A subpartition as contracts see it. The items are those of Flink's subpartitions, data buffers with events
 -- in line; the backlog is Flink's too. How many items fit is this project's own choice.
-use Rattle.std.specs.Prelude.{◌≡◌, ℕ, suc, Bool, true, false, List, [], ◌∷◌, ◌++◌, length, take, drop}
-use Rattle.flow_defs.specs.declared.task.BarrierKind.TheVariants.{Inline}
+use Rattle.std.specs.Prelude.{◌≡◌, ℕ, suc, Bool, true, false, List, [], ◌∷◌, ◌++◌, length, map, take, drop}
+use Rattle.flow_defs.specs.declared.task.BarrierKind.TheVariants.{Inline, Front}
 use Rattle.flow_defs.specs.declared.task.Head.{Head}
 use Rattle.flow_defs.specs.declared.task.Head.TheVariants.{Nothing, Buffer as BufferHead, Event}
 use Rattle.flow_defs.specs.declared.parcel.Parcel.{Parcel}
 use Rattle.flow_defs.specs.declared.parcel.Parcel.TheVariants.{Data, Barrier, End}
+use Rattle.flow_defs.specs.Parcels.{data_of}
+use Rattle.subpartition.specs.Barriers.{is_barrier, up_to_last, behind_last}
 use Rattle.subpartition.specs.declared.item.Filled.{Filled}
 use Rattle.subpartition.specs.declared.item.Item.{Item}
 use Rattle.subpartition.specs.declared.item.Item.TheVariants.{Buffer, Barrier as BarrierItem, End as EndItem}
@@ -29,6 +31,14 @@ abbrev pub parcel_of : Item → Parcel
 parcel_of (Buffer filled) = Data (bytes_of filled)
 parcel_of (BarrierItem k kind) = Barrier k kind
 parcel_of EndItem = End
+
+-- Whether an item is a barrier.
+abbrev pub is_mark : Item → Bool
+is_mark item = is_barrier (parcel_of item)
+
+-- The data of all buffers.
+abbrev pub data_in : List Item → List ℕ
+data_in items = data_of (map parcel_of items)
 
 -- The segment of a buffer has this length.
 abbrev pub HasLength : ℕ → Item → Type 0
@@ -69,6 +79,13 @@ with_buffer queue filled = record queue { items = queue.items ++ Buffer filled �
 
 abbrev pub with_barrier : Queue → ℕ → Queue
 with_barrier queue k = record queue { items = queue.items ++ BarrierItem k Inline ∷ []; barriers = k }
+
+-- A front barrier comes directly behind the last barrier, or first where there is none; what stands behind that, it overtakes.
+abbrev pub with_front_barrier : Queue → ℕ → Queue
+with_front_barrier queue k = record queue { items = up_to_last is_mark queue.items ++ BarrierItem k Front ∷ behind_last is_mark queue.items; barriers = k }
+
+abbrev pub overtaken_in : Queue → List ℕ
+overtaken_in queue = data_in (behind_last is_mark queue.items)
 
 abbrev pub with_end : Queue → Queue
 with_end queue = record queue { items = queue.items ++ EndItem ∷ []; finished = true }

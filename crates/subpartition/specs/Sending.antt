@@ -1,15 +1,17 @@
 -- The sending end of a channel: what a history of entries makes of it. As in Flink's network stack a
 -- subpartition is a queue: buffers and events are added behind the others and taken from the front, and
--- an aligned checkpoint barrier travels in line with the data.
-use Rattle.std.specs.Prelude.{◌≡◌, ℕ, suc, ◌≤◌, ⊤, Bool, true, false, ◌==◌, List, [], ◌∷◌, ◌++◌, length, map}
+-- an aligned checkpoint barrier travels in line with the data. One of FLIP-76 goes in front of the data,
+-- behind the last barrier that stands there.
+use Rattle.std.specs.Prelude.{◌≡◌, ℕ, suc, ◌≤◌, ⊤, Bool, true, false, ◌==◌, if◌then◌else◌, List, [], ◌∷◌, ◌++◌, length, map}
 use Rattle.flow_defs.specs.declared.task.BarrierKind.{BarrierKind}
-use Rattle.flow_defs.specs.declared.task.BarrierKind.TheVariants.{Inline}
+use Rattle.flow_defs.specs.declared.task.BarrierKind.TheVariants.{Inline, Front}
 use Rattle.flow_defs.specs.declared.parcel.Parcel.{Parcel}
 use Rattle.flow_defs.specs.declared.parcel.Parcel.TheVariants.{Data, Barrier, End}
 use Rattle.flow_defs.specs.Limits.{segment_min}
 use Rattle.flow_defs.specs.Parcels.{data_of, barriers_of, has_end}
 use Rattle.subpartition.specs.declared.entry.SendEntry.{SendEntry}
-use Rattle.subpartition.specs.declared.entry.SendEntry.TheVariants.{Put, PutInline, Finish, Take, Size}
+use Rattle.subpartition.specs.declared.entry.SendEntry.TheVariants.{Put, PutInline, PutFront, Finish, Take, Size}
+use Rattle.subpartition.specs.Barriers.{data_before, is_barrier, up_to_last, behind_last}
 use Rattle.turn_cell.specs.History.{entries_of}
 
 -- What was taken, in order, and what is left.
@@ -22,10 +24,15 @@ abbrev pub take_first : List Parcel → List Parcel → Outbox
 take_first taken [] = record { taken = taken; items = [] }
 take_first taken (p ∷ ps) = record { taken = taken ++ p ∷ []; items = ps }
 
+-- A front barrier comes directly behind the last barrier, or first where there is none.
+abbrev pub with_front : ℕ → List Parcel → List Parcel
+with_front k items = up_to_last is_barrier items ++ Barrier k Front ∷ behind_last is_barrier items
+
 -- What one entry makes of an outbox.
 abbrev pub sent_one : Outbox → SendEntry → Outbox
 sent_one o (Put bytes) = record { taken = o.taken; items = o.items ++ Data bytes ∷ [] }
 sent_one o (PutInline k) = record { taken = o.taken; items = o.items ++ Barrier k Inline ∷ [] }
+sent_one o (PutFront k) = record { taken = o.taken; items = with_front k o.items }
 sent_one o Finish = record { taken = o.taken; items = o.items ++ End ∷ [] }
 sent_one o Take = take_first o.taken o.items
 sent_one o (Size n) = o
@@ -52,17 +59,34 @@ abbrev pub parcels_put : List SendEntry → List Parcel
 parcels_put [] = []
 parcels_put (Put bytes ∷ es) = Data bytes ∷ parcels_put es
 parcels_put (PutInline k ∷ es) = Barrier k Inline ∷ parcels_put es
+parcels_put (PutFront k ∷ es) = Barrier k Front ∷ parcels_put es
 parcels_put (Finish ∷ es) = End ∷ parcels_put es
 parcels_put (Take ∷ es) = parcels_put es
 parcels_put (Size n ∷ es) = parcels_put es
 
--- The bytes that were put.
+-- The bytes that were put, and those put before barrier k, or all where it was not put.
 abbrev pub put : List SendEntry → List ℕ
 put es = data_of (parcels_put es)
+
+abbrev pub put_before : ℕ → List SendEntry → List ℕ
+put_before k es = data_before k (parcels_put es)
 
 -- The barriers that were put.
 abbrev pub barriers_put : List SendEntry → List (ℕ × BarrierKind)
 barriers_put es = barriers_of (parcels_put es)
+
+-- The data that barrier k overtook: those behind the last barrier that stood there when it was put in front. A barrier in line overtakes none.
+abbrev pub overtaken_from : Outbox → ℕ → List SendEntry → List ℕ
+overtaken_from o k [] = []
+overtaken_from o k (PutInline j ∷ es) = if j == k then [] else overtaken_from (sent_one o (PutInline j)) k es
+overtaken_from o k (PutFront j ∷ es) = if j == k then data_of (behind_last is_barrier o.items) else overtaken_from (sent_one o (PutFront j)) k es
+overtaken_from o k (Put bytes ∷ es) = overtaken_from (sent_one o (Put bytes)) k es
+overtaken_from o k (Finish ∷ es) = overtaken_from (sent_one o Finish) k es
+overtaken_from o k (Take ∷ es) = overtaken_from (sent_one o Take) k es
+overtaken_from o k (Size n ∷ es) = overtaken_from o k es
+
+abbrev pub overtaken : ℕ → List SendEntry → List ℕ
+overtaken k es = overtaken_from (record { taken = []; items = [] }) k es
 
 -- Whether the end was put.
 abbrev pub is_finished : List SendEntry → Bool
@@ -73,6 +97,7 @@ abbrev pub filled_to : ℕ → List SendEntry → ℕ
 filled_to first [] = first
 filled_to first (Put bytes ∷ es) = filled_to first es
 filled_to first (PutInline k ∷ es) = filled_to first es
+filled_to first (PutFront k ∷ es) = filled_to first es
 filled_to first (Finish ∷ es) = filled_to first es
 filled_to first (Take ∷ es) = filled_to first es
 filled_to first (Size n ∷ es) = filled_to n es
@@ -87,6 +112,7 @@ pub record MayPutBarrier (es : List SendEntry) (k : ℕ) : Type 0 where
 abbrev pub MaySend : ℕ → List SendEntry → SendEntry → Type 0
 MaySend size es (Put bytes) = is_finished es ≡ false
 MaySend size es (PutInline k) = MayPutBarrier es k
+MaySend size es (PutFront k) = MayPutBarrier es k
 MaySend size es Finish = is_finished es ≡ false
 MaySend size es Take = ⊤
 MaySend size es (Size n) = (segment_min ≤ n) × (n ≤ size)
@@ -95,6 +121,7 @@ MaySend size es (Size n) = (segment_min ≤ n) × (n ≤ size)
 abbrev pub may_send : ℕ → SendEntry → Bool
 may_send number (Put bytes) = number == 0
 may_send number (PutInline k) = number == 0
+may_send number (PutFront k) = number == 0
 may_send number Finish = number == 0
 may_send number Take = number == 1
 may_send number (Size n) = number == 2

@@ -1,18 +1,20 @@
 -- The laws of histories. Each is proved as a clause of a function of `laws`.
-use Rattle.std.specs.Prelude.{◌≡◌, ℕ, suc, ◌≤◌, false, List, [], ◌∷◌, ◌++◌, length, map, Option, slice_get, option_to_list}
+use Rattle.std.specs.Prelude.{◌≡◌, ◌⊎◌, ⊤, ℕ, suc, ◌≤◌, true, false, List, [], ◌∷◌, ◌++◌, length, map, Option, Some, None, slice_get, option_to_list}
 use Rattle.flow_defs.specs.declared.parcel.Parcel.{Parcel}
-use Rattle.flow_defs.specs.declared.parcel.Parcel.TheVariants.{End}
+use Rattle.flow_defs.specs.declared.task.BarrierKind.TheVariants.{Inline, Front}
+use Rattle.flow_defs.specs.declared.parcel.Parcel.TheVariants.{Data, Barrier, End}
 use Rattle.flow_defs.specs.Parcels.{data_of, barriers_of, has_end}
 use Rattle.turn_cell.specs.History.{by, StartsWith}
 use Rattle.flow_defs.specs.Limits.{segment_min}
 use Rattle.subpartition.specs.declared.entry.SendEntry.{SendEntry}
-use Rattle.subpartition.specs.declared.entry.SendEntry.TheVariants.{Put, PutInline, Finish, Take, Size}
+use Rattle.subpartition.specs.declared.entry.SendEntry.TheVariants.{Put, PutInline, PutFront, Finish, Take, Size}
+use Rattle.subpartition.specs.Barriers.{data_before, has_barrier, kind_of}
 use Rattle.subpartition.specs.declared.item.Filled.{Filled}
 use Rattle.subpartition.specs.declared.item.Item.{Item}
 use Rattle.turn_cell.specs.History.{IsHistory, entries_of}
 use Rattle.std.specs.List.{range_with_len}
-use Rattle.subpartition.specs.Sending.{outbox, taken, travelled, put, barriers_put, is_finished, MaySend, MaySendAs, numbers_of}
-use Rattle.subpartition.specs.Queues.{Queue, bytes_of, last_bytes, parcel_of, empty_queue, with_buffer, with_barrier, with_end, without_first, filling_to}
+use Rattle.subpartition.specs.Sending.{outbox, taken, travelled, parcels_put, put, put_before, barriers_put, overtaken, is_finished, MaySend, MaySendAs, numbers_of}
+use Rattle.subpartition.specs.Queues.{Queue, bytes_of, last_bytes, parcel_of, empty_queue, with_buffer, with_barrier, with_front_barrier, overtaken_in, with_end, without_first, filling_to}
 use Rattle.subpartition.specs.Standing.{QueueStandsFor}
 
 -- Of every history whatever.
@@ -24,6 +26,22 @@ DataTravelInOrder = (es : List SendEntry) → data_of (travelled es) ≡ put es
 -- What was taken of them are the first, and what is left are the others.
 abbrev pub DataAreTakenOrLeft : Type 0
 DataAreTakenOrLeft = (es : List SendEntry) → put es ≡ data_of (taken es) ++ data_of (outbox es).items
+
+-- Those that travel before a barrier, and then those that it overtook, are those that were put before it.
+abbrev pub BarrierSplitsData : Type 0
+BarrierSplitsData = (es : List SendEntry) (k : ℕ) → data_before k (travelled es) ++ overtaken k es ≡ put_before k es
+
+-- A barrier in line overtakes nothing.
+abbrev pub InlineOvertakesNothing : Type 0
+InlineOvertakesNothing = (es : List SendEntry) (k : ℕ) → kind_of k (barriers_put es) ≡ Some Inline → overtaken k es ≡ []
+
+-- What was put before a barrier, and what it overtook, stay once it was put.
+pub record BarrierStays (es more : List SendEntry) (k : ℕ) : Type 0 where
+  pub overtaken_is : overtaken k (es ++ more) ≡ overtaken k es
+  pub before_is : put_before k (es ++ more) ≡ put_before k es
+
+abbrev pub PutStays : Type 0
+PutStays = (es more : List SendEntry) (k : ℕ) → has_barrier k (parcels_put es) ≡ true → BarrierStays es more k
 
 -- The barriers travel in the order in which they were put, with their numbers and kinds.
 abbrev pub BarriersTravelInOrder : Type 0
@@ -66,6 +84,17 @@ TaskTellsPuts = (size : ℕ) (history : List (ℕ × SendEntry)) → IsHistory (
 abbrev pub TakenStays : Type 0
 TakenStays = (size : ℕ) (before now : List (ℕ × SendEntry)) → IsHistory (MaySendAs size) now → StartsWith now before → by 1 now ≡ by 1 before → taken (entries_of now) ≡ taken (entries_of before)
 
+-- While the sender makes no entry, what stood first still does, or it was data and a front barrier came before it.
+abbrev pub FirstStays : Option Parcel → Option Parcel → Type 0
+FirstStays None now = ⊤
+FirstStays (Some (Data bytes)) now = (now ≡ Some (Data bytes)) ⊎ ((k : ℕ) × (now ≡ Some (Barrier k Front)))
+FirstStays (Some (Barrier k kind)) now = now ≡ Some (Barrier k kind)
+FirstStays (Some End) now = now ≡ Some End
+
+abbrev pub FirstItemStays : Type 0
+FirstItemStays = (size : ℕ) (before now : List (ℕ × SendEntry)) → IsHistory (MaySendAs size) now → StartsWith now before → by 1 now ≡ by 1 before →
+    FirstStays (slice_get (outbox (entries_of before)).items 0) (slice_get (outbox (entries_of now)).items 0)
+
 -- Of a queue that stands for a history.
 
 -- A new queue stands for the empty history.
@@ -78,6 +107,9 @@ PutAdds = (queue : Queue) (history : List (ℕ × SendEntry)) (number : ℕ) (fi
 
 abbrev pub PutInlineAdds : Type 0
 PutInlineAdds = (queue : Queue) (history : List (ℕ × SendEntry)) (number k : ℕ) → QueueStandsFor queue history → number ≡ 0 → queue.finished ≡ false → k ≡ suc queue.barriers → QueueStandsFor (with_barrier queue k) (history ++ (number, PutInline k) ∷ [])
+
+abbrev pub PutFrontAdds : Type 0
+PutFrontAdds = (queue : Queue) (history : List (ℕ × SendEntry)) (number k : ℕ) → QueueStandsFor queue history → number ≡ 0 → queue.finished ≡ false → k ≡ suc queue.barriers → QueueStandsFor (with_front_barrier queue k) (history ++ (number, PutFront k) ∷ [])
 
 abbrev pub FinishAdds : Type 0
 FinishAdds = (queue : Queue) (history : List (ℕ × SendEntry)) (number : ℕ) → QueueStandsFor queue history → number ≡ 0 → queue.finished ≡ false → QueueStandsFor (with_end queue) (history ++ (number, Finish) ∷ [])
@@ -96,6 +128,11 @@ TakeTells = (queue : Queue) (history : List (ℕ × SendEntry)) (number : ℕ) (
 -- A buffer that was put is the last item, so its bytes can be read off the queue at the end of the turn.
 abbrev pub LastIsPut : Type 0
 LastIsPut = (queue : Queue) (filled : Filled) → last_bytes (with_buffer queue filled).items ≡ bytes_of filled
+
+-- What the next barrier overtakes, where it is put in front, is read off the queue.
+abbrev pub FrontOvertakes : Type 0
+FrontOvertakes = (queue : Queue) (history : List (ℕ × SendEntry)) (number k : ℕ) → QueueStandsFor queue history → k ≡ suc queue.barriers →
+    overtaken k (entries_of (history ++ (number, PutFront k) ∷ [])) ≡ overtaken_in queue
 
 -- The task's own entries tell the last barrier of the queue, and whether it was finished.
 pub record QueueIsTold (queue : Queue) (own : List SendEntry) : Type 0 where

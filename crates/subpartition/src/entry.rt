@@ -8,6 +8,8 @@ pub enum SendEntry {
     Put(LinkedList<u8>),
     /// A barrier of this number was put in line.
     PutInline(u64),
+    /// A barrier of this number was put in front of the data behind the last barrier.
+    PutFront(u64),
     /// The end was put.
     Finish,
     /// The first item was taken, where there was one.

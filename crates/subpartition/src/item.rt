@@ -35,3 +35,28 @@ pub enum Item {
     /// Nothing follows.
     End,
 }
+
+impl Item {
+    ghost use Rattle.std.specs.Prelude.{◌≡◌, [], ◌∷◌};
+    ghost use Rattle.subpartition.specs.Queues.{data_in, is_mark};
+
+    /// Whether it is a barrier.
+    pub(crate) fn is_barrier(&self) -> bool
+        ensures { result ≡ is_mark self.now }
+    {
+        match self {
+            Item::Barrier { .. } => true,
+            Item::Buffer(_) | Item::End => false,
+        }
+    }
+
+    /// The data of a buffer, and none of an event.
+    pub(crate) fn data(&self) -> &[u8]
+        ensures { result.now ≡ data_in (self.now ∷ []) }
+    {
+        match self {
+            Item::Buffer(filled) => filled.bytes(),
+            Item::Barrier { .. } | Item::End => &[],
+        }
+    }
+}

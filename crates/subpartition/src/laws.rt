@@ -1,6 +1,6 @@
 //! The laws of what stands to be sent. Each function does nothing; what it ensures is the law.
-ghost use Rattle.subpartition.specs.Theorems.{DataTravelInOrder, DataAreTakenOrLeft, BarriersTravelInOrder, EndTravels, TakenGrows, BarriersAreNumbered, EndIsLast, EntriesAreHistory, TaskTellsPuts, TakenStays};
-ghost use Rattle.subpartition.specs.Theorems.{NewStandsForNone, PutAdds, PutInlineAdds, FinishAdds, TakeAdds, SizeAdds, LastIsPut, TakeTells, TaskTellsQueue};
+ghost use Rattle.subpartition.specs.Theorems.{DataTravelInOrder, DataAreTakenOrLeft, BarrierSplitsData, InlineOvertakesNothing, PutStays, BarriersTravelInOrder, EndTravels, TakenGrows, BarriersAreNumbered, EndIsLast, EntriesAreHistory, TaskTellsPuts, TakenStays, FirstItemStays};
+ghost use Rattle.subpartition.specs.Theorems.{NewStandsForNone, PutAdds, PutInlineAdds, PutFrontAdds, FinishAdds, TakeAdds, SizeAdds, LastIsPut, TakeTells, FrontOvertakes, TaskTellsQueue};
 
 /// Every history keeps the order: data, barriers and the end travel as they were put, and what was taken
 /// stays.
@@ -10,6 +10,14 @@ pub fn histories_keep_order()
     ensures barriers { BarriersTravelInOrder }
     ensures end { EndTravels }
     ensures taken { TakenGrows }
+{}
+
+/// A barrier parts the data: what travels before it, and what it overtook, was put before it, and stays so. One
+/// in line overtakes nothing.
+pub fn barriers_part_data()
+    ensures splits { BarrierSplitsData }
+    ensures inline { InlineOvertakesNothing }
+    ensures stays { PutStays }
 {}
 
 /// In a history whose entries were all allowed the barriers count from 1, and the end is last.
@@ -23,6 +31,7 @@ pub fn passes_tell()
     ensures entries { EntriesAreHistory }
     ensures task { TaskTellsPuts }
     ensures sender { TakenStays }
+    ensures first { FirstItemStays }
 {}
 
 /// Each call of a subpartition adds its entry to the history that the subpartition stands for.
@@ -30,6 +39,7 @@ pub fn calls_add_entries()
     ensures new { NewStandsForNone }
     ensures put { PutAdds }
     ensures put_inline { PutInlineAdds }
+    ensures put_front { PutFrontAdds }
     ensures finish { FinishAdds }
     ensures take { TakeAdds }
     ensures size { SizeAdds }
@@ -40,5 +50,6 @@ pub fn calls_add_entries()
 pub fn calls_tell()
     ensures put { LastIsPut }
     ensures take { TakeTells }
+    ensures front { FrontOvertakes }
     ensures task { TaskTellsQueue }
 {}

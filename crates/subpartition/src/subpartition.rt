@@ -1,16 +1,18 @@
 // What stands to be sent on a channel.
-ghost use Rattle.std.specs.Prelude.{◌≡◌, ◌<◌, [], ◌∷◌, ◌++◌, length};
+ghost use Rattle.std.specs.Prelude.{◌≡◌, ◌≤◌, ◌<◌, [], ◌∷◌, ◌++◌, length, take, drop, IfOk};
 ghost use Rattle.circular_buffer.specs.Buffer.{buffer};
+ghost use Rattle.subpartition.specs.Barriers.{behind_last};
+ghost use Rattle.subpartition.specs.Queues.{data_in, is_mark};
 
 use crate::item::{Filled, Item};
 use circular_buffer::HeapCircularBuffer;
-use flow_defs::{BarrierKind, Head};
+use flow_defs::{BarrierKind, Bytes, Head};
 use std::alloc::{AllocError, Global};
 use std::marker::Model;
 
 /// What stands to be sent on a channel: data buffers, barriers and the end, in the order in which they
 /// travel, as in Flink's pipelined subpartitions. It has room for so many items, which `new` reserves;
-/// every other call takes constant time.
+/// every other call but `put_front` takes constant time.
 #[derive(Drop)]
 pub struct Subpartition {
     queue: HeapCircularBuffer<Item>,
@@ -35,9 +37,9 @@ impl Model for Subpartition {
 }
 
 impl Subpartition {
-    ghost use Rattle.std.specs.Prelude.{◌≡◌, ◌+◌, ◌<◌, ◌≤◌, false, length, slice_get, IfOk};
+    ghost use Rattle.std.specs.Prelude.{◌≡◌, ◌+◌, ◌<◌, ◌≤◌, false, length, slice_get, IfOk, OnOk, OnErr};
     ghost use Rattle.flow_defs.specs.Limits.{segment_min, segment_max, credit_max};
-    ghost use Rattle.subpartition.specs.Queues.{backlog_of, head_of, empty_queue, with_buffer, with_barrier, with_end, without_first, filling_to};
+    ghost use Rattle.subpartition.specs.Queues.{backlog_of, head_of, empty_queue, with_buffer, with_barrier, with_front_barrier, overtaken_in, with_end, without_first, filling_to};
 
     /// An empty subpartition for segments of `size` bytes, with room for `room` items, from 1 to
     /// 2,147,483,647. At first buffers are filled whole.
@@ -78,6 +80,29 @@ impl Subpartition {
         let kind = BarrierKind::Inline;
         push(&mut self.queue, Item::Barrier { k, kind });
         self.last_barrier = k;
+    }
+
+    /// Puts a front barrier, that of an unaligned checkpoint of FLIP-76, directly behind the last barrier that
+    /// stands here, before all data behind that. Answers those data, which it overtakes; they stay, and are
+    /// still sent. Each item is moved once, and each byte that is overtaken is copied once. Where there is no
+    /// memory for the copy nothing changes.
+    pub fn put_front(&mut self, alloc: Global, k: u64) -> Result<Bytes, AllocError>
+        requires open_end { self.old.finished ≡ false }
+        requires room { length self.old.items < self.old.room }
+        requires next { k ≡ self.old.barriers + 1 }
+        ensures ok { OnOk result (self.new ≡ with_front_barrier self.old k) }
+        ensures overtaken { IfOk result (λ bytes. bytes.items ≡ overtaken_in self.old) }
+        ensures err { OnErr result (self.new ≡ self.old) }
+    {
+        let behind = behind_last_barrier(&self.queue);
+        let place = self.queue.len() - behind;
+        let overtaken = data_behind(alloc, &self.queue, place)?;
+        let kind = BarrierKind::Front;
+        turn_round(&mut self.queue, place);
+        push(&mut self.queue, Item::Barrier { k, kind });
+        turn_round(&mut self.queue, behind);
+        self.last_barrier = k;
+        Ok(overtaken)
     }
 
     /// Puts the end. Nothing may be put behind it.
@@ -165,4 +190,54 @@ fn push(queue: &mut HeapCircularBuffer<Item>, item: Item)
     let Ok(()) = queue.try_push_back(item) else {
         unreachable!()
     };
+}
+
+// How many items stand behind the last barrier.
+fn behind_last_barrier(queue: &HeapCircularBuffer<Item>) -> usize
+    ensures count { result ≡ length (behind_last is_mark queue.now.items) }
+    ensures within { result ≤ length queue.now.items }
+{
+    let len = queue.len();
+    for i in 0..len {
+        let Some(item) = queue.nth_back(i) else {
+            unreachable!()
+        };
+        if item.is_barrier() {
+            return i;
+        }
+    }
+    len
+}
+
+// A copy of the data of all items from this place on.
+fn data_behind(
+    alloc: Global,
+    queue: &HeapCircularBuffer<Item>,
+    place: usize,
+) -> Result<Bytes, AllocError>
+    requires { place ≤ length queue.now.items }
+    ensures { IfOk result (λ bytes. bytes.items ≡ data_in (drop place queue.now.items)) }
+{
+    let mut bytes = Bytes::new(alloc);
+    for i in place..queue.len() {
+        let Some(item) = queue.get(i) else {
+            unreachable!()
+        };
+        bytes.extend(item.data())?;
+    }
+    Ok(bytes)
+}
+
+// Moves so many of the first items behind all others.
+fn turn_round(queue: &mut HeapCircularBuffer<Item>, count: usize)
+    requires count { count ≤ length queue.old.items }
+    requires within { length queue.old.items ≤ queue.old.capacity }
+    ensures { queue.new ≡ buffer (drop count queue.old.items ++ take count queue.old.items) queue.old.capacity }
+{
+    for _moved in 0..count {
+        let Some(item) = queue.pop_front() else {
+            unreachable!()
+        };
+        push(queue, item);
+    }
 }

@@ -8,7 +8,7 @@ use Rattle.flow_defs.specs.declared.task.BarrierKind.TheVariants.{Inline}
 use Rattle.checkpoint_laws.specs.Puts.{onto_first, stretches}
 use Rattle.checkpoint_laws.specs.Growing.{DataGrowStretch}
 use Rattle.subpartition.specs.declared.entry.SendEntry.{SendEntry}
-use Rattle.subpartition.specs.declared.entry.SendEntry.TheVariants.{Put, PutInline, Finish, Take, Size}
+use Rattle.subpartition.specs.declared.entry.SendEntry.TheVariants.{Put, PutInline, PutFront, Finish, Take, Size}
 use Rattle.subpartition.specs.Sending.{parcels_put, put, barriers_put, is_finished}
 use Rattle.subpartition.proofs.Travelling.{parcels_put-append, put-append, barriers_put-append, is_finished-append}
 
@@ -87,6 +87,7 @@ pub put_joined : (own : List SendEntry) → put own ≡ joined (stretches (parce
 put_joined [] = refl
 put_joined (Put bytes ∷ es) = ap (λ l. bytes ++ l) (put_joined es) ∙ sym (joined_onto bytes (stretches (parcels_put es)))
 put_joined (PutInline k ∷ es) = put_joined es
+put_joined (PutFront k ∷ es) = put_joined es
 put_joined (Finish ∷ es) = put_joined es
 put_joined (Take ∷ es) = put_joined es
 put_joined (Size n ∷ es) = put_joined es

@@ -1,6 +1,6 @@
 // Texts that are scripts beside texts that have a bad line, and replies as they are printed.
 use credit_reader::SentKind;
-use flow_defs::{Bytes, ListOf};
+use flow_defs::{BarrierKind, Bytes, ListOf};
 use script_text::{Event, Reply, read_script, write_reply};
 use std::alloc::{AllocError, Global};
 use std::test::Fail;
@@ -160,14 +160,28 @@ const TEXTS: &[(&[u8], u8, usize, &[u8], &str)] = &[
         b"",
         "script line 2: bad line",
     ),
-    // Lines that are no events.
     (
-        b"open 1 64 4\nbarrier 1 1 front",
+        b"open 1 64 4\nbarrier 1 18446744073709551615 front",
+        0,
+        0,
+        b"",
+        "",
+    ),
+    (
+        b"open 1 64 4\nbarrier 1 0 front",
         0,
         0,
         b"",
         "script line 2: bad line",
     ),
+    (
+        b"open 1 64 4\nbarrier 1 1 front ",
+        0,
+        0,
+        b"",
+        "script line 2: bad line",
+    ),
+    // Lines that are no events.
     (
         b"open 1 64 4\nsave 1 1",
         0,
@@ -253,7 +267,8 @@ const EVENTS: &[(&str, &str)] = &[
         "Emit { c: 3, text: Bytes { bytes: [32, 98] } }",
     ),
     ("fill 2 70", "Fill { c: 2, n: 70 }"),
-    ("barrier 3 4 inline", "Barrier { c: 3, k: 4 }"),
+    ("barrier 3 4 inline", "Barrier { c: 3, k: 4, kind: Inline }"),
+    ("barrier 3 4 front", "Barrier { c: 3, k: 4, kind: Front }"),
     ("finish 2", "Finish { c: 2 }"),
     ("send", "Send"),
     ("announce", "Announce"),
@@ -344,8 +359,33 @@ fn replies_are_printed(rt: HostRuntime) -> Result<(), Fail> {
             Reply::Barrier {
                 c: 2,
                 k: 18446744073709551615,
+                kind: BarrierKind::Inline,
             },
             "barrier 2 18446744073709551615 inline\n",
+        ),
+        (
+            Reply::Barrier {
+                c: 2,
+                k: 1,
+                kind: BarrierKind::Front,
+            },
+            "barrier 2 1 front\n",
+        ),
+        (
+            Reply::SavedOut {
+                c: 2,
+                k: 18446744073709551615,
+                bytes: Bytes::of(alloc, &[0, 9, 10, 160, 255])?,
+            },
+            "saved_out 2 18446744073709551615 00090aa0ff\n",
+        ),
+        (
+            Reply::SavedOut {
+                c: 2,
+                k: 1,
+                bytes: Bytes::new(alloc),
+            },
+            "saved_out 2 1 -\n",
         ),
         (Reply::End { c: 2 }, "end 2\n"),
         (Reply::Pool { free: 33, lent: 7 }, "pool 33 7\n"),

@@ -1,6 +1,6 @@
-use Rattle.std.proofs.Common.{sym, ap, ◌∙◌}
+use Rattle.std.proofs.Common.{ap, ◌∙◌}
 use Rattle.conn_send_items.specs.Fronts.{front_after, backlog_after}
-use Rattle.conn_send_items.proofs.Lent.{none_taken_at, sender_at, seen_was, own_now, seen_now, others_now}
+use Rattle.conn_send_items.proofs.Lent.{none_taken_at, front_stays_at, sender_at, seen_was, own_now, seen_now, others_now}
 use Rattle.conn_send_items.proofs.places.look_at.Goals as goal
 
 pub look-requires : goal.look-requires
@@ -16,10 +16,10 @@ returns-clause-taken g c =
     none_taken_at _ _ _ _ was now c.look.ensures.taken
 
 pub returns-clause-stays : goal.returns-clause-stays
-returns-clause-stays g c = λ some.
+returns-clause-stays g c =
     let now = seen_now c.args.cells.now c.args.passes.now.items _ c.args.place _ _ c.as_mut_slice.ensures.value c.requires.passes c.requires.within c.index-cells-place.is c.index-as_mut_slice-place.is c.look.new.pass in
     let was = seen_was c.args.cells.now c.args.passes.now.items _ c.args.place _ _ c.as_mut_slice.ensures.value c.requires.passes c.requires.within c.index-cells-place.is c.index-as_mut_slice-place.is in
-    ap front_after now ∙ c.look.ensures.stays (λ none. some (ap front_after was ∙ none)) ∙ ap front_after (sym was)
+    front_stays_at _ _ _ _ was now c.look.ensures.stays
 
 pub returns-clause-front : goal.returns-clause-front
 returns-clause-front g c =

@@ -1,8 +1,9 @@
-use Rattle.std.proofs.Common.{◌≡◌, sym, ap, subst, ◌∙◌}
+use Rattle.std.proofs.Common.{◌≡◌, Some, sym, ap, subst, ◌∙◌}
 use Rattle.std.proofs.lemmas.List.Elements.{All-get_or}
 use Rattle.turn_cell.specs.Passes.{opened_with}
 use Rattle.subpartition.specs.Queues.{HasLength, parcel_of}
-use Rattle.conn_send_items.specs.Fronts.{SendCell, front_after, backlog_after}
+use Rattle.subpartition.specs.Theorems.{FirstStays}
+use Rattle.conn_send_items.specs.Fronts.{SendCell, first_after, front_after, backlog_after}
 use Rattle.conn_send_items.proofs.Lent.{one_taken_at, sender_at, seen_was, own_now, seen_now, others_now}
 use Rattle.conn_send_items.proofs.places.take_at.Goals as goal
 
@@ -26,7 +27,7 @@ returns-clause-taken g c =
 pub returns-clause-was : goal.returns-clause-was
 returns-clause-was g c =
     let was = seen_was c.args.cells.now c.args.passes.now.items _ c.args.place _ _ c.as_mut_slice.ensures.value c.requires.passes c.requires.within c.index-cells-place.is c.index-as_mut_slice-place.is in
-    c.take.ensures.was ∙ ap front_after (sym was)
+    subst (λ h. FirstStays (first_after h) (Some (parcel_of c.take.result.item))) (sym was) c.take.ensures.was
 
 pub returns-clause-front : goal.returns-clause-front
 returns-clause-front g c =

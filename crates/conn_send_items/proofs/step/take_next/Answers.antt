@@ -1,13 +1,33 @@
-use Rattle.std.proofs.Common.{◌≡◌, ◌∷◌, [], ◌++◌, ◌%◌, ◌^◌, length, ap, subst, ◌∙◌}
+use Rattle.std.proofs.Common.{◌≡◌, ◌∷◌, [], ◌++◌, ◌%◌, ◌^◌, Some, length, sym, ap, subst, ◌∙◌}
+use Rattle.credit_reader.specs.Readers.{cost}
+use Rattle.subpartition.specs.Queues.{parcel_of}
 use Rattle.turn_cell.specs.Passes.{mine, seen}
 use Rattle.reader_state.specs.declared.entry.ReaderEntry.TheVariants.{Sent}
 use Rattle.reader_state.specs.Standing.{sent_on, told_last, announced_on}
-use Rattle.reader_state.specs.Turning.{HeadsStay, HeadsChange}
-use Rattle.conn_send_items.proofs.Standing.{stands_on, stands_stay}
+use Rattle.reader_state.specs.Turning.{channels_in, HeadsStay, HeadsChange}
+use Rattle.conn_parts.specs.Shares.{seen_at}
+use Rattle.conn_send_items.specs.Fronts.{first_after}
+use Rattle.conn_send_items.proofs.Fronts.{still_stands, stands_some, costs_told}
+use Rattle.conn_send_items.proofs.Standing.{stands_on, stands_stay, stands_next}
 use Rattle.conn_send_items.proofs.Saying.{sends_told}
 use Rattle.conn_send_items.proofs.Sent.{sends_one}
 use Rattle.conn_send_items.proofs.Noting.{sent_tells, told_here, told_else}
 use Rattle.conn_send_items.proofs.step.take_next.Goals as goal
+
+pub take_at-item-requires-clause-standing : goal.take_at-item-requires-clause-standing
+take_at-item-requires-clause-standing g c =
+    let passes = c.args.passes.now in let place = c.in-Some-place_of.place in let channel = c.in-Some.channel in let asked = seen c.next_to_send.new.pass in
+    let stood = stands_next (channels_in c.args.cells.now.readers.now) c.args.cells.now.channels.now passes.subpartitions.items (seen passes.readers) asked
+    c.requires.cells.channels c.next_to_send.ensures.heads place (c.requires.stand place) channel c.in-Some-place_of.ensures.found.1 in
+    stands_some _ (first_after (seen_at place passes.subpartitions.items)) c.in-Some.ensures.can.standing stood
+
+pub tell_sent-sequence-requires-clause-kind : goal.tell_sent-sequence-requires-clause-kind
+tell_sent-sequence-requires-clause-kind g c = λ costs.
+    let passes = c.args.passes.now in let place = c.in-Some-place_of.place in let channel = c.in-Some.channel in let asked = seen c.next_to_send.new.pass in
+    let stood = stands_next (channels_in c.args.cells.now.readers.now) c.args.cells.now.channels.now passes.subpartitions.items (seen passes.readers) asked
+    c.requires.cells.channels c.next_to_send.ensures.heads place (c.requires.stand place) channel c.in-Some-place_of.ensures.found.1 in
+    let parcel = parcel_of c.take_at-item.result.item in
+    costs_told _ parcel c.in-Some.ensures.can.standing (still_stands _ (first_after (seen_at place passes.subpartitions.items)) (Some parcel) stood c.take_at-item.ensures.was) (ap cost (sym c.sent_kind.ensures) ∙ costs)
 
 pub returns-clause-stand : goal.returns-clause-stand
 returns-clause-stand g c = λ k.

@@ -1,8 +1,8 @@
 use Rattle.std.proofs.Common.{rules, ◌≡◌, sym, ap, subst, ◌∙◌}
 use Rattle.turn_cell.specs.Passes.{seen}
 use Rattle.subpartition.specs.Standing.{QueueStandsFor}
-use Rattle.conn_send_items.specs.Fronts.{NoneTaken, front_after, backlog_after, FrontStays}
-use Rattle.conn_send_items.proofs.Fronts.{own_same, front_stays, none_taken, backlog_is}
+use Rattle.conn_send_items.specs.Fronts.{NoneTaken, backlog_after, FrontStays}
+use Rattle.conn_send_items.proofs.Fronts.{own_same, none_taken, backlog_is}
 use Rattle.conn_send_items.proofs.turns.look.Goals as goal
 
 pub returns-clause-taken : goal.returns-clause-taken
@@ -27,5 +27,5 @@ returns-clause-stays g c =
     let pass = c.enter-turn.result.pass.now in let before = c.args.pass.now in let entered = c.enter-turn.ensures in
     let own = own_same c.args.cell.now c.enter-turn.result.cell.now before pass c.requires entered.turn.0 entered.pass.0 in
     let told : FrontStays (seen before) (seen c.leave_as_is.new.self.1.0) =
-    λ some. ap front_after c.leave_as_is.ensures.rested.1 ∙ front_stays _ (seen before) (seen pass) entered.state.0.legal entered.seen own some in
+    subst (FrontStays (seen before)) (sym c.leave_as_is.ensures.rested.1) (c.passes_tell.ensures.first _ (seen before) (seen pass) entered.state.0.legal entered.seen own) in
     search (rules, told)

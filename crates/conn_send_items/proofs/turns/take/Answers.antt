@@ -4,8 +4,9 @@ use Rattle.turn_cell.specs.Passes.{opened_with, number, seen}
 use Rattle.subpartition.specs.declared.entry.SendEntry.TheVariants.{Take}
 use Rattle.subpartition.specs.Queues.{Queue, HasLength, parcel_of}
 use Rattle.subpartition.specs.Standing.{QueueStandsFor}
-use Rattle.conn_send_items.specs.Fronts.{SendCell, taken_in, OneTaken, front_after, backlog_after}
-use Rattle.conn_send_items.proofs.Fronts.{own_same, front_stays, front_is, backlog_is, one_taken, no_first, head_taken, numbered, first_long}
+use Rattle.subpartition.specs.Theorems.{FirstStays}
+use Rattle.conn_send_items.specs.Fronts.{SendCell, taken_in, OneTaken, first_after, front_after, backlog_after}
+use Rattle.conn_send_items.proofs.Fronts.{own_same, still_some, front_is, backlog_is, one_taken, no_first, first_is, numbered, first_long}
 use Rattle.conn_send_items.proofs.turns.take.Goals as goal
 
 pub unreachable-requires : goal.unreachable-requires
@@ -13,8 +14,8 @@ unreachable-requires g c =
     let pass = c.enter-turn.result.pass.now in let before = c.args.pass.now in let entered = c.enter-turn.ensures in let queue = c.state.result.now in
     let own = own_same c.args.cell.now c.enter-turn.result.cell.now before pass c.requires.pass entered.turn.0 entered.pass.0 in
     let stands = subst (λ q. QueueStandsFor q (seen pass)) (sym c.state.ensures.value) entered.state.0 in
-    let same = front_stays _ (seen before) (seen pass) stands.legal entered.seen own c.requires.standing in
-    no_first queue.items (λ none. c.requires.standing (sym same ∙ front_is queue (seen pass) stands ∙ none)) (sym c.take.ensures.first ∙ c.in_default.is)
+    let some = still_some (first_after (seen before)) (first_after (seen pass)) (c.passes_tell.ensures.first _ (seen before) (seen pass) stands.legal entered.seen own) c.requires.standing in
+    no_first queue.items (λ none. some (front_is queue (seen pass) stands ∙ none)) (sym c.take.ensures.first ∙ c.in_default.is)
 
 pub leave-requires-clause-state : goal.leave-requires-clause-state
 leave-requires-clause-state g c =
@@ -40,8 +41,9 @@ returns-clause-taken g c =
     let stood = subst (λ q. QueueStandsFor q (seen pass ++ (number pass, Take) ∷ [])) (sym (then ∙ c.take.ensures.rest)) after in
     let left : backlog_after (seen c.leave.new.self.1.0) ≡ c.backlog.result =
     ap backlog_after c.leave.ensures.entered.1 ∙ backlog_is c.state-queue.result.now _ stood ∙ sym c.backlog.ensures.backlog in
+    let some = still_some (first_after (seen before)) (first_after (seen pass)) (c.passes_tell.ensures.first _ (seen before) (seen pass) stands.legal entered.seen own) c.requires.standing in
     let told : OneTaken (seen before) (seen c.leave.new.self.1.0) (parcel_of c.in-Some.item) c.backlog.result =
-    one_taken _ (seen before) (seen pass) (seen c.leave.new.self.1.0) (number pass) (parcel_of c.in-Some.item) c.backlog.result stands.legal entered.seen own c.requires.standing c.leave.ensures.entered.1 taken left in
+    one_taken _ (seen before) (seen pass) (seen c.leave.new.self.1.0) (number pass) (parcel_of c.in-Some.item) c.backlog.result stands.legal entered.seen own some c.leave.ensures.entered.1 taken left in
     search (rules, told)
 
 pub returns-clause-backlog : goal.returns-clause-backlog
@@ -60,8 +62,7 @@ returns-clause-was g c =
     let pass = c.enter-turn.result.pass.now in let before = c.args.pass.now in let entered = c.enter-turn.ensures in let queue = c.state.result.now in
     let own = own_same c.args.cell.now c.enter-turn.result.cell.now before pass c.requires.pass entered.turn.0 entered.pass.0 in
     let stands = subst (λ q. QueueStandsFor q (seen pass)) (sym c.state.ensures.value) entered.state.0 in
-    let same = front_stays _ (seen before) (seen pass) stands.legal entered.seen own c.requires.standing in
-    head_taken queue.items c.in-Some.item (sym c.take.ensures.first ∙ c.in-Some.is) ∙ sym (front_is queue (seen pass) stands) ∙ same
+    subst (FirstStays (first_after (seen before))) (first_is queue (seen pass) c.in-Some.item stands (sym c.take.ensures.first ∙ c.in-Some.is)) (c.passes_tell.ensures.first _ (seen before) (seen pass) stands.legal entered.seen own)
 
 pub returns-clause-numbered : goal.returns-clause-numbered
 returns-clause-numbered g c =

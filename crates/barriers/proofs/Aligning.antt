@@ -1,12 +1,12 @@
--- What becomes of an alignment at a barrier.
-use Rattle.std.proofs.Common.{◌≡◌, ℕ, zero, suc, ◌+◌, ◌<◌, Bool, true, false, cond, eqb, get_or, List, [], ◌∷◌, ◌++◌, length, refl, sym, ap, ◌∙◌, subst, arith}
-use Rattle.std.specs.Prelude.{slice_set, map}
-use Rattle.std.specs.List.{list_all, list_any}
-use Rattle.std.proofs.lemmas.Bool.{eqb-true, eqb-false}
-use Rattle.std.proofs.lemmas.List.{length-map, length-set, get_or-set_same, get_or-set_other}
+-- What an aligner answers to a barrier and to the saved bytes of a channel, and one event more.
+use Rattle.std.proofs.Common.{◌≡◌, ℕ, zero, suc, ◌+◌, ◌<◌, Bool, true, false, cond, ◌||◌, List, [], ◌∷◌, ◌++◌, length, refl, sym, ap, ◌∙◌, subst, arith}
+use Rattle.std.specs.Prelude.{slice_set}
+use Rattle.std.specs.List.{list_any}
 use Rattle.std.proofs.lemmas.Option.{slice_get_within}
-use Rattle.barriers.specs.declared.aligner.Action.TheVariants.{Block, SnapshotInline}
-use Rattle.barriers.specs.Alignments.{Barrier, Alignment, MayGive, MayAllGive, AlignmentStandsFor, AddsBarrier, Answers, action, alignment_next, after_all, unaligned, given_by, gave_with, is_last}
+use Rattle.flow_defs.specs.declared.task.BarrierKind.TheVariants.{Inline, Front}
+use Rattle.barriers.specs.declared.aligner.Action.TheVariants.{Nothing, Block, SnapshotInline, SnapshotFront, Done}
+use Rattle.barriers.specs.Alignments.{Barrier, Alignment, Event, MayGive, MayHappen, MayAllHappen, AlignmentStandsFor, Answers, AnswersSaved, action, action_saved, alignment_next, after_all, after_saved, event_next, unaligned, gave_with, is_front, is_last, is_last_saved, none_of}
+use Rattle.barriers.proofs.Given.{counted, opened, closing, resaved, done}
 
 pub any_set : (gave : List Bool) (i : ℕ) → i < length gave → list_any (λ g. g) (slice_set gave i true) ≡ true
 any_set [] i h = absurd (omega arith)
@@ -14,80 +14,53 @@ any_set (g ∷ gave) zero h = refl
 any_set (true ∷ gave) (suc i) h = refl
 any_set (false ∷ gave) (suc i) h = any_set gave i (omega arith)
 
-pub any_false : (gave : List Bool) → list_any (λ g. g) (map (λ g. false) gave) ≡ false
+pub any_false : (gave : List Bool) → list_any (λ g. g) (none_of gave) ≡ false
 any_false [] = refl
 any_false (g ∷ gave) = any_false gave
 
-pub at_false : (gave : List Bool) (i : ℕ) → get_or (map (λ g. false) gave) i false ≡ false
-at_false [] i = refl
-at_false (g ∷ gave) zero = refl
-at_false (g ∷ gave) (suc i) = at_false gave i
+-- ---- a barrier
 
-pub all_at : (gave : List Bool) (i : ℕ) → i < length gave → list_all (λ g. g) gave ≡ true → get_or gave i false ≡ true
-all_at [] i h e = absurd (omega arith)
-all_at (true ∷ gave) zero h e = refl
-all_at (true ∷ gave) (suc i) h e = all_at gave i (omega arith) e
-all_at (false ∷ gave) i h e = absurd (cc)
-
--- as it goes on, and as it closes
-abbrev pub going : Alignment → Barrier → Alignment
-going a b = record { closed = a.closed; gave = gave_with a b }
-
-abbrev pub closing : Alignment → Barrier → Alignment
-closing a b = record { closed = b.number; gave = map (λ g. false) a.gave }
-
-pub adds_going : (a : Alignment) (b : Barrier) → MayGive a b → AddsBarrier b a (going a b)
-adds_going a b may =
-    let within : b.channel < length a.gave = slice_get_within a.gave b.channel false may.once in
-    record {
-      channels = length-set a.gave b.channel true;
-      given = λ c lt. elim (eqb c b.channel) as (λ t. eqb c b.channel ≡ t → given_by (going a b) c ≡ cond t b.number (given_by a c)) [
-        | true ↦ λ is. let same : c ≡ b.channel = eqb-true c b.channel is in
-            ap (λ i. given_by (going a b) i) same ∙ ap (λ g. a.closed + cond g 1 0) (get_or-set_same a.gave b.channel true false within) ∙ sym may.number
-        | false ↦ λ is. ap (λ g. a.closed + cond g 1 0) (get_or-set_other a.gave b.channel c true false (eqb-false c b.channel is))
-      ] refl;
-    }
-
-pub adds_closing : (a : Alignment) (b : Barrier) → MayGive a b → is_last a b ≡ true → AddsBarrier b a (closing a b)
-adds_closing a b may last =
-    record {
-      channels = length-map a.gave (λ g. false);
-      given = λ c lt.
-          let new : given_by (closing a b) c ≡ b.number = ap (λ g. b.number + cond g 1 0) (at_false a.gave c) ∙ omega arith in
-          elim (eqb c b.channel) as (λ t. eqb c b.channel ≡ t → given_by (closing a b) c ≡ cond t b.number (given_by a c)) [
-            | true ↦ λ is. new
-            | false ↦ λ is.
-                let gave : get_or (gave_with a b) c false ≡ true = all_at (gave_with a b) c (subst (λ n. c < n) (sym (length-set a.gave b.channel true)) lt) last in
-                new ∙ may.number ∙ sym (ap (λ g. a.closed + cond g 1 0) (sym (get_or-set_other a.gave b.channel c true false (eqb-false c b.channel is)) ∙ gave))
-          ] refl;
-    }
-
-pub adds : (a : Alignment) (b : Barrier) → MayGive a b → AddsBarrier b a (alignment_next a b)
-adds a b may =
-    elim (is_last a b) as (λ t. is_last a b ≡ t → AddsBarrier b a (cond t (closing a b) (going a b))) [
-      | true ↦ λ last. adds_closing a b may last
-      | false ↦ λ last. adds_going a b may
-    ] refl
+answers_inline : (a : Alignment) (b : Barrier) → MayGive a b → a.saving ≡ false → b.kind ≡ Inline →
+    Answers b a (cond (is_last a b) (SnapshotInline b.number) Block) (cond (is_last a b) (closing a b) (counted a b))
+answers_inline a b may off kind =
+    elim (is_last a b) as (λ t. Answers b a (cond t (SnapshotInline b.number) Block) (cond t (closing a b) (counted a b))) [
+      | true ↦ (kind, refl, refl, ap (λ s. s || list_any (λ g. g) (none_of a.gave)) off ∙ any_false a.gave)
+      | false ↦ (kind, refl, ap (λ s. s || list_any (λ g. g) (gave_with a b)) off ∙ any_set a.gave b.channel (slice_get_within a.gave b.channel false may.once), off)
+    ]
 
 pub answers : (a : Alignment) (b : Barrier) → MayGive a b → Answers b a (action a b) (alignment_next a b)
 answers a b may =
-    elim (is_last a b) as (λ t. Answers b a (cond t (SnapshotInline b.number) Block) (cond t (closing a b) (going a b))) [
+    elim a.saving as (λ s. a.saving ≡ s → Answers b a (cond s Nothing (cond (is_front b.kind) (SnapshotFront b.number) (cond (is_last a b) (SnapshotInline b.number) Block))) (cond s (counted a b) (cond (is_front b.kind) (opened a b) (cond (is_last a b) (closing a b) (counted a b))))) [
+      | true ↦ λ on. (on, refl)
+      | false ↦ λ off. elim b.kind as (λ kind. b.kind ≡ kind → Answers b a (cond (is_front kind) (SnapshotFront b.number) (cond (is_last a b) (SnapshotInline b.number) Block)) (cond (is_front kind) (opened a b) (cond (is_last a b) (closing a b) (counted a b)))) [
+        | Inline ↦ λ is. answers_inline a b may off is
+        | Front ↦ λ is. (is, refl, refl)
+      ] refl
+    ] refl
+
+-- ---- the saved bytes of a channel
+
+pub answers_saved : (a : Alignment) (channel : ℕ) → AnswersSaved channel a (action_saved a channel) (after_saved a channel)
+answers_saved a channel =
+    elim (is_last_saved a channel) as (λ t. AnswersSaved channel a (cond t (Done (a.closed + 1)) Nothing) (cond t (done a) (resaved a channel))) [
       | true ↦ (refl, refl, any_false a.gave)
-      | false ↦ (refl, refl, any_set a.gave b.channel (slice_get_within a.gave b.channel false may.once))
+      | false ↦ refl
     ]
 
-pub after_one_more : (a : Alignment) (barriers : List Barrier) (b : Barrier) → after_all a (barriers ++ b ∷ []) ≡ alignment_next (after_all a barriers) b
-after_one_more a [] b = refl
-after_one_more a (x ∷ barriers) b = after_one_more (alignment_next a x) barriers b
+-- ---- one event more
 
-pub may_one_more : (a : Alignment) (barriers : List Barrier) (b : Barrier) → MayAllGive a barriers → MayGive (after_all a barriers) b → MayAllGive a (barriers ++ b ∷ [])
-may_one_more a [] b h may = (may, tt)
-may_one_more a (x ∷ barriers) b h may = (h.0, may_one_more (alignment_next a x) barriers b h.1 may)
+pub after_one_more : (a : Alignment) (events : List Event) (event : Event) → after_all a (events ++ event ∷ []) ≡ event_next (after_all a events) event
+after_one_more a [] event = refl
+after_one_more a (first ∷ events) event = after_one_more (event_next a first) events event
 
-pub goes_on : (a : Alignment) (b : Barrier) → MayGive a b → (channels : ℕ) (barriers : List Barrier) → AlignmentStandsFor channels barriers a → AlignmentStandsFor channels (barriers ++ b ∷ []) (alignment_next a b)
-goes_on a b may channels barriers h =
+pub may_one_more : (a : Alignment) (events : List Event) (event : Event) → MayAllHappen a events → MayHappen (after_all a events) event → MayAllHappen a (events ++ event ∷ [])
+may_one_more a [] event h may = (may, tt)
+may_one_more a (first ∷ events) event h may = (h.0, may_one_more (event_next a first) events event h.1 may)
+
+pub goes_on : (a : Alignment) (event : Event) → MayHappen a event → (channels : ℕ) (events : List Event) → AlignmentStandsFor channels events a → AlignmentStandsFor channels (events ++ event ∷ []) (event_next a event)
+goes_on a event may channels events h =
     record {
       some = h.some;
-      may = may_one_more (unaligned channels) barriers b h.may (subst (λ x. MayGive x b) (sym h.is) may);
-      is = after_one_more (unaligned channels) barriers b ∙ ap (λ x. alignment_next x b) h.is;
+      may = may_one_more (unaligned channels) events event h.may (subst (λ x. MayHappen x event) (sym h.is) may);
+      is = after_one_more (unaligned channels) events event ∙ ap (λ x. event_next x event) h.is;
     }

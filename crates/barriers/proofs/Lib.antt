@@ -1,3 +1,7 @@
 mod Aligning
+mod Barriers
 mod Counting
-mod Numbers
+mod Events
+mod Flags
+mod Given
+mod Saves

@@ -19,7 +19,7 @@ use Rattle.subpartition.specs.Theorems as sending
 use Rattle.subpartition.proofs.Telling.{parcels_told}
 use Rattle.input_channel.specs.Inboxes.{pushed}
 use Rattle.input_channel.specs.Theorems as receiving
-use Rattle.subpartition.specs.Barriers.{data_before}
+use Rattle.flow_defs.specs.Barriers.{data_before}
 use Rattle.channel_cut.specs.Cuts.{InLine}
 use Rattle.channel_cut.specs.Ends.{SettledAreEnds, EndsAreCut}
 use Rattle.channel_cut.proofs.Cutting.{cuts_stay, cut_of_channel}

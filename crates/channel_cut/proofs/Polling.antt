@@ -13,7 +13,7 @@ use Rattle.input_channel.specs.declared.entry.ReceiveEntry.TheVariants.{Poll}
 use Rattle.input_channel.specs.Inboxes.{Inbox, inbox, poll_gives, pushed, waiting}
 use Rattle.input_channel.specs.Theorems.{BarriersComeInOrder, ArrivalsAreNumbered}
 use Rattle.input_channel.proofs.InboxLaws.{inbox-more, polled-given}
-use Rattle.subpartition.specs.Barriers.{has_barrier}
+use Rattle.flow_defs.specs.Barriers.{has_barrier}
 use Rattle.channel_cut.specs.Lanes.{PollCuts}
 use Rattle.channel_cut.proofs.Reading.{in_line_cuts}
 

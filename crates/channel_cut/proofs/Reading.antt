@@ -8,8 +8,7 @@ use Rattle.flow_defs.specs.Records.{encoded, all_encoded, spans}
 use Rattle.flow_defs.proofs.ParcelLemmas.{data_of-append}
 use Rattle.plain_machine.proofs.SpanLemmas.{spans-encoded}
 use Rattle.checkpoint_laws.proofs.Lists.{short_both}
-use Rattle.input_channel.specs.Inboxes.{inbox}
-use Rattle.channel_cut.specs.Cuts.{polled_bytes}
+use Rattle.input_channel.specs.Inboxes.{inbox, polled_bytes}
 use Rattle.channel_cut.specs.Lanes.{ReadBegins, PolledIsLeft, LineIsGiven, LinesAreTold, PartsAreRead, InLineCuts}
 
 pub read_begins : ReadBegins

@@ -11,9 +11,9 @@ use Rattle.flow_defs.specs.Records.{encoded, all_encoded, first_record, spans, I
 use Rattle.input_channel.specs.declared.entry.Gave.{Gave}
 use Rattle.input_channel.specs.declared.entry.ReceiveEntry.{ReceiveEntry}
 use Rattle.input_channel.specs.declared.entry.ReceiveEntry.TheVariants.{Poll}
-use Rattle.input_channel.specs.Inboxes.{inbox}
+use Rattle.input_channel.specs.Inboxes.{inbox, polled_bytes}
 use Rattle.input_channel.specs.Legal.{MayReceive}
-use Rattle.channel_cut.specs.Cuts.{polled_bytes, GaveInLine, IsRead, InLine, Shows}
+use Rattle.channel_cut.specs.Cuts.{GaveInLine, IsRead, InLine, Shows}
 
 -- ---- the lines
 

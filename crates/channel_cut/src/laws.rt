@@ -1,5 +1,5 @@
 //! The laws of a channel that barriers cut. Each function does nothing; what it ensures is the law.
-ghost use Rattle.channel_cut.specs.Cuts.{InLineHasAllBefore, CutsStay, CutOfChannel};
+ghost use Rattle.channel_cut.specs.Cuts.{InLineHasAllBefore, CutsStay, CutOfChannel, SavesStay, CutAtSave};
 ghost use Rattle.channel_cut.specs.Lanes.{ReadBegins, PolledIsLeft, LineIsGiven, LinesAreTold, PartsAreRead, InLineCuts, PollCuts};
 ghost use Rattle.channel_cut.specs.Ends.{SettledAreEnds, EndsAreCut};
 ghost use Rattle.channel_cut.specs.Works.{WorkedIsDid};
@@ -11,11 +11,14 @@ use plain_machine::laws::emits_in_parts;
 use subpartition::laws as sending;
 
 /// Where a barrier was polled in line, what was put before it and was in flight before that is what was given; and
-/// a cut that was shown stays.
+/// a cut that was shown stays. Where the channel was saved for a barrier, front or in line, it is what was given
+/// before, then what was saved, and then what the barrier overtook.
 pub fn channels_are_cut()
     ensures before { InLineHasAllBefore }
     ensures stay { CutsStay }
     ensures cut { CutOfChannel }
+    ensures saves_stay { SavesStay }
+    ensures cut_at_save { CutAtSave }
 {}
 
 /// What a gate has given of a channel, as it polls and gives, and how a barrier that it polls cuts the channel.

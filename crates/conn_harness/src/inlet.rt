@@ -1,9 +1,9 @@
 // The gate's end of a channel.
-ghost use Rattle.std.specs.Prelude.{◌≡◌, ◌<◌, [], ◌∷◌, ◌++◌, false, length};
+ghost use Rattle.std.specs.Prelude.{◌≡◌, ◌<◌, [], ◌∷◌, ◌++◌, false, length, None};
 ghost use Rattle.turn_cell.specs.Passes.{IsPassOf, IsTurnOf, HasEntered, opened_with, mine, number, seen};
 ghost use Rattle.input_channel.specs.declared.entry.ReceiveEntry.TheVariants.{Poll, Returned};
 ghost use Rattle.input_channel.specs.Answers.{gave_of};
-ghost use Rattle.input_channel.specs.Legal.{polled_with, returned};
+ghost use Rattle.input_channel.specs.Legal.{open_save, polled_with, returned};
 ghost use Rattle.input_channel.specs.States.{ChannelStandsFor};
 ghost use Rattle.conn_harness.specs.Inlets.{IsEven, HasLength};
 
@@ -47,7 +47,8 @@ fn poll_in_turn<R: Wait>(
     cell: &TurnCell<InputChannel>,
     pass: &mut Pass<InputChannel>,
 ) -> Polled
-    requires { IsPassOf cell.now pass.old × (number pass.old ≡ 0) }
+    requires pass { IsPassOf cell.now pass.old × (number pass.old ≡ 0) }
+    requires closed { open_save (mine pass.old) ≡ None }
     ensures pass { IsPassOf cell.now pass.new × (number pass.new ≡ 0) }
     ensures entered { mine pass.new ≡ mine pass.old ++ Poll false (gave_of result) ∷ [] }
     ensures size { HasLength (opened_with cell.now).size result }
@@ -96,6 +97,7 @@ fn add_in_turn<R: Wait>(
     requires { IsPassOf cell.now pass.old × (number pass.old ≡ 0) }
     ensures pass { IsPassOf cell.now pass.new × (number pass.new ≡ 0) }
     ensures even { IsEven (mine pass.old) → IsEven (mine pass.new) }
+    ensures closed { open_save (mine pass.old) ≡ None → open_save (mine pass.new) ≡ None }
 {
     let mut turn = cell.enter(rt, pass);
     channels_stand_for_histories();
@@ -123,7 +125,7 @@ pub enum Taken {
     End,
 }
 
-/// The gate's end of a channel. Between its turns all buffers that it polled have come back.
+/// The gate's end of a channel. Between its turns all buffers that it polled have come back. It saves nothing.
 #[derive(Drop)]
 pub struct Inlet<'a> {
     cell: &'a TurnCell<InputChannel>,
@@ -131,6 +133,7 @@ pub struct Inlet<'a> {
     ghost of_cell: { IsPassOf cell.now pass },
     ghost of_gate: { number pass ≡ 0 },
     ghost even: { IsEven (mine pass) },
+    ghost closed: { open_save (mine pass) ≡ None },
 }
 
 impl<'a> Inlet<'a> {

@@ -7,7 +7,7 @@ use Rattle.credit_reader.specs.Senders.{is_same}
 use Rattle.flow_defs.specs.declared.task.ChannelId.{ChannelId}
 use Rattle.flow_defs.specs.declared.parcel.Parcel.{Parcel}
 use Rattle.input_channel.specs.declared.entry.ReceiveEntry.{ReceiveEntry}
-use Rattle.input_channel.specs.declared.entry.ReceiveEntry.TheVariants.{Push, Poll, Returned, Added, Backlog, Credit, Shut, Ask, Resume}
+use Rattle.input_channel.specs.declared.entry.ReceiveEntry.TheVariants.{Push, Poll, Returned, Added, Backlog, Credit, Shut, Ask, Resume, Save, Saved}
 use Rattle.input_channel.specs.Inboxes.{pushed}
 use Rattle.net_frames.specs.declared.frame.Frame.TheVariants as frames
 use Rattle.conn_parts.specs.Messages.{Message, parcel_with, items_on}
@@ -26,6 +26,8 @@ pushed-append (Credit n ∷ xs) ys = pushed-append xs ys
 pushed-append (Shut ∷ xs) ys = pushed-append xs ys
 pushed-append (Ask ∷ xs) ys = pushed-append xs ys
 pushed-append (Resume ∷ xs) ys = pushed-append xs ys
+pushed-append (Save k rest ∷ xs) ys = pushed-append xs ys
+pushed-append (Saved k ∷ xs) ys = pushed-append xs ys
 
 pub noted-append : (xs ys : List ReceiveEntry) → noted (xs ++ ys) ≡ noted xs ++ noted ys
 noted-append xs ys = filter-append is_note xs ys
@@ -45,6 +47,8 @@ pushed_noted (Credit n ∷ es) = pushed_noted es
 pushed_noted (Shut ∷ es) = pushed_noted es
 pushed_noted (Ask ∷ es) = pushed_noted es
 pushed_noted (Resume ∷ es) = pushed_noted es
+pushed_noted (Save k rest ∷ es) = pushed_noted es
+pushed_noted (Saved k ∷ es) = pushed_noted es
 
 note_pushed : (c : ChannelId) (m : Message) → pushed (note_of c m) ≡ items_on c (m ∷ [])
 note_pushed c (frames.BufferResponse channel sequence backlog what, content) =

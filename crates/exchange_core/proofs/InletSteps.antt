@@ -1,15 +1,16 @@
 -- What the steps of the receiving end make of a world, where one channel of it is known.
-use Rattle.std.proofs.Common.{◌≡◌, ℕ, ◌+◌, ◌-◌, ◌≤◌, Bool, true, false, cond, eqb, List, [], ◌∷◌, ◌++◌, Option, Some, None, length, set, sym, ap, ◌∙◌, arith}
-use Rattle.std.proofs.lemmas.Bool.{cond-true, cond-false, eq-eqb, false_from_ne_true, eqb-true}
+use Rattle.std.proofs.Common.{◌≡◌, ℕ, ◌+◌, ◌-◌, ◌≤◌, ◌<◌, Bool, true, false, not, cond, eqb, ltb, List, [], ◌∷◌, ◌++◌, Option, Some, None, length, set, sym, ap, ◌∙◌, arith}
+use Rattle.std.proofs.lemmas.Bool.{cond-true, cond-false, eq-eqb, ne_eqb, not_from_true, not_from_false, lt-ltb, le-ltb, false_from_ne_true, eqb-true}
 use Rattle.std.proofs.lemmas.List.{get_or-set_same, length-set, set-get_or, set-set}
 use Rattle.std.proofs.lemmas.List.Sums.{sum_by-set}
+use Rattle.flow_defs.specs.Items.{Items}
 use Rattle.flow_defs.specs.declared.parcel.Parcel.{Parcel}
 use Rattle.flow_defs.specs.declared.parcel.Parcel.TheVariants as parcels
 use Rattle.input_channel.specs.declared.entry.ReceiveEntry.{ReceiveEntry}
 use Rattle.input_channel.specs.declared.entry.ReceiveEntry.TheVariants as entries
 use Rattle.input_channel.specs.declared.entry.Gave.TheVariants as gaves
 use Rattle.input_channel.specs.Counts.{told}
-use Rattle.input_channel.specs.States.{channel_next}
+use Rattle.input_channel.specs.States.{OpenSave, channel_next, saved_bytes}
 use Rattle.local_pool.specs.Shares.{share_of}
 use Rattle.script_text.specs.Scripts.{IsChannel}
 use Rattle.script_text.specs.declared.event.Event.TheVariants as events
@@ -19,7 +20,7 @@ use Rattle.script_text.specs.declared.reply.Reply.{Reply}
 use Rattle.script_text.specs.declared.reply.Reply.TheVariants as replies
 use Rattle.exchange_world.specs.Lanes.{Lane, new_lane, floating_here, records_in, behind_records}
 use Rattle.exchange_world.specs.Worlds.{World, AddCredit, Resumption, lane_of, with_lane, gate_want, pool_wants, gate_limit, gate_lent}
-use Rattle.exchange_world.specs.Steps.{asks, credits, resumes, receives, polls, polls_item, reads, listed}
+use Rattle.exchange_world.specs.Steps.{asks, credits, resumes, receives, polls, polls_item, reads, listed, is_no_save, saving, saves, tells_open, tells_saved}
 use Rattle.exchange_core.specs.Inlets.{with_floats, lent_then, polled_back, polled_inbox, polled_rest, polled_reply}
 
 -- ---- the channels of a world
@@ -135,3 +136,49 @@ asks_received w c l e low high is stays =
 pub polls_sound : (m : ℕ) (w : World) (c : ℕ) (hold : Bool) → StepsKeepSound → IsSound m w → IsChannel m c → IsSound m (polls w c hold).0
 polls_sound m w c true keeps sound channel = keeps m w (events.Hold c) sound channel
 polls_sound m w c false keeps sound channel = keeps m w (events.Poll c) sound channel
+
+-- ---- saves
+
+pub saves_none : (w : World) (c k : ℕ) (l : Lane) → lane_of w c ≡ l → is_no_save l k ≡ true → saves w c k ≡ (w, replies.Refused)
+saves_none w c k l is never = cond-true (is_no_save (lane_of w c) k) _ _ (ap (λ (x : Lane). is_no_save x k) is ∙ never)
+
+pub saves_some : (w : World) (c k : ℕ) (l : Lane) → lane_of w c ≡ l → is_no_save l k ≡ false → saves w c k ≡ (with_lane w c (saving k l), replies.Done)
+saves_some w c k l is may =
+    cond-false (is_no_save (lane_of w c) k) _ _ (ap (λ (x : Lane). is_no_save x k) is ∙ may)
+    ∙ ap (λ (x : Lane). let d : World × Reply = (with_lane w c (saving k x), replies.Done) in d) is
+
+-- what was saved is asked for
+module _ (w : World) (c k : ℕ) (l : Lane) (is : lane_of w c ≡ l) where
+  -- no save is open
+  pub tells_none : l.inbox.save ≡ None → tells_saved w c k ≡ (w, replies.Refused)
+  tells_none none = ap (λ (x : Lane). tells_open w c k x.inbox.save) is ∙ ap (tells_open w c k) none
+
+  module _ (save : OpenSave) (open_is : l.inbox.save ≡ Some save) where
+    abbrev bytes_of : Lane → Items ℕ
+    bytes_of x = record { items = saved_bytes x.inbox save; room = 0 }
+
+    abbrev done : World × Reply
+    done = (receives w c (entries.Saved k), replies.SavedIn c k (bytes_of (lane_of w c)))
+
+    abbrev later : World × Reply
+    later = cond (ltb (lane_of w c).inbox.last k) (w, replies.NotYet c k) done
+
+    opened : tells_saved w c k ≡ tells_open w c k (Some save)
+    opened = ap (λ (x : Lane). tells_open w c k x.inbox.save) is ∙ ap (tells_open w c k) open_is
+
+    this : save.number ≡ k → tells_saved w c k ≡ later
+    this number = opened ∙ cond-false (not (eqb save.number k)) (w, replies.Refused) later (not_from_true (eqb save.number k) (eq-eqb save.number k number))
+
+    -- another one is
+    pub tells_other : (save.number ≡ k → ⊥) → tells_saved w c k ≡ (w, replies.Refused)
+    tells_other other = opened ∙ cond-true (not (eqb save.number k)) (w, replies.Refused) later (not_from_false (eqb save.number k) (ne_eqb save.number k other))
+
+    -- its barrier has not come
+    pub tells_early : save.number ≡ k → l.inbox.last < k → tells_saved w c k ≡ (w, replies.NotYet c k)
+    tells_early number early = this number ∙ cond-true (ltb (lane_of w c).inbox.last k) (w, replies.NotYet c k) done (ap (λ (x : Lane). ltb x.inbox.last k) is ∙ lt-ltb l.inbox.last k early)
+
+    -- it has
+    pub tells_done : save.number ≡ k → k ≤ l.inbox.last → tells_saved w c k ≡ (with_lane w c (record l { inbox = channel_next l.inbox (entries.Saved k) }), replies.SavedIn c k (bytes_of l))
+    tells_done number came =
+        this number ∙ cond-false (ltb (lane_of w c).inbox.last k) (w, replies.NotYet c k) done (ap (λ (x : Lane). ltb x.inbox.last k) is ∙ le-ltb l.inbox.last k came)
+        ∙ ap (λ (x : Lane). let d : World × Reply = (with_lane w c (record x { inbox = channel_next x.inbox (entries.Saved k) }), replies.SavedIn c k (bytes_of x)) in d) is

@@ -6,7 +6,8 @@ use Rattle.std.proofs.lemmas.List.Sums.{sum_by-set, get_or-le-sum_by}
 use Rattle.credit_reader.specs.Senders.{Sender}
 use Rattle.segment_pool.specs.declared.pool.Pool.{Pool}
 use Rattle.segment_pool.specs.Pools.{IsLimited, total_of, size_of}
-use Rattle.input_channel.specs.States.{ChannelState}
+use Rattle.input_channel.specs.Inboxes.{waiting}
+use Rattle.input_channel.specs.States.{ChannelState, starts_waiting}
 use Rattle.local_pool.specs.declared.local.LocalPool.{LocalPool}
 use Rattle.local_pool.specs.Shares.{share_of}
 use Rattle.local_pool.specs.Locals.{IsLocalOf, lent_of}
@@ -24,7 +25,7 @@ use Rattle.exchange_core.specs.declared.lane.Lane.{Lane}
 use Rattle.exchange_core.specs.declared.frames.DataFrame as data_frame
 use Rattle.exchange_core.specs.declared.frames.ControlFrame as control_frame
 use Rattle.exchange_core.specs.Exchanges.{world_lane, world_frame, world_control, world_of, IsLaneOf, IsWhole, HasActed}
-use Rattle.exchange_core.specs.Inlets.{GateFollows, with_inbox}
+use Rattle.exchange_core.specs.Inlets.{GateFollows, with_inbox, with_save}
 use Rattle.exchange_core.proofs.LaneLists.{lanes_set, lane_at, lane_is, lanes_with, whole_lane}
 
 -- ---- lists
@@ -47,6 +48,20 @@ lane_with pool limit lane inbox rest of = record {
   limit_is = of.limit_is;
   lent = of.lent;
   owed = refl;
+}
+
+pub lane_saved : (pool : Pool) (limit : ℕ) (lane : Lane) (k : ℕ) → IsLaneOf pool limit lane → IsLaneOf pool limit (with_save k lane)
+lane_saved pool limit lane k of = record {
+  size = of.size;
+  room = of.room;
+  barriers = of.barriers;
+  finished = of.finished;
+  segments = of.segments;
+  partition = of.partition;
+  need = of.need;
+  limit_is = of.limit_is;
+  lent = of.lent;
+  owed = of.owed;
 }
 
 -- ---- the connection
@@ -195,6 +210,12 @@ kept_as before frames controls i lane d r here fs_are cs_are =
 module _ (b : Connection) (c : ℕ) (old : Lane) (low : 1 ≤ c) (high : c ≤ length b.lanes.items) (is : get_or b.lanes.items (c - 1) old ≡ old) (whole : IsWhole b) where
   pub inbox_size : old.inbox.size ≡ size_of b.pool
   inbox_size = sym (ap (λ (l : lanes.Lane). l.inbox.size) (lane_now b c old low high is)) ∙ (whole.sound.each c low high).inbox.size_is ∙ sym whole.size
+
+  pub inbox_line : (waiting old.inbox.line ≡ old.inbox.queue) × (starts_waiting old.inbox.line ≡ true)
+  inbox_line =
+      let here = lane_now b c old low high is in
+      let sound = (whole.sound.each c low high).inbox in
+      (subst (λ (l : lanes.Lane). waiting l.inbox.line ≡ l.inbox.queue) here sound.line, subst (λ (l : lanes.Lane). starts_waiting l.inbox.line ≡ true) here sound.first)
 
   pub owed_few : old.owed ≤ 1
   owed_few =

@@ -17,7 +17,7 @@ use Rattle.subpartition.specs.declared.item.Filled.{Filled}
 use Rattle.subpartition.specs.declared.item.Item.{Item}
 use Rattle.subpartition.specs.declared.item.Item.TheVariants as items
 use Rattle.subpartition.specs.Queues.{Queue, bytes_of, parcel_of, is_mark, data_in, backlog_of, head_of, with_buffer, with_end, without_first, HasLength}
-use Rattle.subpartition.specs.Barriers.{is_barrier, up_to_last, behind_last}
+use Rattle.flow_defs.specs.Barriers.{is_barrier, up_to_last, behind_last}
 use Rattle.subpartition.proofs.Fronts.{cut_in_two}
 use Rattle.subpartition.proofs.Items.{backlog_with_barrier_in}
 use Rattle.local_pool.specs.declared.local.LocalPool.{LocalPool}

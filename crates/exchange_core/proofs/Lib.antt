@@ -14,5 +14,6 @@ pub mod Readers
 pub mod Reading
 pub mod Readying
 pub mod SameLanes
+pub mod Saves
 pub mod SentItems
 pub mod Shares

@@ -1,10 +1,12 @@
 -- What a poll of a buffer gives, and what it leaves.
-use Rattle.std.proofs.Common.{◌≡◌, ℕ, ◌+◌, ◌++◌, Bool, true, false, not, cond, List, ◌∷◌, drop, Option, Some, None, refl, sym, ap, ◌∙◌, arith}
+use Rattle.std.proofs.lemmas.Bool.{false≢true}
+use Rattle.std.proofs.Common.{◌≡◌, ℕ, ◌+◌, ◌++◌, Bool, true, false, not, cond, List, [], ◌∷◌, drop, Option, Some, None, refl, sym, ap, ◌∙◌, arith}
 use Rattle.std.specs.Prelude.{◌&&◌, count_by, option_to_list}
 use Rattle.input_channel.specs.Legal.{inline_in}
 use Rattle.std.proofs.lemmas.List.Sums.{sum_by-cons}
 use Rattle.flow_defs.specs.declared.parcel.Parcel.{Parcel}
 use Rattle.flow_defs.specs.declared.parcel.Parcel.TheVariants as parcels
+use Rattle.flow_defs.proofs.Lists.{no_cons}
 use Rattle.segment_pool.specs.declared.pool.Pool.{Pool}
 use Rattle.local_pool.specs.declared.local.LocalPool.{LocalPool}
 use Rattle.local_pool.specs.Locals.{lent_of}
@@ -12,8 +14,8 @@ use Rattle.input_channel.specs.declared.entry.ReceiveEntry.TheVariants as entrie
 use Rattle.input_channel.specs.declared.entry.Gave.{Gave}
 use Rattle.input_channel.specs.declared.entry.Gave.TheVariants as gaves
 use Rattle.input_channel.specs.Counts.{gave_by}
-use Rattle.input_channel.specs.Inboxes.{due, is_barrier, poll_gives}
-use Rattle.input_channel.specs.States.{ChannelState, channel_next}
+use Rattle.input_channel.specs.Inboxes.{Arrived, WasPolled, Waits, waiting, due, is_barrier, poll_gives}
+use Rattle.input_channel.specs.States.{ChannelState, starts_waiting, channel_next}
 use Rattle.exchange_world.specs.Lanes.{floating_here, behind_records}
 use Rattle.exchange_world.specs.Steps.{is_exclusive}
 use Rattle.exchange_core.specs.declared.lane.Lane.{Lane}
@@ -96,3 +98,24 @@ follows_again pool one two three had has then first second =
       same = record { need = second.same.need ∙ first.same.need; most = second.same.most ∙ first.same.most; limit = second.same.limit ∙ first.same.limit; number = second.same.number ∙ first.same.number };
       lent = omega (arith, a, b);
     }
+
+-- ---- a poll that gives nothing
+
+-- where nothing waits the line is empty
+pub no_line : (xs : List Arrived) → waiting xs ≡ [] → starts_waiting xs ≡ true → xs ≡ []
+no_line [] none first = refl
+no_line (WasPolled p ∷ xs) none first = absurd (false≢true first)
+no_line (Waits p ∷ xs) none first = absurd (no_cons p (waiting xs) none)
+
+pub none_given : (hold : Bool) → poll_gives hold [] ≡ None
+none_given true = refl
+none_given false = refl
+
+-- the channel stays as it was
+pub lane_kept : (limit lent : ℕ) (hold : Bool) (lane : Lane) (polled : ChannelState) (p : Option Parcel) → polled ≡ lane.inbox → p ≡ None → lane.owed ≡ lane.inbox.owed
+    → record lane { inbox = polled } ≡ with_inbox lane (polled_inbox limit lent hold lane.inbox p) (polled_rest lane.reader p)
+unfolding made
+lane_kept limit lent hold lane polled p same none owed =
+    ap (λ s. made lane s lane.owed lane.reader) same
+    ∙ ap (λ n. made lane lane.inbox n lane.reader) owed
+    ∙ ap (λ q. with_inbox lane (polled_inbox limit lent hold lane.inbox q) (polled_rest lane.reader q)) (sym none)

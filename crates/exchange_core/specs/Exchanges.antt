@@ -43,6 +43,7 @@ world_lane lane = record {
   finished = lane.finished;
   inbox = lane.inbox;
   rest = lane.reader;
+  saves = lane.saves.keys;
 }
 
 -- What a frame brings, and the frame as the world has it.

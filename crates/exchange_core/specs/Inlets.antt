@@ -12,7 +12,7 @@ use Rattle.input_channel.specs.Counts.{wants, gave_by}
 use Rattle.input_channel.specs.States.{ChannelState, channel_next}
 use Rattle.script_text.specs.declared.reply.Reply.{Reply}
 use Rattle.script_text.specs.declared.reply.Reply.TheVariants as replies
-use Rattle.exchange_world.specs.Lanes.{floating_here, records_in, behind_records}
+use Rattle.exchange_world.specs.Lanes.{floating_here, records_in, behind_records, with_number}
 use Rattle.exchange_world.specs.Steps.{after_all, is_exclusive, listed}
 use Rattle.exchange_core.specs.declared.lane.Lane.{Lane}
 
@@ -70,3 +70,7 @@ polled_reply c inbox rest None = if length inbox.queue == 0 then replies.Empty c
 polled_reply c inbox rest (Some (parcels.Data bytes)) = replies.Data c (length bytes) (listed (records_in (rest ++ bytes)))
 polled_reply c inbox rest (Some (parcels.Barrier k kind)) = replies.Barrier c k kind
 polled_reply c inbox rest (Some parcels.End) = replies.End c
+
+-- The channel with a save that was opened for barrier k.
+abbrev pub with_save : ℕ → Lane → Lane
+with_save k lane = record lane { inbox = channel_next lane.inbox (entries.Save k lane.reader); saves = record { keys = with_number k lane.saves.keys } }

@@ -62,6 +62,8 @@ impl Connection {
             Event::Control => Ok(self.obey()),
             Event::Poll { c } => self.poll(rt, alloc, c, false),
             Event::Hold { c } => self.poll(rt, alloc, c, true),
+            Event::Save { c, k } => self.save(alloc, c, k),
+            Event::Saved { c, k } => self.tell_saved(alloc, c, k),
             Event::Pool => Ok(self.count()),
         }
     }

@@ -17,11 +17,12 @@ use record_spans::{NextFault, Reader, write_span};
 use script_text::Reply;
 use segment_pool::Pool;
 use std::alloc::{AllocError, Global};
+use std::collections::BTreeSet;
 use std::sync::Wait;
 use subpartition::{Filled, Item, Subpartition};
 
-/// One channel: what waits to be sent, the pool of its buffers, its receiving end, and the reader of its
-/// records.
+/// One channel: what waits to be sent, the pool of its buffers, its receiving end, the reader of its
+/// records, and the saves that were opened.
 #[derive(Drop)]
 pub struct Lane {
     pub(crate) queue: Subpartition,
@@ -33,6 +34,8 @@ pub struct Lane {
     // The inline barriers that were polled and not resumed.
     pub(crate) owed: u64,
     pub(crate) reader: Reader,
+    // The numbers of the barriers for which saves were opened. An input channel doesn't tell them.
+    pub(crate) saves: BTreeSet<u64>,
 }
 
 // Puts one buffer of a record, filled from its byte `done` on, and answers how many bytes went in.

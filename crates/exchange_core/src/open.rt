@@ -24,7 +24,7 @@ use local_pool::{LocalFault, LocalPool, Want, share};
 use record_spans::Reader;
 use segment_pool::{Pool, PoolPass};
 use std::alloc::{AllocError, Global};
-use std::collections::VecDeque;
+use std::collections::{BTreeSet, VecDeque};
 use std::sync::Wait;
 use subpartition::Subpartition;
 
@@ -157,6 +157,7 @@ fn open_lane<R: Wait>(
         inbox,
         owed: 0,
         reader: Reader::new(alloc),
+        saves: BTreeSet::new(alloc),
     })
 }
 

@@ -5,13 +5,13 @@ ghost use Rattle.local_pool.specs.Locals.{IsLocalOf, lent_of, limit_of};
 ghost use Rattle.input_channel.specs.declared.entry.ReceiveEntry.TheVariants as entries;
 ghost use Rattle.input_channel.specs.Answers.{parcel_in, refused};
 ghost use Rattle.input_channel.specs.Contents.{content};
-ghost use Rattle.input_channel.specs.Inboxes.{poll_gives};
-ghost use Rattle.input_channel.specs.States.{channel_next, exclusive_here};
+ghost use Rattle.input_channel.specs.Inboxes.{poll_gives, waiting};
+ghost use Rattle.input_channel.specs.States.{channel_next, exclusive_here, starts_waiting, AllowsSave};
 ghost use Rattle.script_text.specs.Scripts.{IsChannel};
 ghost use Rattle.exchange_world.specs.Lanes.{floating_here, records_in, behind_records};
-ghost use Rattle.exchange_world.specs.Steps.{bare, delivers, credits, resumes, polls};
-ghost use Rattle.exchange_core.specs.Exchanges.{IsWhole, world_of, HasActed};
-ghost use Rattle.exchange_core.specs.Inlets.{GateFollows, with_floats, with_inbox, floating_out, lent_then, polled_inbox, polled_rest, polled_reply};
+ghost use Rattle.exchange_world.specs.Steps.{bare, delivers, credits, resumes, polls, is_no_save, saves, tells_saved};
+ghost use Rattle.exchange_core.specs.Exchanges.{IsWhole, world_lane, world_of, HasActed};
+ghost use Rattle.exchange_core.specs.Inlets.{GateFollows, with_floats, with_inbox, with_save, floating_out, lent_then, polled_inbox, polled_rest, polled_reply};
 
 use crate::connection::Connection;
 use crate::frames::{ControlFrame, DataFrame};
@@ -104,6 +104,7 @@ fn poll_lane<R: Wait>(
     requires size { lane.old.inbox.size ≡ size_of pool.now }
     requires owed { lane.old.owed ≡ lane.old.inbox.owed }
     requires few { lane.old.owed < 2 ^ 32 }
+    requires line { (waiting lane.old.inbox.line ≡ lane.old.inbox.queue) × (starts_waiting lane.old.inbox.line ≡ true) }
     requires lent { floating_here lane.old.inbox ≤ lent_of gate.old }
     ensures gate { IfOk result (λ _. GateFollows pool.now gate.old gate.new (floating_here lane.old.inbox) (floating_here lane.new.inbox)) }
     ensures lane { IfOk result (λ _. lane.new ≡ with_inbox lane.old (polled_inbox (limit_of gate.old) (lent_of gate.old) hold lane.old.inbox (poll_gives hold lane.old.inbox.queue)) (polled_rest lane.old.reader (poll_gives hold lane.old.inbox.queue))) }
@@ -127,6 +128,26 @@ fn poll_lane<R: Wait>(
             Ok(Reply::Data { c, len, records })
         }
     }
+}
+
+// Whether a save may not be opened for barrier k.
+fn is_no_save(lane: &Lane, k: u64) -> bool
+    requires number { 1 ≤ k }
+    ensures { result ≡ is_no_save (world_lane lane.now) k }
+{
+    let inbox = &lane.inbox;
+    let is_early = k - 1 > inbox.polled_barriers();
+    let is_late = k <= inbox.reached();
+    inbox.is_saving() || lane.saves.contains(&k) || is_early || is_late
+}
+
+// A save is opened for barrier k, with what the reader has of a record that isn't whole.
+fn save_lane(alloc: Global, lane: &mut Lane, k: u64) -> Result<(), AllocError>
+    requires may { AllowsSave lane.old.inbox k }
+    ensures { OnOk result (lane.new ≡ with_save k lane.old) }
+{
+    lane.saves.insert(k)?;
+    lane.inbox.save(alloc, k, lane.reader.rest())
 }
 
 impl Connection {
@@ -220,5 +241,39 @@ impl Connection {
         connections_stay_sound();
         let lane = &mut self.lanes.as_mut_slice()[c as usize - 1];
         poll_lane(rt, alloc, &self.pool, &mut self.gate, lane, c, hold)
+    }
+
+    // A save is opened for a barrier, where it may be.
+    pub(crate) fn save(&mut self, alloc: Global, c: u32, k: u64) -> Result<Reply, AllocError>
+        requires whole { IsWhole self.old }
+        requires channel { IsChannel (length self.old.lanes.items) c }
+        requires number { 1 ≤ k }
+        ensures { IfOk result (λ reply. HasActed self.old self.new reply (saves (world_of self.old) c k)) }
+    {
+        connections_stay_sound();
+        let lane = &mut self.lanes.as_mut_slice()[c as usize - 1];
+        if is_no_save(lane, k) {
+            return Ok(Reply::Refused);
+        }
+        save_lane(alloc, lane, k)?;
+        Ok(Reply::Done)
+    }
+
+    // What was saved for a barrier is told, once that has arrived.
+    pub(crate) fn tell_saved(&mut self, alloc: Global, c: u32, k: u64) -> Result<Reply, AllocError>
+        requires whole { IsWhole self.old }
+        requires channel { IsChannel (length self.old.lanes.items) c }
+        requires number { 1 ≤ k }
+        ensures { IfOk result (λ reply. HasActed self.old self.new reply (tells_saved (world_of self.old) c k)) }
+    {
+        connections_stay_sound();
+        let lane = &mut self.lanes.as_mut_slice()[c as usize - 1];
+        if lane.inbox.open_number() != Some(k) {
+            return Ok(Reply::Refused);
+        }
+        match lane.inbox.saved(alloc, k)? {
+            Some(bytes) => Ok(Reply::SavedIn { c, k, bytes }),
+            None => Ok(Reply::NotYet { c, k }),
+        }
     }
 }

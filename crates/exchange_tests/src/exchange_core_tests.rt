@@ -69,6 +69,52 @@ static CASES: &[(&str, &str)] = &[
         "open 1 64 40\nbarrier 1 2 front\nbarrier 1 1 front\nbarrier 1 1 front\nbarrier 1 3 front\nfinish 1\nbarrier 1 2 front\n",
         "refused\nsaved_out 1 1 -\nrefused\nrefused\nok\nrefused\n",
     ),
+    // A record is cut by a front barrier: what was read of it is saved with what came, and what was overtaken
+    // is the rest of it.
+    (
+        "open 1 64 40\nfill 1 100\nsend\ndeliver\npoll 1\nbarrier 1 1 front\nsave 1 1\nsend\ndeliver\nsaved 1 1\nsend\ndeliver\npoll 1\npoll 1\n",
+        "queued 1 2\nframe 1 0 data 64 1\naccepted 1 0\ndata 1 64 0\nsaved_out 1 1 61616161616161616161616161616161616161616161616161616161616161616161616161616161\nok\nframe 1 1 front 8 1\naccepted 1 1\nsaved_in 1 1 00000064616161616161616161616161616161616161616161616161616161616161616161616161616161616161616161616161616161616161616161616161\nframe 1 2 data 40 0\naccepted 1 2\nbarrier 1 1 front\ndata 1 40 1\nrecord 1 aaaaaaaaaaaaaaaaaaaaaaaaaaaaaaaaaaaaaaaaaaaaaaaaaaaaaaaaaaaaaaaaaaaaaaaaaaaaaaaaaaaaaaaaaaaaaaaaaaaa\n",
+    ),
+    // A save that is opened before its barrier comes has what arrives until then.
+    (
+        "open 2 64 40\nsave 2 1\nemit 2 p\nemit 2 q\nsend\nsend\ndeliver\ndeliver\nsaved 2 1\nbarrier 2 1 front\nsend\ndeliver\ncredit 2\ncontrol\nemit 2 r\nsend\ndeliver\nsaved 2 1\n",
+        "ok\nqueued 2 1\nqueued 2 2\nframe 2 0 data 5 1\nframe 2 1 data 5 0\naccepted 2 0\naccepted 2 1\nnot yet 2 1\nsaved_out 2 1 -\nframe 2 2 front 8 0\naccepted 2 2\ncredit 2 2\ngranted 2 2\nqueued 2 1\nframe 2 3 data 5 0\naccepted 2 3\nsaved_in 2 1 00000001700000000171\n",
+    ),
+    // One that is opened behind it has what waits, polled or not when it is closed. It is closed once.
+    (
+        "open 1 64 40\nemit 1 a\nemit 1 b\nsend\nsend\nbarrier 1 1 front\nsend\ndeliver\ndeliver\ndeliver\nsave 1 1\npoll 1\npoll 1\nsaved 1 1\nsaved 1 1\npoll 1\n",
+        "queued 1 1\nqueued 1 2\nframe 1 0 data 5 1\nframe 1 1 data 5 0\nsaved_out 1 1 -\nframe 1 2 front 8 0\naccepted 1 0\naccepted 1 1\naccepted 1 2\nok\nbarrier 1 1 front\ndata 1 5 1\nrecord 1 a\nsaved_in 1 1 00000001610000000162\nrefused\ndata 1 5 1\nrecord 1 b\n",
+    ),
+    // It has nothing of what came behind its barrier.
+    (
+        "open 1 64 40\nemit 1 w\nsend\nbarrier 1 1 front\nemit 1 x\nsend\nsend\ndeliver\ndeliver\ndeliver\nsave 1 1\npoll 1\npoll 1\npoll 1\nsaved 1 1\n",
+        "queued 1 1\nframe 1 0 data 5 0\nsaved_out 1 1 -\nqueued 1 1\nframe 1 1 front 8 1\nframe 1 2 data 5 0\naccepted 1 0\naccepted 1 1\naccepted 1 2\nok\nbarrier 1 1 front\ndata 1 5 1\nrecord 1 w\ndata 1 5 1\nrecord 1 x\nsaved_in 1 1 0000000177\n",
+    ),
+    // Of a channel on which nothing came nothing is saved.
+    (
+        "open 1 64 40\nsave 1 1\nsaved 1 1\nbarrier 1 1 front\nsend\ndeliver\nsaved 1 1\n",
+        "ok\nnot yet 1 1\nsaved_out 1 1 -\nframe 1 0 front 8 0\naccepted 1 0\nsaved_in 1 1 -\n",
+    ),
+    // One save is open at a time, one is opened for each barrier, and no sooner than the barrier before it is polled.
+    (
+        "open 1 64 40\nsaved 1 1\nsave 1 2\nsave 1 1\nsave 1 1\nsave 1 2\nsaved 1 2\nbarrier 1 1 front\nsend\ndeliver\npoll 1\nsave 1 2\nsaved 1 1\nsave 1 1\nsave 1 3\nsave 1 2\nsaved 1 2\n",
+        "refused\nrefused\nok\nrefused\nrefused\nrefused\nsaved_out 1 1 -\nframe 1 0 front 8 0\naccepted 1 0\nbarrier 1 1 front\nrefused\nsaved_in 1 1 -\nrefused\nrefused\nok\nnot yet 1 2\n",
+    ),
+    // None is opened once data behind the barrier were polled.
+    (
+        "open 1 64 40\nbarrier 1 1 front\nemit 1 x\nsend\nsend\ndeliver\ndeliver\npoll 1\npoll 1\nsave 1 1\nsave 1 2\n",
+        "saved_out 1 1 -\nqueued 1 1\nframe 1 0 front 8 1\nframe 1 1 data 5 0\naccepted 1 0\naccepted 1 1\nbarrier 1 1 front\ndata 1 5 1\nrecord 1 x\nrefused\nok\n",
+    ),
+    // Two front barriers in a row save the same data.
+    (
+        "open 1 64 40\nemit 1 x\nsend\nbarrier 1 1 front\nbarrier 1 2 front\nemit 1 y\nsend\nsend\nsend\ndeliver\ndeliver\ndeliver\ndeliver\nsave 1 1\npoll 1\nsaved 1 1\nsave 1 2\npoll 1\npoll 1\nsaved 1 2\npoll 1\n",
+        "queued 1 1\nframe 1 0 data 5 0\nsaved_out 1 1 -\nsaved_out 1 2 -\nqueued 1 1\nframe 1 1 front 8 1\nframe 1 2 front 8 1\nframe 1 3 data 5 0\naccepted 1 0\naccepted 1 1\naccepted 1 2\naccepted 1 3\nok\nbarrier 1 1 front\nsaved_in 1 1 0000000178\nok\nbarrier 1 2 front\ndata 1 5 1\nrecord 1 x\nsaved_in 1 2 0000000178\ndata 1 5 1\nrecord 1 y\n",
+    ),
+    // A front barrier behind an inline one: what the first saves came in line, and the second overtook the rest.
+    (
+        "open 1 64 40\nemit 1 x\nbarrier 1 1 inline\nemit 1 y\nbarrier 1 2 front\nsend\nsend\ndeliver\ndeliver\nsave 1 1\npoll 1\npoll 1\nsaved 1 1\nsave 1 2\nresume 1\ncontrol\nsend\nsend\ndeliver\ndeliver\nsaved 1 2\n",
+        "queued 1 1\nok\nqueued 1 2\nsaved_out 1 2 0000000179\nframe 1 0 data 5 1\nframe 1 1 inline 8 1\naccepted 1 0\naccepted 1 1\nok\ndata 1 5 1\nrecord 1 x\nbarrier 1 1 inline\nsaved_in 1 1 0000000178\nok\nok\nresumed 1\nframe 1 2 front 8 1\nframe 1 3 data 5 0\naccepted 1 2\naccepted 1 3\nsaved_in 1 2 -\n",
+    ),
     // A record of eleven buffers is not put in part, and behind ten there is no segment for one more.
     (
         "open 1 64 40\nfill 1 700\nfill 1 600\npool\nfill 1 0\n",

@@ -27,6 +27,9 @@ enum Step {
     Adds,
     Tells(u32),
     Resumes(bool),
+    // A save is opened for a barrier, with this rest; and what was saved is asked for.
+    Saves(u64, &'static [u8]),
+    Saved(u64, Option<&'static [u8]>),
 }
 
 // What a poll gave. Of a buffer: how many bytes, and whether a segment goes to the pool.
@@ -177,6 +180,31 @@ static BARRIERS: [Step; 11] = [
     Step::Tells(1),
 ];
 
+// A save has the rest, and the data before its barrier: those that wait, and those that were polled since.
+static SAVES: [Step; 12] = [
+    Step::Arrives(0, 0, BUFFER, 3, Ok(())),
+    Step::Saves(1, b"rest"),
+    Step::Saved(1, None),
+    Step::Polls {
+        hold: false,
+        seen: Seen::Data(3, false),
+    },
+    Step::Arrives(1, 0, BUFFER, 2, Ok(())),
+    Step::Arrives(2, 0, INLINE, 0, Ok(())),
+    Step::Saved(1, Some(b"rest\x07\x07\x07\x07\x07")),
+    Step::Polls {
+        hold: true,
+        seen: Seen::Data(2, false),
+    },
+    Step::Polls {
+        hold: false,
+        seen: Seen::Barrier(1),
+    },
+    Step::Saves(2, b""),
+    Step::Arrives(3, 0, FRONT, 0, Ok(())),
+    Step::Saved(2, Some(b"")),
+];
+
 #[test]
 fn refusals_come_in_their_order(rt: HostRuntime) -> Result<(), Fail> {
     run(&rt, rt.alloc(), &REFUSALS)?;
@@ -193,6 +221,12 @@ fn credit_follows_the_backlog(rt: HostRuntime) -> Result<(), Fail> {
 #[test]
 fn a_front_barrier_comes_first(rt: HostRuntime) -> Result<(), Fail> {
     run(&rt, rt.alloc(), &BARRIERS)?;
+    Ok(())
+}
+
+#[test]
+fn a_save_has_what_came_before_its_barrier(rt: HostRuntime) -> Result<(), Fail> {
+    run(&rt, rt.alloc(), &SAVES)?;
     Ok(())
 }
 
@@ -213,7 +247,7 @@ fn run<R: Wait + Abort>(rt: &R, alloc: Global, steps: &[Step]) -> Result<(), All
     );
     goes_to_threads(&channel);
     for step in steps {
-        take_step(rt, &mut channel, step, &mut spare);
+        take_step(rt, alloc, &mut channel, step, &mut spare);
     }
     let mut rest = channel.into_segments();
     for _ in 0..5 {
@@ -236,6 +270,7 @@ fn goes_to_threads<T: Send>(_: &T) {}
 // Takes a step, and sees that the channel answers what it says.
 fn take_step<R: Abort>(
     rt: &R,
+    alloc: Global,
     channel: &mut InputChannel,
     step: &Step,
     spare: &mut ListOf<Segment>,
@@ -262,6 +297,8 @@ fn take_step<R: Abort>(
         Step::Adds => add(rt, channel, spare),
         Step::Tells(credit) => assert_eq!(rt; channel.take_credit(), *credit),
         Step::Resumes(taken) => assert_eq!(rt; channel.take_resume(), *taken),
+        Step::Saves(k, rest) => save(rt, alloc, channel, *k, rest),
+        Step::Saved(k, want) => saved(rt, alloc, channel, *k, *want),
     }
 }
 
@@ -331,7 +368,25 @@ fn poll<R: Abort>(
         Ok(Polled::End) => Seen::End,
         Ok(Polled::Empty) => Seen::Empty,
         Ok(Polled::Held) => Seen::Held,
-        Err(_) => panic!(rt; "a poll asked for memory"),
+        Err(_) => panic!(rt; "no memory for a poll"),
+    }
+}
+
+// Opens a save, which may be opened.
+fn save<R: Abort>(rt: &R, alloc: Global, channel: &mut InputChannel, k: u64, rest: &[u8]) {
+    assert!(rt;
+        !channel.is_saving() && k > 0 && k - 1 <= channel.polled_barriers() && channel.reached() < k
+    );
+    assert!(rt; channel.save(alloc, k, rest).is_ok());
+}
+
+// Asks for what an open save has, once its barrier has come.
+fn saved<R: Abort>(rt: &R, alloc: Global, channel: &mut InputChannel, k: u64, want: Option<&[u8]>) {
+    assert!(rt; channel.open_number() == Some(k));
+    match (channel.saved(alloc, k), want) {
+        (Ok(Some(bytes)), Some(want)) => assert_eq!(rt; bytes.as_slice(), want),
+        (Ok(None), None) => {}
+        _ => panic!(rt; "what was saved is something else"),
     }
 }
 

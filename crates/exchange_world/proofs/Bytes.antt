@@ -136,9 +136,10 @@ spans_front (suc most) bytes others (x ∷ ys) short same = elim (cases_lt (leng
     read_by : Option (List ℕ × List ℕ) → List (List ℕ)
     read_by o = option_map_or (λ found. found.0 ∷ spans_within most found.1) o []
 
--- The records of the bytes are so, and what is behind them.
+-- The records of the bytes are so, and what is behind them; the bytes are both.
 pub record AreRead (bytes others : List ℕ) (xs : List (List ℕ)) : Type 0 where
   pub later : List (List ℕ)
+  pub bytes_are : bytes ≡ all_encoded (records_in bytes) ++ behind_records bytes
   pub records_are : xs ≡ records_in bytes ++ later
   pub behind_are : behind_records bytes ++ others ≡ all_encoded later
 
@@ -148,4 +149,4 @@ are_read bytes others xs short same =
     let front = spans_front (length bytes) bytes others xs short same in
     let encoding = all_encoded (records_in bytes) in
     let behind : behind_records bytes ≡ front.behind = ap (drop (length encoding)) front.bytes_are ∙ drop_at encoding front.behind (length encoding) refl in
-    record { later = front.later; records_are = front.records_are; behind_are = ap (λ b. b ++ others) behind ∙ front.behind_are }
+    record { later = front.later; bytes_are = front.bytes_are ∙ ap (λ b. encoding ++ b) (sym behind); records_are = front.records_are; behind_are = ap (λ b. b ++ others) behind ∙ front.behind_are }

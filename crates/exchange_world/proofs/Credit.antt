@@ -11,7 +11,7 @@ use Rattle.exchange_world.specs.Sound.{IsSound, credit_coming}
 use Rattle.exchange_world.proofs.OpenedLemmas.{opened_is_sound}
 use Rattle.exchange_world.proofs.Keeping.{steps_keep_sound}
 use Rattle.exchange_world.proofs.Order.{opened_lane}
-use Rattle.exchange_world.proofs.CreditMoves.{credit_in, credit_of, IsPaid, emits_paid, barrier_paid, finish_paid, announce_paid, deliver_paid, credit_paid, resume_paid, polls_paid, pool_paid, control_paid, send_paid}
+use Rattle.exchange_world.proofs.CreditMoves.{credit_in, credit_of, IsPaid, emits_paid, barrier_paid, finish_paid, announce_paid, deliver_paid, credit_paid, resume_paid, polls_paid, save_paid, saved_paid, pool_paid, control_paid, send_paid}
 
 module _ (m c : ℕ) (low : 1 ≤ c) (high : c ≤ m) where
   step_paid : (w : World) (e : Event) → IsSound m w → IsPaid c w (step w e)
@@ -27,6 +27,8 @@ module _ (m c : ℕ) (low : 1 ≤ c) (high : c ≤ m) where
   step_paid w events.Control sound = control_paid m w sound c low high
   step_paid w (events.Poll d) sound = polls_paid w c d false
   step_paid w (events.Hold d) sound = polls_paid w c d true
+  step_paid w (events.Save d k) sound = save_paid w c d k
+  step_paid w (events.Saved d k) sound = saved_paid w c d k
   step_paid w events.Pool sound = pool_paid w c
 
   -- The counts of the world's lists begin with the credit of the request, which the sender has already.

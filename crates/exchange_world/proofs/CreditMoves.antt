@@ -5,6 +5,7 @@ use Rattle.std.specs.Prelude.{◌||◌, ◌&&◌}
 use Rattle.std.specs.Option.{option_map, option_map_or}
 use Rattle.std.proofs.lemmas.Bool.{cond_both}
 use Rattle.std.proofs.lemmas.Option.{same_Some}
+use Rattle.flow_defs.specs.Items.{Items}
 use Rattle.flow_defs.specs.declared.task.BarrierKind.{BarrierKind}
 use Rattle.flow_defs.specs.declared.task.BarrierKind.TheVariants.{Inline, Front}
 use Rattle.flow_defs.specs.declared.task.ChannelId.{ChannelId}
@@ -17,13 +18,14 @@ use Rattle.credit_reader.specs.Answers.{due_first}
 use Rattle.credit_reader.proofs.Channels.{reader_after}
 use Rattle.input_channel.specs.Inboxes.{poll_gives}
 use Rattle.input_channel.specs.Counts.{told}
+use Rattle.input_channel.specs.States.{OpenSave, saved_bytes}
 use Rattle.input_channel.specs.declared.entry.ReceiveEntry.TheVariants as entries
 use Rattle.script_text.specs.declared.event.Event.TheVariants as events
 use Rattle.script_text.specs.declared.reply.Reply.{Reply}
 use Rattle.script_text.specs.declared.reply.Reply.TheVariants as replies
 use Rattle.exchange_world.specs.Lanes.{Lane, ITEMS_MAX, channel_id, backlog_in, head_in}
-use Rattle.exchange_world.specs.Worlds.{World, DataFrame, Response, Announcement, ControlFrame, AddCredit, Resumption, lane_of, partition_limit, partition_lent}
-use Rattle.exchange_world.specs.Steps.{step, buffers_of, with_items, puts, emits, barred, bar_reply, number_of, sent_kind, sends_first, sends_of, announces, obeys, receives, delivers, polls_item, polls}
+use Rattle.exchange_world.specs.Worlds.{World, DataFrame, Response, Announcement, ControlFrame, AddCredit, Resumption, lane_of, with_lane, partition_limit, partition_lent}
+use Rattle.exchange_world.specs.Steps.{step, buffers_of, with_items, puts, emits, barred, bar_reply, number_of, sent_kind, sends_first, sends_of, announces, obeys, receives, delivers, polls_item, polls, is_no_save, saving, tells_open}
 use Rattle.exchange_world.specs.Theorems.{is_buffer, sent_in, granted_in, announced_in}
 use Rattle.exchange_world.specs.Sound.{IsSound, ControlsAreOfChannels, credit_coming}
 use Rattle.exchange_world.proofs.LaneLemmas.{other_channel, reader_here, reader_there}
@@ -160,6 +162,26 @@ module _ (w : World) (c : ℕ) where
 
   pub polls_paid : (d : ℕ) (hold : Bool) → IsPaid c w (polls w d hold)
   polls_paid d hold = polls_paid_item d hold (poll_gives hold (lane_of w d).inbox.queue)
+
+  pub save_paid : (d k : ℕ) → IsPaid c w (step w (events.Save d k))
+  save_paid d k =
+      let v = with_lane w d (saving k (lane_of w d)) in
+      cond_both (is_no_save (lane_of w d) k) (w, replies.Refused) (v, replies.Done) (IsPaid c w) (λ none. stays replies.Refused refl) (λ may. nothing_paid c w v replies.Done refl refl refl)
+
+  tells_paid : (d k : ℕ) (save : Option OpenSave) → IsPaid c w (tells_open w d k save)
+  tells_paid d k None = stays replies.Refused refl
+  tells_paid d k (Some save) =
+      let inbox = (lane_of w d).inbox in
+      let v = receives w d (entries.Saved k) in
+      let bytes : Items ℕ = record { items = saved_bytes inbox save; room = 0 } in
+      let done : World × Reply = (v, replies.SavedIn d k bytes) in
+      let later : World × Reply = cond (ltb inbox.last k) (w, replies.NotYet d k) done in
+      cond_both (not (eqb save.number k)) (w, replies.Refused) later (IsPaid c w) (λ other. stays replies.Refused refl) (λ this.
+      cond_both (ltb inbox.last k) (w, replies.NotYet d k) done (IsPaid c w) (λ early. stays (replies.NotYet d k) refl) (λ came.
+      nothing_paid c w v (replies.SavedIn d k bytes) refl refl refl))
+
+  pub saved_paid : (d k : ℕ) → IsPaid c w (step w (events.Saved d k))
+  saved_paid d k = tells_paid d k (lane_of w d).inbox.save
 
   pub pool_paid : IsPaid c w (step w events.Pool)
   pool_paid = nothing_paid c w w (step w events.Pool).1 refl refl refl

@@ -8,6 +8,7 @@ pub mod PuttingLemmas
 pub mod SendingLemmas
 pub mod SendingKeeps
 pub mod Counting
+pub mod Lines
 pub mod ReceivingInbox
 pub mod ReceivingPolls
 pub mod ReceivingLanes
@@ -23,6 +24,11 @@ pub mod OrderMoves
 pub mod OrderSending
 pub mod OrderReceiving
 pub mod Order
+pub mod Saving
 pub mod CreditMoves
 pub mod Credit
 pub mod Turns
+pub mod Ends
+pub mod EndsSending
+pub mod EndsReceiving
+pub mod Cutting

@@ -17,7 +17,7 @@ use Rattle.exchange_world.proofs.Keeping.{steps_keep_sound}
 use Rattle.exchange_world.proofs.Bytes.{encoded-append, short-append, short_later}
 use Rattle.exchange_world.proofs.OrderMoves.{waits, waits_of, Moves, quiet, moves_none}
 use Rattle.exchange_world.proofs.OrderSending.{emits_moves, barrier_moves, finish_moves, send_moves, announce_moves, control_moves}
-use Rattle.exchange_world.proofs.OrderReceiving.{deliver_moves, credit_moves, resume_moves, polls_moves}
+use Rattle.exchange_world.proofs.OrderReceiving.{deliver_moves, credit_moves, resume_moves, polls_moves, save_moves, saved_moves}
 
 -- ---- one event
 
@@ -35,6 +35,8 @@ step_moves m w c (events.Resume d) sound is low high some = resume_moves w c low
 step_moves m w c events.Control sound is low high some = control_moves w c
 step_moves m w c (events.Poll d) sound is low high some = polls_moves w c low high d is.0 false
 step_moves m w c (events.Hold d) sound is low high some = polls_moves w c low high d is.0 true
+step_moves m w c (events.Save d k) sound is low high some = save_moves w c low high d is.0.0 k
+step_moves m w c (events.Saved d k) sound is low high some = saved_moves w c low high d is.0.0 k
 step_moves m w c events.Pool sound is low high some = moves_none c w w (quiet c w)
 
 -- ---- all events
@@ -45,12 +47,12 @@ joined before put out now more outs last first later =
     sym (append_assoc before put more) ∙ ap (λ xs. xs ++ more) first ∙ append_assoc out now more ∙ ap (λ xs. out ++ xs) later ∙ sym (append_assoc out outs last)
 
 -- with the rest in front
-with_rest : (rest before put out now all : List ℕ) → before ++ put ≡ out ++ now → rest ++ before ≡ all → (rest ++ out) ++ now ≡ all ++ put
+pub with_rest : (rest before put out now all : List ℕ) → before ++ put ≡ out ++ now → rest ++ before ≡ all → (rest ++ out) ++ now ≡ all ++ put
 with_rest rest before put out now all moves same =
     append_assoc rest out now ∙ ap (λ bs. rest ++ bs) (sym moves) ∙ sym (append_assoc rest before put) ∙ ap (λ bs. bs ++ put) same
 
 module _ (m c : ℕ) (low : 1 ≤ c) (high : c ≤ m) where
-  moves_at : (w : World) (e : Event) → IsSound m w → IsEvent m e → Moves c w (step w e).0 (emitted_by c w e) (bytes_polled_by c w e) (polled_in c (step w e).1)
+  pub moves_at : (w : World) (e : Event) → IsSound m w → IsEvent m e → Moves c w (step w e).0 (emitted_by c w e) (bytes_polled_by c w e) (polled_in c (step w e).1)
   moves_at w e sound is =
       let number = sound.lanes in
       let least = sound.opening.opening.low in

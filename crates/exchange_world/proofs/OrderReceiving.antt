@@ -1,5 +1,5 @@
 -- What the events of the receiving end and of the receiving task do to the bytes of a channel.
-use Rattle.std.proofs.Common.{◌≡◌, ℕ, ◌≤◌, eqb, true, false, cond, Bool, List, [], ◌∷◌, ◌++◌, length, map, Option, Some, None, refl, sym, ap, subst, ◌∙◌, append_assoc, append-nil, arith}
+use Rattle.std.proofs.Common.{◌≡◌, ℕ, ◌≤◌, eqb, ltb, true, false, not, cond, Bool, List, [], ◌∷◌, ◌++◌, length, map, Option, Some, None, refl, sym, ap, subst, ◌∙◌, append_assoc, append-nil, arith}
 use Rattle.std.proofs.lemmas.Bool.{cond_both}
 use Rattle.flow_defs.proofs.ParcelLemmas.{data_of-append}
 use Rattle.flow_defs.specs.Items.{Items}
@@ -12,13 +12,13 @@ use Rattle.input_channel.specs.declared.entry.ReceiveEntry.{ReceiveEntry}
 use Rattle.input_channel.specs.declared.entry.ReceiveEntry.TheVariants as entries
 use Rattle.input_channel.specs.Inboxes.{poll_gives, poll_leaves}
 use Rattle.input_channel.specs.Counts.{told, gave_by}
-use Rattle.input_channel.specs.States.{ChannelState, channel_next}
+use Rattle.input_channel.specs.States.{ChannelState, OpenSave, channel_next, saved_bytes}
 use Rattle.script_text.specs.declared.event.Event.TheVariants as events
 use Rattle.script_text.specs.declared.reply.Reply.{Reply}
 use Rattle.script_text.specs.declared.reply.Reply.TheVariants as replies
 use Rattle.exchange_world.specs.Lanes.{Lane, records_in, behind_records}
 use Rattle.exchange_world.specs.Worlds.{World, DataFrame, Response, Announcement, AddCredit, Resumption, lane_of, with_lane}
-use Rattle.exchange_world.specs.Steps.{step, receives, delivers, listed, is_exclusive, reads, polls, polls_item}
+use Rattle.exchange_world.specs.Steps.{step, receives, delivers, listed, is_exclusive, reads, polls, polls_item, is_no_save, saving, tells_open}
 use Rattle.exchange_world.specs.Theorems.{polled_in, bytes_in}
 use Rattle.exchange_world.specs.Sound.{AreOfChannels, responses, coming}
 use Rattle.exchange_world.proofs.LaneLemmas.{lane_put, lane_stays, lanes_stay}
@@ -27,7 +27,7 @@ use Rattle.exchange_world.proofs.ReceivingPolls.{takes}
 use Rattle.exchange_world.proofs.OrderMoves.{Reads, reads_records, waits, waits_of, Moves, MovesNone, IsQuiet, quiet, quiet_twice, quiet_there, moves_none, moves_then, by_channel, lane_quiet, asks_quiet}
 
 -- the records of a reply are those that it lists
-listed_records : (rs : List (List ℕ)) → map (λ (r : Items ℕ). r.items) (listed rs).items ≡ rs
+pub listed_records : (rs : List (List ℕ)) → map (λ (r : Items ℕ). r.items) (listed rs).items ≡ rs
 listed_records [] = refl
 listed_records (r ∷ rs) = ap (λ xs. r ∷ xs) (listed_records rs)
 
@@ -167,3 +167,27 @@ module _ (w : World) (c : ℕ) (low : 1 ≤ c) (high : c ≤ length w.lanes) (d 
 
   pub polls_moves : (hold : Bool) → MovesPolled (bytes_in (poll_gives hold (lane_of w d).inbox.queue)) (polls w d hold)
   polls_moves hold = polls_moves_item hold (poll_gives hold (lane_of w d).inbox.queue) refl
+
+  -- ---- a save is opened, and closed
+
+  pub save_moves : (k : ℕ) → MovesNone c w (step w (events.Save d k))
+  save_moves k =
+      let now = saving k (lane_of w d) in
+      let done : World × Reply = (with_lane w d now, replies.Done) in
+      cond_both (is_no_save (lane_of w d) k) (w, replies.Refused) done (MovesNone c w) (λ none. moves_none c w w (quiet c w)) (λ may.
+      moves_none c w (with_lane w d now) (lane_quiet w d now c d_low low high refl refl refl))
+
+  tells_moves : (k : ℕ) (save : Option OpenSave) → MovesNone c w (tells_open w d k save)
+  tells_moves k None = moves_none c w w (quiet c w)
+  tells_moves k (Some save) =
+      let inbox = (lane_of w d).inbox in
+      let v = receives w d (entries.Saved k) in
+      let bytes : Items ℕ = record { items = saved_bytes inbox save; room = 0 } in
+      let done : World × Reply = (v, replies.SavedIn d k bytes) in
+      let later : World × Reply = cond (ltb inbox.last k) (w, replies.NotYet d k) done in
+      cond_both (not (eqb save.number k)) (w, replies.Refused) later (MovesNone c w) (λ other. moves_none c w w (quiet c w)) (λ this.
+      cond_both (ltb inbox.last k) (w, replies.NotYet d k) done (MovesNone c w) (λ early. moves_none c w w (quiet c w)) (λ came.
+      moves_none c w v (receives_quiet w c low high d (entries.Saved k) d_low refl)))
+
+  pub saved_moves : (k : ℕ) → MovesNone c w (step w (events.Saved d k))
+  saved_moves k = tells_moves k (lane_of w d).inbox.save

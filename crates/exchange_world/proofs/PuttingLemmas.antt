@@ -43,7 +43,7 @@ fit-append size (End ∷ ps) qs none here there = absurd (true≢false none)
 pub backlog_in-append : (ps qs : List Parcel) → backlog_in (ps ++ qs) ≡ backlog_in ps + backlog_in qs
 backlog_in-append ps qs = sum_by-append (λ p. cond (is_data p) 1 0) ps qs
 
-range-append : (a m n : ℕ) → range_with_len a (m + n) ≡ range_with_len a m ++ range_with_len (a + m) n
+pub range-append : (a m n : ℕ) → range_with_len a (m + n) ≡ range_with_len a m ++ range_with_len (a + m) n
 range-append a zero n = ap (λ k. range_with_len a k) (let e : 0 + n ≡ n = omega arith in e) ∙ ap (λ b. range_with_len b n) (let e : a ≡ a + 0 = omega arith in e)
 range-append a (suc m) n =
     ap (λ k. range_with_len a k) (let e : suc m + n ≡ suc (m + n) = omega arith in e)

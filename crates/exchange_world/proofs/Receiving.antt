@@ -1,27 +1,28 @@
 -- A sound world stays sound at each event of the receiving end and of the receiving task.
-use Rattle.std.proofs.Common.{◌≡◌, ℕ, zero, suc, ◌+◌, ◌-◌, ◌≤◌, eqb, Bool, true, false, cond, List, [], ◌∷◌, ◌++◌, length, refl, sym, ap, subst, ◌∙◌, arith, Option, Some, None}
+use Rattle.std.proofs.Common.{◌≡◌, ℕ, zero, suc, ◌+◌, ◌-◌, ◌≤◌, eqb, ltb, Bool, true, false, not, cond, List, [], ◌∷◌, ◌++◌, length, refl, sym, ap, subst, ◌∙◌, arith, Option, Some, None}
 use Rattle.std.specs.Prelude.{slice_set}
-use Rattle.std.proofs.lemmas.Bool.{eqb-false}
+use Rattle.std.proofs.lemmas.Bool.{cond_both, eqb-false}
+use Rattle.flow_defs.specs.Items.{Items}
 use Rattle.flow_defs.specs.declared.parcel.Parcel.{Parcel}
 use Rattle.flow_defs.specs.declared.parcel.Parcel.TheVariants as parcels
 use Rattle.input_channel.specs.declared.entry.Gave.TheVariants as gaves
 use Rattle.input_channel.specs.declared.entry.ReceiveEntry.TheVariants as entries
 use Rattle.input_channel.specs.Inboxes.{poll_gives}
 use Rattle.input_channel.specs.Counts.{data_in, told}
-use Rattle.input_channel.specs.States.{channel_next}
+use Rattle.input_channel.specs.States.{OpenSave, channel_next, saved_bytes}
 use Rattle.script_text.specs.declared.event.Event.TheVariants as events
 use Rattle.script_text.specs.declared.reply.Reply.{Reply}
 use Rattle.script_text.specs.declared.reply.Reply.TheVariants as replies
 use Rattle.script_text.specs.Scripts.{IsChannel}
-use Rattle.exchange_world.specs.Lanes.{Lane, floating_here, behind_records}
+use Rattle.exchange_world.specs.Lanes.{Lane, floating_here, behind_records, with_number}
 use Rattle.exchange_world.specs.Worlds.{World, DataFrame, Response, Announcement, AddCredit, Resumption, lane_of, with_lane, partition_limit}
-use Rattle.exchange_world.specs.Steps.{step, receives, delivers, polls_item, polls, reads}
+use Rattle.exchange_world.specs.Steps.{step, receives, delivers, polls_item, polls, reads, is_no_save, saving, tells_open}
 use Rattle.exchange_world.specs.Sound.{IsSound, AreOfChannels, responses, credit_coming, resumptions_coming}
 use Rattle.exchange_world.proofs.LaneLemmas.{SoundOn, sound_on, lane_put}
 use Rattle.exchange_world.proofs.WorldLemmas.{controls_are-append}
 use Rattle.exchange_world.proofs.Counting.{floating_taken}
 use Rattle.exchange_world.proofs.ReceivingPolls.{takes, read_inbox, is_read}
-use Rattle.exchange_world.proofs.ReceivingLanes.{pushed_on, told_on, polled_on, read_on, credited_on, resumed_on}
+use Rattle.exchange_world.proofs.ReceivingLanes.{pushed_on, told_on, polled_on, read_on, saved_on, credited_on, resumed_on}
 use Rattle.exchange_world.proofs.ReceivingWays.{response_here, response_there, credit_here, credit_there, no_resumption, resumption_here, resumption_there, no_credit}
 use Rattle.exchange_world.proofs.ReceivingWorlds.{keeps_lane, keeps_own, keeps_asks}
 
@@ -151,6 +152,36 @@ module _ (m : ℕ) (w : World) (sound : IsSound m w) where
 
     pub keeps_hold : IsSound m (step w (events.Hold c)).0
     keeps_hold = keeps_polls true
+
+    -- ---- a save is opened, and closed
+
+    saved_so : (save : Option OpenSave) (saves : List ℕ) → IsSound m (with_lane w c (record (lane_of w c) { inbox = record (lane_of w c).inbox { save = save }; saves = saves }))
+    saved_so save saves =
+        let lane = sound.each c channel.0 channel.1 in
+        let now : Lane = record (lane_of w c) { inbox = record (lane_of w c).inbox { save = save }; saves = saves } in
+        let on = saved_on w.size (lane_of w c) lane.reader (responses c w.frames) (credit_coming c w.controls) (resumptions_coming c w.controls) (partition_limit w) save saves (sound_on c w lane) in
+        keeps_own m w sound c channel.0 channel.1 now w.frames w.controls refl refl on (omega (arith, sound.gate))
+
+    pub keeps_save : (k : ℕ) → IsSound m (step w (events.Save c k)).0
+    keeps_save k =
+        let lane = lane_of w c in
+        let done : World × Reply = (with_lane w c (saving k lane), replies.Done) in
+        cond_both (is_no_save lane k) (w, replies.Refused) done (λ (d : World × Reply). IsSound m d.0) (λ none. sound) (λ may.
+        saved_so (Some (record { number = k; bytes = lane.rest })) (with_number k lane.saves))
+
+    told_open : (k : ℕ) (save : Option OpenSave) → IsSound m (tells_open w c k save).0
+    told_open k None = sound
+    told_open k (Some save) =
+        let inbox = (lane_of w c).inbox in
+        let bytes : Items ℕ = record { items = saved_bytes inbox save; room = 0 } in
+        let done : World × Reply = (receives w c (entries.Saved k), replies.SavedIn c k bytes) in
+        let later : World × Reply = cond (ltb inbox.last k) (w, replies.NotYet c k) done in
+        cond_both (not (eqb save.number k)) (w, replies.Refused) later (λ (d : World × Reply). IsSound m d.0) (λ other. sound) (λ this.
+        cond_both (ltb inbox.last k) (w, replies.NotYet c k) done (λ (d : World × Reply). IsSound m d.0) (λ early. sound) (λ came.
+        saved_so None (lane_of w c).saves))
+
+    pub keeps_saved : (k : ℕ) → IsSound m (step w (events.Saved c k)).0
+    keeps_saved k = told_open k (lane_of w c).inbox.save
 
   pub keeps_pool : IsSound m (step w events.Pool).0
   keeps_pool = sound

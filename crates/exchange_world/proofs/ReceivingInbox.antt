@@ -1,14 +1,15 @@
 -- A channel's receiving end stays sound: with what arrives, and with what is polled and comes back.
-use Rattle.std.proofs.Common.{◌≡◌, ℕ, ◌+◌, ◌≤◌, eqb, Bool, true, false, true≢false, List, [], ◌∷◌, ◌++◌, refl, sym, ◌∙◌, arith, length-append}
+use Rattle.std.proofs.Common.{◌≡◌, ℕ, ◌+◌, ◌≤◌, eqb, Bool, true, false, true≢false, List, [], ◌∷◌, ◌++◌, Option, refl, sym, ◌∙◌, arith, length-append}
 use Rattle.flow_defs.specs.declared.parcel.Parcel.{Parcel}
 use Rattle.flow_defs.specs.declared.parcel.Parcel.TheVariants.{Data, Barrier, End}
 use Rattle.flow_defs.specs.Parcels.{has_end}
 use Rattle.input_channel.specs.declared.entry.ReceiveEntry.TheVariants.{Push, Backlog, Added}
 use Rattle.input_channel.specs.Counts.{data_in}
-use Rattle.input_channel.specs.States.{ChannelState, channel_next}
+use Rattle.input_channel.specs.States.{ChannelState, OpenSave, channel_next}
 use Rattle.exchange_world.specs.Lanes.{BUFFERS_MAX, floating_here}
 use Rattle.exchange_world.specs.Sound.{IsSoundInbox, AreFit}
 use Rattle.exchange_world.proofs.Counting.{backlog-snoc, end-snoc, exclusive_taken, floating_taken, free_taken}
+use Rattle.exchange_world.proofs.Lines.{waiting-snoc, first-snoc}
 
 -- ---- what arrives
 
@@ -57,6 +58,8 @@ inbox_pushed size backlog inbox (Data bytes) sound more own paid =
       exclusive = exclusive ∙ sound.exclusive;
       floating = omega (arith, floating, sound.floating);
       free_is = omega (arith, less, sound.free_is, paid);
+      line = waiting-snoc inbox.line inbox.queue (Data bytes) sound.line;
+      first = first-snoc inbox.line (Data bytes) sound.first;
       held = omega (arith, held, waits, sound.held);
       fit = fit-snoc size inbox.queue (Data bytes) sound.fit queue own;
       end = λ e. absurd (true≢false (sym e ∙ end-snoc inbox.queue (Data bytes) queue));
@@ -72,6 +75,8 @@ inbox_pushed size backlog inbox (Barrier k kind) sound more own paid =
       exclusive = sound.exclusive;
       floating = sound.floating;
       free_is = omega (arith, sound.free_is);
+      line = waiting-snoc inbox.line inbox.queue (Barrier k kind) sound.line;
+      first = first-snoc inbox.line (Barrier k kind) sound.first;
       held = omega (arith, waits, sound.held);
       fit = fit-snoc size inbox.queue (Barrier k kind) sound.fit queue own;
       end = λ e. absurd (true≢false (sym e ∙ end-snoc inbox.queue (Barrier k kind) queue));
@@ -87,6 +92,8 @@ inbox_pushed size backlog inbox End sound more own paid =
       exclusive = sound.exclusive;
       floating = sound.floating;
       free_is = omega (arith, sound.free_is);
+      line = waiting-snoc inbox.line inbox.queue End sound.line;
+      first = first-snoc inbox.line End sound.first;
       held = omega (arith, waits, sound.held);
       fit = fit-snoc size inbox.queue End sound.fit queue own;
       end = λ e. refl;
@@ -101,6 +108,8 @@ inbox_told size backlog inbox sound = record {
   exclusive = sound.exclusive;
   floating = sound.floating;
   free_is = sound.free_is;
+  line = sound.line;
+  first = sound.first;
   held = sound.held;
   fit = sound.fit;
   end = sound.end;
@@ -117,6 +126,26 @@ inbox_added size inbox sound few = record {
   exclusive = sound.exclusive;
   floating = omega (arith, few);
   free_is = omega (arith, sound.free_is);
+  line = sound.line;
+  first = sound.first;
+  held = sound.held;
+  fit = sound.fit;
+  end = sound.end;
+  resumed = sound.resumed;
+}
+
+-- ---- a save is opened or closed
+
+pub inbox_saved : (size : ℕ) (inbox : ChannelState) (save : Option OpenSave) → IsSoundInbox size inbox → IsSoundInbox size (record inbox { save = save })
+inbox_saved size inbox save sound = record {
+  size_is = sound.size_is;
+  room_is = sound.room_is;
+  announces = sound.announces;
+  exclusive = sound.exclusive;
+  floating = sound.floating;
+  free_is = sound.free_is;
+  line = sound.line;
+  first = sound.first;
   held = sound.held;
   fit = sound.fit;
   end = sound.end;

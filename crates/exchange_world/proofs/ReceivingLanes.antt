@@ -1,5 +1,5 @@
 -- A channel stays sound when its receiving end takes an entry.
-use Rattle.std.proofs.Common.{◌≡◌, ℕ, suc, ◌+◌, ◌-◌, ◌≤◌, ◌⊎◌, inl, inr, Bool, true, false, cond, true≢false, List, [], ◌∷◌, ◌++◌, map, length, refl, sym, ap, subst, ◌∙◌, arith, Some}
+use Rattle.std.proofs.Common.{◌≡◌, ℕ, suc, ◌+◌, ◌-◌, ◌≤◌, ◌⊎◌, inl, inr, Bool, true, false, cond, true≢false, List, [], ◌∷◌, ◌++◌, map, length, Option, refl, sym, ap, subst, ◌∙◌, arith, Some}
 use Rattle.std.specs.Prelude.{option_to_list}
 use Rattle.std.specs.List.{range_with_len}
 use Rattle.flow_defs.specs.declared.parcel.Parcel.{Parcel}
@@ -9,16 +9,16 @@ use Rattle.flow_defs.proofs.Lists.{no_cons, tail_same}
 use Rattle.credit_reader.specs.declared.reader.Reader.{Reader}
 use Rattle.input_channel.specs.declared.entry.Gave.TheVariants.{NoBuffer}
 use Rattle.input_channel.specs.declared.entry.ReceiveEntry.TheVariants.{Push, Poll, Backlog, Added, Credit, Ask, Resume}
-use Rattle.input_channel.specs.Inboxes.{poll_gives, poll_leaves}
+use Rattle.input_channel.specs.Inboxes.{Arrived, poll_gives, poll_leaves}
 use Rattle.input_channel.specs.Counts.{Counts, data_in, told}
-use Rattle.input_channel.specs.States.{channel_next}
+use Rattle.input_channel.specs.States.{OpenSave, line_leaves, reached_by, gained, channel_next}
 use Rattle.input_channel.specs.Legal.{inline_in}
 use Rattle.input_channel.proofs.InboxLaws.{inline_in-append}
 use Rattle.exchange_world.specs.Lanes.{Lane, BUFFERS_MAX, floating_here}
 use Rattle.exchange_world.specs.Sound.{AreFit, IsSoundInbox}
 use Rattle.exchange_world.proofs.LaneLemmas.{AgreesOn, SoundOn}
 use Rattle.exchange_world.proofs.Counting.{backlog-cons, inline-cons}
-use Rattle.exchange_world.proofs.ReceivingInbox.{fit_first, fit_rest, inbox_pushed, inbox_told, inbox_added}
+use Rattle.exchange_world.proofs.ReceivingInbox.{fit_first, fit_rest, inbox_pushed, inbox_told, inbox_added, inbox_saved}
 use Rattle.exchange_world.proofs.ReceivingPolls.{Takes, inbox_polled, inline_polled, read_inbox, is_read}
 
 -- ---- the first that is on the way arrives
@@ -98,9 +98,9 @@ module _ (size : ℕ) (lane : Lane) (r : Reader) (number : ℕ) (p : Parcel) (wa
 -- ---- what changes buffers, and what waits, alone
 
 module _ (size : ℕ) (lane : Lane) (r : Reader) (way : List (ℕ × Parcel)) (credit resumptions : ℕ) where
-  pub agree_inbox : (queue : List Parcel) (counts : Counts) (owed : ℕ) (rest : List ℕ) → inline_in queue + owed ≡ inline_in lane.inbox.queue + lane.inbox.owed → AgreesOn size lane r way credit resumptions →
-      AgreesOn size (record lane { inbox = record lane.inbox { queue = queue; counts = counts; owed = owed }; rest = rest }) r way credit resumptions
-  agree_inbox queue counts owed rest same agree = record {
+  pub agree_inbox : (queue : List Parcel) (line : List Arrived) (reached : ℕ) (save : Option OpenSave) (counts : Counts) (owed : ℕ) (rest : List ℕ) → inline_in queue + owed ≡ inline_in lane.inbox.queue + lane.inbox.owed → AgreesOn size lane r way credit resumptions →
+      AgreesOn size (record lane { inbox = record lane.inbox { queue = queue; line = line; reached = reached; save = save; counts = counts; owed = owed }; rest = rest }) r way credit resumptions
+  agree_inbox queue line reached save counts owed rest same agree = record {
     numbered = agree.numbered;
     next = agree.next;
     credit_is = agree.credit_is;
@@ -113,37 +113,61 @@ module _ (size : ℕ) (lane : Lane) (r : Reader) (way : List (ℕ × Parcel)) (c
     blocked = (let coming = map (λ (r : ℕ × Parcel). r.1) way in let e : inline_in coming + inline_in queue + owed + resumptions ≡ inline_in coming + inline_in lane.inbox.queue + lane.inbox.owed + resumptions = omega (arith, same) in e) ∙ agree.blocked;
   }
 
-  pub sound_inbox : (limit : ℕ) (queue : List Parcel) (counts : Counts) (owed : ℕ) (rest : List ℕ) → inline_in queue + owed ≡ inline_in lane.inbox.queue + lane.inbox.owed → SoundOn size limit lane r way credit resumptions →
-      IsSoundInbox size (record lane.inbox { queue = queue; counts = counts; owed = owed }) →
-      SoundOn size limit (record lane { inbox = record lane.inbox { queue = queue; counts = counts; owed = owed }; rest = rest }) r way credit resumptions
-  sound_inbox limit queue counts owed rest same sound inbox = record {
+  pub sound_inbox : (limit : ℕ) (queue : List Parcel) (line : List Arrived) (reached : ℕ) (save : Option OpenSave) (counts : Counts) (owed : ℕ) (rest : List ℕ) → inline_in queue + owed ≡ inline_in lane.inbox.queue + lane.inbox.owed → SoundOn size limit lane r way credit resumptions →
+      IsSoundInbox size (record lane.inbox { queue = queue; line = line; reached = reached; save = save; counts = counts; owed = owed }) →
+      SoundOn size limit (record lane { inbox = record lane.inbox { queue = queue; line = line; reached = reached; save = save; counts = counts; owed = owed }; rest = rest }) r way credit resumptions
+  sound_inbox limit queue line reached save counts owed rest same sound inbox = record {
     sender = sound.sender;
     inbox = inbox;
-    agree = agree_inbox queue counts owed rest same sound.agree;
+    agree = agree_inbox queue line reached save counts owed rest same sound.agree;
     room = sound.room;
     lent = sound.lent;
   }
 
   pub told_on : (limit backlog : ℕ) → SoundOn size limit lane r way credit resumptions → SoundOn size limit (record lane { inbox = channel_next lane.inbox (Backlog backlog) }) r way credit resumptions
-  told_on limit backlog sound = sound_inbox limit lane.inbox.queue _ lane.inbox.owed lane.rest refl sound (inbox_told size backlog lane.inbox sound.inbox)
+  told_on limit backlog sound = sound_inbox limit lane.inbox.queue lane.inbox.line lane.inbox.reached lane.inbox.save _ lane.inbox.owed lane.rest refl sound (inbox_told size backlog lane.inbox sound.inbox)
 
   pub added_on : (limit : ℕ) → SoundOn size limit lane r way credit resumptions → 3 + floating_here lane.inbox ≤ BUFFERS_MAX → SoundOn size limit (record lane { inbox = channel_next lane.inbox Added }) r way credit resumptions
-  added_on limit sound few = sound_inbox limit lane.inbox.queue _ lane.inbox.owed lane.rest refl sound (inbox_added size lane.inbox sound.inbox few)
+  added_on limit sound few = sound_inbox limit lane.inbox.queue lane.inbox.line lane.inbox.reached lane.inbox.save _ lane.inbox.owed lane.rest refl sound (inbox_added size lane.inbox sound.inbox few)
 
   -- ---- what waits is polled
 
   pub polled_on : (limit : ℕ) (hold : Bool) (p : Parcel) → SoundOn size limit lane r way credit resumptions → Takes lane.inbox.queue p (poll_leaves hold lane.inbox.queue) → poll_gives hold lane.inbox.queue ≡ Some p → data_in p ≡ 0 →
       SoundOn size limit (record lane { inbox = channel_next lane.inbox (Poll hold NoBuffer) }) r way credit resumptions
   polled_on limit hold p sound takes gives none =
-      sound_inbox limit (poll_leaves hold lane.inbox.queue) lane.inbox.counts (lane.inbox.owed + inline_in (option_to_list (poll_gives hold lane.inbox.queue))) lane.rest
+      sound_inbox limit (poll_leaves hold lane.inbox.queue) (line_leaves hold lane.inbox.line) (reached_by lane.inbox (poll_gives hold lane.inbox.queue)) (gained lane.inbox (poll_gives hold lane.inbox.queue) lane.inbox.save) lane.inbox.counts (lane.inbox.owed + inline_in (option_to_list (poll_gives hold lane.inbox.queue))) lane.rest
       (inline_polled hold lane.inbox.queue p lane.inbox.owed takes gives) sound (inbox_polled size hold lane.inbox p sound.inbox takes none)
 
   pub read_on : (limit : ℕ) (hold : Bool) (bytes rest : List ℕ) → SoundOn size limit lane r way credit resumptions → Takes lane.inbox.queue (Data bytes) (poll_leaves hold lane.inbox.queue) → poll_gives hold lane.inbox.queue ≡ Some (Data bytes) →
       SoundOn size limit (record lane { inbox = read_inbox lane.inbox hold bytes lane.inbox.counts.held; rest = rest }) r way credit resumptions
   read_on limit hold bytes rest sound takes gives =
       let now = read_inbox lane.inbox hold bytes lane.inbox.counts.held in
-      sound_inbox limit (poll_leaves hold lane.inbox.queue) now.counts (lane.inbox.owed + inline_in (option_to_list (poll_gives hold lane.inbox.queue))) rest
+      sound_inbox limit (poll_leaves hold lane.inbox.queue) now.line now.reached now.save now.counts (lane.inbox.owed + inline_in (option_to_list (poll_gives hold lane.inbox.queue))) rest
       (inline_polled hold lane.inbox.queue (Data bytes) lane.inbox.owed takes gives) sound (is_read size hold lane.inbox bytes lane.inbox.counts.held sound.inbox takes refl).sound
+
+  -- ---- a save is opened or closed
+
+  pub saved_on : (limit : ℕ) (save : Option OpenSave) (saves : List ℕ) → SoundOn size limit lane r way credit resumptions → SoundOn size limit (record lane { inbox = record lane.inbox { save = save }; saves = saves }) r way credit resumptions
+  saved_on limit save saves sound =
+      let agree = sound.agree in
+      record {
+        sender = sound.sender;
+        inbox = inbox_saved size lane.inbox save sound.inbox;
+        agree = record {
+          numbered = agree.numbered;
+          next = agree.next;
+          credit_is = agree.credit_is;
+          fit = agree.fit;
+          barriers = agree.barriers;
+          last = agree.last;
+          ended = agree.ended;
+          finished = agree.finished;
+          unfinished = agree.unfinished;
+          blocked = agree.blocked;
+        };
+        room = sound.room;
+        lent = sound.lent;
+      }
 
   -- ---- credit and resumptions leave
 
@@ -161,6 +185,8 @@ module _ (size : ℕ) (lane : Lane) (r : Reader) (way : List (ℕ × Parcel)) (c
           exclusive = inbox.exclusive;
           floating = inbox.floating;
           free_is = omega (arith, inbox.free_is, all);
+          line = inbox.line;
+          first = inbox.first;
           held = inbox.held;
           fit = inbox.fit;
           end = inbox.end;
@@ -196,6 +222,8 @@ module _ (size : ℕ) (lane : Lane) (r : Reader) (way : List (ℕ × Parcel)) (c
           exclusive = inbox.exclusive;
           floating = inbox.floating;
           free_is = inbox.free_is;
+          line = inbox.line;
+          first = inbox.first;
           held = inbox.held;
           fit = inbox.fit;
           end = inbox.end;

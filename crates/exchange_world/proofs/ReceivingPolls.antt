@@ -1,5 +1,5 @@
 -- A poll takes what is due of an inbox, the first or a front barrier; the inbox stays sound.
-use Rattle.std.proofs.Common.{◌≡◌, ℕ, suc, ◌+◌, ◌-◌, ◌≤◌, ◌<◌, Bool, true, false, not, ◌&&◌, cond, List, [], ◌∷◌, ◌++◌, length, drop, refl, sym, ap, subst, ◌∙◌, arith, Some, None}
+use Rattle.std.proofs.Common.{◌≡◌, ℕ, suc, ◌+◌, ◌-◌, ◌≤◌, ◌<◌, Bool, true, false, not, ◌&&◌, cond, List, [], ◌∷◌, ◌++◌, length, drop, Option, refl, sym, ap, subst, ◌∙◌, arith, Some, None}
 use Rattle.std.specs.Prelude.{count_by, option_to_list}
 use Rattle.std.proofs.lemmas.Bool.{ltb-true, and_parts}
 use Rattle.std.proofs.lemmas.Option.{none-some, same_Some}
@@ -10,9 +10,9 @@ use Rattle.flow_defs.proofs.Lists.{no_cons}
 use Rattle.flow_defs.proofs.ParcelLemmas.{data_of-append}
 use Rattle.input_channel.specs.declared.entry.Gave.TheVariants.{NoBuffer}
 use Rattle.input_channel.specs.declared.entry.ReceiveEntry.TheVariants.{Poll, Returned}
-use Rattle.input_channel.specs.Inboxes.{front_waits, first_parcel, first_barrier, without_barrier, due, undue, is_barrier, poll_gives, poll_leaves}
+use Rattle.input_channel.specs.Inboxes.{Arrived, waiting, front_waits, first_parcel, first_barrier, without_barrier, due, undue, is_barrier, poll_gives, poll_leaves}
 use Rattle.input_channel.specs.Counts.{Counts, data_in, gave_by, lets_go}
-use Rattle.input_channel.specs.States.{ChannelState, channel_next}
+use Rattle.input_channel.specs.States.{ChannelState, OpenSave, starts_waiting, line_leaves, reached_by, gained, channel_next}
 use Rattle.input_channel.specs.Legal.{inline_in}
 use Rattle.input_channel.proofs.CountLemmas.{count-cons}
 use Rattle.input_channel.proofs.InboxLaws.{inline_in-append}
@@ -20,6 +20,7 @@ use Rattle.exchange_world.specs.Lanes.{backlog_in, floating_here}
 use Rattle.exchange_world.specs.Steps.{is_exclusive}
 use Rattle.exchange_world.specs.Sound.{IsSoundInbox, AreFit}
 use Rattle.exchange_world.proofs.Counting.{backlog-cons, inline-cons}
+use Rattle.exchange_world.proofs.Lines.{waiting-leaves, first-leaves}
 use Rattle.exchange_world.proofs.PuttingLemmas.{backlog_in-append}
 use Rattle.exchange_world.proofs.ReceivingInbox.{fit_rest}
 
@@ -117,6 +118,8 @@ inbox_polled size hold inbox p sound t none =
       exclusive = sound.exclusive;
       floating = sound.floating;
       free_is = sound.free_is;
+      line = waiting-leaves hold inbox.line inbox.queue sound.line;
+      first = first-leaves hold inbox.line sound.first;
       held = omega (arith, sound.held, rest.data_is, none);
       fit = rest.fit;
       end = rest.end;
@@ -124,9 +127,9 @@ inbox_polled size hold inbox p sound t none =
     }
 
 -- an exclusive buffer that comes back, where it lets a floating one go or not
-exclusive_back : (size : ℕ) (inbox : ChannelState) (left : List Parcel) (owed : ℕ) (rest : List Bool) (b : Bool) → IsSoundInbox size inbox → inbox.counts.held ≡ true ∷ rest → suc (backlog_in left) ≡ backlog_in inbox.queue → AreFit size left → (has_end left ≡ true → inbox.ended ≡ true) → (b ≡ true → 0 < inbox.counts.floating) →
-    IsSoundInbox size (record inbox { queue = left; owed = owed; counts = cond b (record inbox.counts { held = rest; exclusive = inbox.counts.exclusive + 1; floating = inbox.counts.floating - 1 }) (record inbox.counts { held = rest; exclusive = inbox.counts.exclusive + 1; pending = inbox.counts.pending + 1 }) })
-exclusive_back size inbox left owed rest true sound is fewer fit end goes =
+exclusive_back : (size : ℕ) (inbox : ChannelState) (left : List Parcel) (line : List Arrived) (reached : ℕ) (save : Option OpenSave) (owed : ℕ) (rest : List Bool) (b : Bool) → IsSoundInbox size inbox → waiting line ≡ left → starts_waiting line ≡ true → inbox.counts.held ≡ true ∷ rest → suc (backlog_in left) ≡ backlog_in inbox.queue → AreFit size left → (has_end left ≡ true → inbox.ended ≡ true) → (b ≡ true → 0 < inbox.counts.floating) →
+    IsSoundInbox size (record inbox { queue = left; line = line; reached = reached; save = save; owed = owed; counts = cond b (record inbox.counts { held = rest; exclusive = inbox.counts.exclusive + 1; floating = inbox.counts.floating - 1 }) (record inbox.counts { held = rest; exclusive = inbox.counts.exclusive + 1; pending = inbox.counts.pending + 1 }) })
+exclusive_back size inbox left line reached save owed rest true sound waits first is fewer fit end goes =
     let some = goes refl in
     let ex = ap (count_by (λ x. x)) is ∙ count-cons (λ x. x) true rest in
     let fl = ap (count_by not) is ∙ count-cons not true rest in
@@ -138,12 +141,14 @@ exclusive_back size inbox left owed rest true sound is fewer fit end goes =
       exclusive = omega (arith, sound.exclusive, ex);
       floating = omega (arith, sound.floating, fl);
       free_is = omega (arith, sound.free_is, some);
+      line = waits;
+      first = first;
       held = omega (arith, sound.held, fewer, len);
       fit = fit;
       end = end;
       resumed = sound.resumed;
     }
-exclusive_back size inbox left owed rest false sound is fewer fit end goes =
+exclusive_back size inbox left line reached save owed rest false sound waits first is fewer fit end goes =
     let ex = ap (count_by (λ x. x)) is ∙ count-cons (λ x. x) true rest in
     let fl = ap (count_by not) is ∙ count-cons not true rest in
     let len : length inbox.counts.held ≡ suc (length rest) = ap length is in
@@ -154,15 +159,17 @@ exclusive_back size inbox left owed rest false sound is fewer fit end goes =
       exclusive = omega (arith, sound.exclusive, ex);
       floating = omega (arith, sound.floating, fl);
       free_is = omega (arith, sound.free_is);
+      line = waits;
+      first = first;
       held = omega (arith, sound.held, fewer, len);
       fit = fit;
       end = end;
       resumed = sound.resumed;
     }
 
-floating_back : (size : ℕ) (inbox : ChannelState) (left : List Parcel) (owed : ℕ) (rest : List Bool) → IsSoundInbox size inbox → inbox.counts.held ≡ false ∷ rest → suc (backlog_in left) ≡ backlog_in inbox.queue → AreFit size left → (has_end left ≡ true → inbox.ended ≡ true) →
-    IsSoundInbox size (record inbox { queue = left; owed = owed; counts = record inbox.counts { held = rest } })
-floating_back size inbox left owed rest sound is fewer fit end =
+floating_back : (size : ℕ) (inbox : ChannelState) (left : List Parcel) (line : List Arrived) (reached : ℕ) (save : Option OpenSave) (owed : ℕ) (rest : List Bool) → IsSoundInbox size inbox → waiting line ≡ left → starts_waiting line ≡ true → inbox.counts.held ≡ false ∷ rest → suc (backlog_in left) ≡ backlog_in inbox.queue → AreFit size left → (has_end left ≡ true → inbox.ended ≡ true) →
+    IsSoundInbox size (record inbox { queue = left; line = line; reached = reached; save = save; owed = owed; counts = record inbox.counts { held = rest } })
+floating_back size inbox left line reached save owed rest sound waits first is fewer fit end =
     let ex = ap (count_by (λ x. x)) is ∙ count-cons (λ x. x) false rest in
     let fl = ap (count_by not) is ∙ count-cons not false rest in
     let len : length inbox.counts.held ≡ suc (length rest) = ap length is in
@@ -173,6 +180,8 @@ floating_back size inbox left owed rest sound is fewer fit end =
       exclusive = omega (arith, sound.exclusive, ex);
       floating = omega (arith, sound.floating, fl);
       free_is = omega (arith, sound.free_is);
+      line = waits;
+      first = first;
       held = omega (arith, sound.held, fewer, len);
       fit = fit;
       end = end;
@@ -214,7 +223,7 @@ is_read size hold inbox bytes (true ∷ held) sound t is =
     let first = head_held true held inbox.counts.held is in
     let polled : Counts = record inbox.counts { held = drop 1 inbox.counts.held } in
     record {
-      sound = exclusive_back size inbox left owed (drop 1 inbox.counts.held) (lets_go polled) sound first (let e : suc (backlog_in left) ≡ backlog_in inbox.queue = omega (arith, rest.data_is) in e) rest.fit rest.end (goes_floating polled);
+      sound = exclusive_back size inbox left (line_leaves hold inbox.line) (reached_by inbox (poll_gives hold inbox.queue)) (gained inbox (poll_gives hold inbox.queue) inbox.save) owed (drop 1 inbox.counts.held) (lets_go polled) sound (waiting-leaves hold inbox.line inbox.queue sound.line) (first-leaves hold inbox.line sound.first) first (let e : suc (backlog_in left) ≡ backlog_in inbox.queue = omega (arith, rest.data_is) in e) rest.fit rest.end (goes_floating polled);
       fewer = exclusive_fewer inbox left owed (drop 1 inbox.counts.held) (lets_go polled) first;
     }
 is_read size hold inbox bytes (false ∷ held) sound t is =
@@ -224,9 +233,19 @@ is_read size hold inbox bytes (false ∷ held) sound t is =
     let first = head_held false held inbox.counts.held is in
     let fl = ap (count_by not) first ∙ count-cons not false (drop 1 inbox.counts.held) in
     record {
-      sound = floating_back size inbox left owed (drop 1 inbox.counts.held) sound first (let e : suc (backlog_in left) ≡ backlog_in inbox.queue = omega (arith, rest.data_is) in e) rest.fit rest.end;
+      sound = floating_back size inbox left (line_leaves hold inbox.line) (reached_by inbox (poll_gives hold inbox.queue)) (gained inbox (poll_gives hold inbox.queue) inbox.save) owed (drop 1 inbox.counts.held) sound (waiting-leaves hold inbox.line inbox.queue sound.line) (first-leaves hold inbox.line sound.first) first (let e : suc (backlog_in left) ≡ backlog_in inbox.queue = omega (arith, rest.data_is) in e) rest.fit rest.end;
       fewer = omega (arith, fl);
     }
+
+-- a buffer with data waits where one is taken
+pub held_some : (size : ℕ) (hold : Bool) (inbox : ChannelState) (bytes : List ℕ) → IsSoundInbox size inbox → Takes inbox.queue (Data bytes) (poll_leaves hold inbox.queue) → (x : Bool) × (rest : List Bool) × (inbox.counts.held ≡ x ∷ rest)
+held_some size hold inbox bytes sound t = at inbox.counts.held refl
+  where
+    at : (held : List Bool) → inbox.counts.held ≡ held → (x : Bool) × (rest : List Bool) × (inbox.counts.held ≡ x ∷ rest)
+    at [] is =
+        let rest = is_rest size inbox (Data bytes) (poll_leaves hold inbox.queue) sound t in
+        absurd (none_held (backlog_in (poll_leaves hold inbox.queue)) (backlog_in inbox.queue) inbox.counts.held sound.held (let e : backlog_in inbox.queue ≡ suc (backlog_in (poll_leaves hold inbox.queue)) = omega (arith, rest.data_is) in e) is)
+    at (x ∷ rest) is = (x, rest, is)
 
 -- the inline barriers that wait and those that are owed are as many as before
 pub inline_polled : (hold : Bool) (queue : List Parcel) (p : Parcel) (owed : ℕ) → Takes queue p (poll_leaves hold queue) → poll_gives hold queue ≡ Some p →

@@ -17,6 +17,8 @@ pub record ReceivingKeeps : Type 0 where
   pub resume : (m : ℕ) (w : World) → IsSound m w → (c : ℕ) → IsChannel m c → IsSound m (step w (events.Resume c)).0
   pub poll : (m : ℕ) (w : World) → IsSound m w → (c : ℕ) → IsChannel m c → IsSound m (step w (events.Poll c)).0
   pub hold : (m : ℕ) (w : World) → IsSound m w → (c : ℕ) → IsChannel m c → IsSound m (step w (events.Hold c)).0
+  pub save : (m : ℕ) (w : World) → IsSound m w → (c : ℕ) → IsChannel m c → (k : ℕ) → IsSound m (step w (events.Save c k)).0
+  pub saved : (m : ℕ) (w : World) → IsSound m w → (c : ℕ) → IsChannel m c → (k : ℕ) → IsSound m (step w (events.Saved c k)).0
   pub pool : (m : ℕ) (w : World) → IsSound m w → IsSound m (step w events.Pool).0
 
 pub steps_keep_sound : ReceivingKeeps → StepsKeepSound
@@ -32,4 +34,6 @@ steps_keep_sound receiving m w (events.Resume c) sound is = receiving.resume m w
 steps_keep_sound receiving m w events.Control sound is = keeps_control m w sound
 steps_keep_sound receiving m w (events.Poll c) sound is = receiving.poll m w sound c is
 steps_keep_sound receiving m w (events.Hold c) sound is = receiving.hold m w sound c is
+steps_keep_sound receiving m w (events.Save c k) sound is = receiving.save m w sound c is.0 k
+steps_keep_sound receiving m w (events.Saved c k) sound is = receiving.saved m w sound c is.0 k
 steps_keep_sound receiving m w events.Pool sound is = receiving.pool m w sound

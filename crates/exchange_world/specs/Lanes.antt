@@ -1,7 +1,10 @@
 -- One channel of a connection, both its ends. Its parts are those of Flink's network stack: what waits to
 -- be sent in the subpartition, what came and waits in the input channel, and the bytes from which records
 -- are read.
-use Rattle.std.specs.Prelude.{ℕ, ◌+◌, ◌-◌, Bool, false, List, [], ◌∷◌, length, drop, count_by}
+use Rattle.std.specs.Prelude.{ℕ, ◌+◌, ◌-◌, ◌==◌, Bool, false, List, [], ◌∷◌, length, drop, count_by}
+use Rattle.std.specs.List.{list_any}
+use Rattle.std.specs.Ordering.{nat_cmp}
+use Rattle.std.specs.BTreeSet.{insert_key}
 use Rattle.flow_defs.specs.declared.task.ChannelId.{ChannelId}
 use Rattle.flow_defs.specs.declared.task.Head.{Head}
 use Rattle.flow_defs.specs.declared.task.Head.TheVariants.{Nothing, Buffer, Event}
@@ -13,13 +16,15 @@ use Rattle.input_channel.specs.States.{ChannelState, opening}
 use Rattle.input_channel.specs.Counts.{floating_held}
 
 -- What waits to be sent, in the order in which it travels; the number of the last barrier put, and whether
--- the end was; the receiving end; and the bytes that were polled and are of no whole record yet.
+-- the end was; the receiving end; the bytes that were polled and are of no whole record yet; and the numbers
+-- of the barriers for which saves were opened, in rising order.
 pub record Lane : Type 0 where
   pub items : List Parcel
   pub barriers : ℕ
   pub finished : Bool
   pub inbox : ChannelState
   pub rest : List ℕ
+  pub saves : List ℕ
 
 -- An input channel has room for ten buffers.
 abbrev pub BUFFERS_MAX : ℕ
@@ -31,7 +36,14 @@ ITEMS_MAX = 4096
 
 -- A channel on which nothing was put, with segments of so many bytes.
 abbrev pub new_lane : ℕ → Lane
-new_lane size = record { items = []; barriers = 0; finished = false; inbox = opening size BUFFERS_MAX; rest = [] }
+new_lane size = record { items = []; barriers = 0; finished = false; inbox = opening size BUFFERS_MAX; rest = []; saves = [] }
+
+-- Whether a number is among these, and these with one more, in rising order.
+abbrev pub has_number : ℕ → List ℕ → Bool
+has_number k ns = list_any (λ n. k == n) ns
+
+abbrev pub with_number : ℕ → List ℕ → List ℕ
+with_number k ns = insert_key nat_cmp ns k
 
 -- The channel with this number, from 1 on. All are of one edge and lead to one task.
 abbrev pub channel_id : ℕ → ChannelId

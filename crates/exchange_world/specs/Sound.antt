@@ -11,8 +11,9 @@ use Rattle.flow_defs.specs.Parcels.{barriers_of, has_end}
 use Rattle.credit_reader.specs.declared.reader.Reader.{Reader}
 use Rattle.credit_reader.specs.Senders.{reader_of}
 use Rattle.credit_reader.specs.Laws.{HoldsEachOnce}
+use Rattle.input_channel.specs.Inboxes.{waiting}
 use Rattle.input_channel.specs.Counts.{free}
-use Rattle.input_channel.specs.States.{ChannelState, exclusive_here}
+use Rattle.input_channel.specs.States.{ChannelState, exclusive_here, starts_waiting}
 use Rattle.input_channel.specs.Legal.{inline_in}
 use Rattle.exchange_world.specs.Lanes.{Lane, BUFFERS_MAX, ITEMS_MAX, channel_id, backlog_in, head_in, floating_here}
 use Rattle.exchange_world.specs.Worlds.{World, DataFrame, Response, Announcement, ControlFrame, AddCredit, Resumption, lane_of, partition_lent, partition_limit, gate_lent, gate_limit}
@@ -74,6 +75,8 @@ pub record IsSoundInbox (size : ℕ) (inbox : ChannelState) : Type 0 where
   pub exclusive : exclusive_here inbox ≡ 2
   pub floating : 2 + floating_here inbox ≤ BUFFERS_MAX
   pub free_is : free inbox.counts ≡ inbox.credit + inbox.counts.pending
+  pub line : waiting inbox.line ≡ inbox.queue
+  pub first : starts_waiting inbox.line ≡ true
   pub held : length inbox.counts.held ≡ backlog_in inbox.queue
   pub fit : AreFit size inbox.queue
   pub end : has_end inbox.queue ≡ true → inbox.ended ≡ true

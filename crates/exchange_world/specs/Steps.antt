@@ -1,6 +1,6 @@
 -- What each event does to a world, and its reply. Which events there are and what they reply is this
 -- project's own choice.
-use Rattle.std.specs.Prelude.{ℕ, zero, suc, ◌+◌, ◌-◌, ◌==◌, ◌||◌, Bool, true, false, not, nat_lt, min, List, [], ◌∷◌, ◌++◌, length, map, take, drop, replicate, if◌then◌else◌, Option, Some, None}
+use Rattle.std.specs.Prelude.{ℕ, zero, suc, ◌+◌, ◌-◌, ◌==◌, ◌||◌, Bool, true, false, not, nat_lt, nat_le, is_some, min, List, [], ◌∷◌, ◌++◌, length, map, take, drop, replicate, if◌then◌else◌, Option, Some, None}
 use Rattle.std.specs.Option.{option_map_or}
 use Rattle.flow_defs.specs.Items.{Items}
 use Rattle.flow_defs.specs.Records.{encoded}
@@ -10,7 +10,7 @@ use Rattle.flow_defs.specs.declared.task.BarrierKind.{BarrierKind}
 use Rattle.flow_defs.specs.declared.task.BarrierKind.TheVariants.{Inline, Front}
 use Rattle.flow_defs.specs.declared.parcel.Parcel.{Parcel}
 use Rattle.flow_defs.specs.declared.parcel.Parcel.TheVariants as parcels
-use Rattle.subpartition.specs.Barriers.{is_barrier, behind_last}
+use Rattle.flow_defs.specs.Barriers.{is_barrier, behind_last}
 use Rattle.subpartition.specs.Sending.{with_front}
 use Rattle.credit_reader.specs.declared.reader.Reader.{Reader}
 use Rattle.credit_reader.specs.declared.reader.SentKind.{SentKind}
@@ -24,12 +24,12 @@ use Rattle.input_channel.specs.declared.entry.Gave.{Gave}
 use Rattle.input_channel.specs.declared.entry.Gave.TheVariants as gaves
 use Rattle.input_channel.specs.Inboxes.{poll_gives}
 use Rattle.input_channel.specs.Counts.{wants, told, gave_by}
-use Rattle.input_channel.specs.States.{ChannelState, channel_next}
+use Rattle.input_channel.specs.States.{ChannelState, OpenSave, channel_next, polled_barriers, saved_bytes}
 use Rattle.script_text.specs.declared.event.Event.{Event}
 use Rattle.script_text.specs.declared.event.Event.TheVariants as events
 use Rattle.script_text.specs.declared.reply.Reply.{Reply}
 use Rattle.script_text.specs.declared.reply.Reply.TheVariants as replies
-use Rattle.exchange_world.specs.Lanes.{Lane, ITEMS_MAX, channel_id, backlog_in, head_in, content_len, records_in, behind_records}
+use Rattle.exchange_world.specs.Lanes.{Lane, ITEMS_MAX, channel_id, backlog_in, head_in, content_len, records_in, behind_records, has_number, with_number}
 use Rattle.exchange_world.specs.Worlds.{World, DataFrame, Response, Announcement, ControlFrame, AddCredit, Resumption, lane_of, with_lane, partition_limit, partition_lent, gate_limit, gate_lent, all_held, tells}
 
 -- ---- the sending task
@@ -202,6 +202,32 @@ polls_item w c hold (Some parcels.End) = (receives w c (entries.Poll hold gaves.
 abbrev pub polls : World → ℕ → Bool → World × Reply
 polls w c hold = polls_item w c hold (poll_gives hold (lane_of w c).inbox.queue)
 
+-- ---- saves
+
+-- A save may not be opened for barrier k while one is open, or once one was opened for it; nor before the barrier
+-- before it was polled, or once data behind it were.
+abbrev pub is_no_save : Lane → ℕ → Bool
+is_no_save lane k = is_some lane.inbox.save || has_number k lane.saves || nat_lt (suc (polled_barriers lane.inbox)) k || nat_le k lane.inbox.reached
+
+-- The channel with a save that was opened for barrier k, with the bytes of the record that isn't whole.
+abbrev pub saving : ℕ → Lane → Lane
+saving k lane = record lane { inbox = channel_next lane.inbox (entries.Save k lane.rest); saves = with_number k lane.saves }
+
+abbrev pub saves : World → ℕ → ℕ → World × Reply
+saves w c k = if is_no_save (lane_of w c) k then (w, replies.Refused) else (with_lane w c (saving k (lane_of w c)), replies.Done)
+
+-- What was saved for barrier k is told once that has arrived, where this is the open save.
+abbrev pub tells_open : World → ℕ → ℕ → Option OpenSave → World × Reply
+tells_open w c k None = (w, replies.Refused)
+tells_open w c k (Some save) =
+    let inbox = (lane_of w c).inbox in
+    if not (save.number == k) then (w, replies.Refused)
+    else if nat_lt inbox.last k then (w, replies.NotYet c k)
+    else (receives w c (entries.Saved k), replies.SavedIn c k (record { items = saved_bytes inbox save; room = 0 }))
+
+abbrev pub tells_saved : World → ℕ → ℕ → World × Reply
+tells_saved w c k = tells_open w c k (lane_of w c).inbox.save
+
 -- ---- all
 
 -- What an event does, and what it replies.
@@ -218,6 +244,8 @@ step w (events.Resume c) = resumes w c
 step w events.Control = obeys w w.controls
 step w (events.Poll c) = polls w c false
 step w (events.Hold c) = polls w c true
+step w (events.Save c k) = saves w c k
+step w (events.Saved c k) = tells_saved w c k
 step w events.Pool = (w, replies.Pool (w.total - all_held w) (all_held w))
 
 -- The world after a list of events, and their replies.
@@ -233,4 +261,5 @@ replies_to w (e ∷ es) = (step w e).1 ∷ replies_to (step w e).0 es
 abbrev pub bare : Reply → Reply
 bare (replies.Data c len records) = replies.Data c len (listed (map (λ (r : Items ℕ). r.items) records.items))
 bare (replies.SavedOut c k bytes) = replies.SavedOut c k (record { items = bytes.items; room = 0 })
+bare (replies.SavedIn c k bytes) = replies.SavedIn c k (record { items = bytes.items; room = 0 })
 bare reply = reply

@@ -1,6 +1,6 @@
 -- What holds of both ends of a connection, whatever the events. Each is proved as a clause of a function
 -- of `laws`.
-use Rattle.std.specs.Prelude.{◌≡◌, ℕ, ◌+◌, ◌*◌, ◌≤◌, ◌==◌, ◌&&◌, Bool, true, false, List, [], ◌∷◌, ◌++◌, map, replicate, if◌then◌else◌, Option, Some, None, Ok}
+use Rattle.std.specs.Prelude.{◌≡◌, ◌⊎◌, ℕ, ◌+◌, ◌*◌, ◌≤◌, ◌==◌, ◌&&◌, Bool, true, false, List, [], ◌∷◌, ◌++◌, map, replicate, if◌then◌else◌, Option, Some, None, Ok}
 use Rattle.std.specs.List.{AllByRecursion}
 use Rattle.flow_defs.specs.Items.{Items}
 use Rattle.flow_defs.specs.Records.{all_encoded}
@@ -23,7 +23,7 @@ use Rattle.script_text.specs.declared.reply.Reply.TheVariants as replies
 use Rattle.script_text.specs.Scripts.{IsOpening, IsEvent}
 use Rattle.exchange_world.specs.Lanes.{channel_id}
 use Rattle.exchange_world.specs.Worlds.{World, opened, lane_of, all_held, partition_lent, partition_limit, gate_lent, gate_limit, DataFrame, Response, Announcement, ControlFrame, AddCredit, Resumption}
-use Rattle.exchange_world.specs.Steps.{step, after_events}
+use Rattle.exchange_world.specs.Steps.{step, after_events, replies_to}
 
 -- The connection may be opened so: it has channels, and a segment for each that they need.
 pub record CanOpen (m size total : ℕ) : Type 0 where
@@ -85,6 +85,48 @@ pub record PollsWhatWasEmitted (c : ℕ) (w : World) (es : List Event) : Type 0 
 
 abbrev pub RecordsComeInOrder : Type 0
 RecordsComeInOrder = (m size total c : ℕ) (es : List Event) → CanOpen m size total → AreEvents m es → 1 ≤ c → c ≤ m → PollsWhatWasEmitted c (opened m size total) es
+
+-- ---- the cut
+
+-- Whether a reply tells what barrier k overtook on channel c, and whether an event opened the save for it there.
+abbrev pub tells_overtaken : ℕ → ℕ → Reply → Bool
+tells_overtaken c k (replies.SavedOut d j bytes) = d == c && j == k
+tells_overtaken c k reply = false
+
+abbrev pub is_done : Reply → Bool
+is_done replies.Done = true
+is_done reply = false
+
+abbrev pub opens_save : ℕ → ℕ → World → Event → Bool
+opens_save c k w (events.Save d j) = (d == c && j == k) && is_done (step w (events.Save d j)).1
+opens_save c k w e = false
+
+-- The records that were emitted on channel c before barrier k was put in front, and those that were polled there
+-- before the save for it was opened; all of them where it was not.
+abbrev pub emitted_before : ℕ → ℕ → World → List Event → List (List ℕ)
+emitted_before c k w [] = []
+emitted_before c k w (e ∷ es) = if tells_overtaken c k (step w e).1 then [] else emitted_by c w e ++ emitted_before c k (step w e).0 es
+
+abbrev pub polled_before : ℕ → ℕ → World → List Event → List (List ℕ)
+polled_before c k w [] = []
+polled_before c k w (e ∷ es) = if opens_save c k w e then [] else polled_in c (step w e).1 ++ polled_before c k (step w e).0 es
+
+-- A reply is one of these.
+abbrev pub IsAmong : Reply → List Reply → Type 0
+IsAmong reply [] = ⊥
+IsAmong reply (r ∷ rs) = (r ≡ reply) ⊎ IsAmong reply rs
+
+-- Replies tell what barrier k overtook on channel c, and what was saved for it.
+pub record TellPieces (c k : ℕ) (all : List Reply) (overtaken saved : List ℕ) : Type 0 where
+  pub out : IsAmong (replies.SavedOut c k (record { items = overtaken; room = 0 })) all
+  pub into : IsAmong (replies.SavedIn c k (record { items = saved; room = 0 })) all
+
+-- Barrier k cuts the records of a channel in two. Those emitted before it are those polled before its save was
+-- opened, then what was saved, then what it overtook.
+abbrev pub SavedPiecesMakeTheCut : Type 0
+SavedPiecesMakeTheCut = (m size total c k : ℕ) (es : List Event) (overtaken saved : List ℕ) → CanOpen m size total → AreEvents m es → 1 ≤ c → c ≤ m →
+    TellPieces c k (replies_to (opened m size total) es) overtaken saved →
+    all_encoded (emitted_before c k (opened m size total) es) ≡ all_encoded (polled_before c k (opened m size total) es) ++ (saved ++ overtaken)
 
 -- ---- credit
 

@@ -1,7 +1,7 @@
 //! The laws of a connection. Each function does nothing, or calls another law; what it ensures is the
 //! law.
 ghost use Rattle.exchange_world.specs.Laws.{OpenedIsSound, SoundHasTurns, SoundLendsWithin, SoundNumbersReaders, SoundTakesFrames, StepsKeepSound};
-ghost use Rattle.exchange_world.specs.Theorems.{DataHaveCredit, NoFrameIsRefused, PoolsLendWithin, RecordsComeInOrder};
+ghost use Rattle.exchange_world.specs.Theorems.{DataHaveCredit, NoFrameIsRefused, PoolsLendWithin, RecordsComeInOrder, SavedPiecesMakeTheCut};
 
 use local_pool::laws::shares_fit;
 
@@ -36,6 +36,13 @@ pub fn sound_has_turns()
 /// polled are the first of those of the records emitted, whatever the events.
 pub fn records_come_in_order()
     ensures order { RecordsComeInOrder }
+{}
+
+/// Where a front barrier was put on a channel and a save for it was closed, the bytes of the records that were
+/// emitted before it are those of the records polled before the save was opened, then what was saved, then
+/// what the barrier overtook, whatever the events.
+pub fn saved_pieces_make_the_cut()
+    ensures cut { SavedPiecesMakeTheCut }
 {}
 
 /// On each channel no more data buffers are sent than credit came to the sender, and no more credit came than

@@ -5,5 +5,6 @@ pub mod PartLemmas
 pub mod NumberLemmas
 pub mod TableLemmas
 pub mod ParcelLemmas
+pub mod BarrierLemmas
 pub mod RowLemmas
 pub mod Examples

@@ -10,3 +10,4 @@ pub mod Routes
 pub mod Jobs
 pub mod Rows
 pub mod Parcels
+pub mod Barriers

@@ -149,10 +149,10 @@ are_apart : AreApart 2 sender
 are_apart c d low there other = other
 
 abbrev half_aligned : Alignment
-half_aligned = alignment_next (unaligned 2) (barrier 0 1)
+half_aligned = alignment_next (unaligned 2) (barrier 0 1 Inline)
 
 abbrev aligned : Alignment
-aligned = alignment_next half_aligned (barrier 1 1)
+aligned = alignment_next half_aligned (barrier 1 1 Inline)
 
 took_line : IsTaking with_line shows sender (unaligned 2) [] ((0, 7 ∷ []) ∷ [])
 took_line = takes_line fresh with_line shows shows (keeps_all shows) refl sender (unaligned 2) [] [] (new_is_taking flight fresh shows sender is_new) 0 (7 ∷ []) are_apart gave_line

@@ -1,5 +1,5 @@
 -- A gate and its alignment.
-use Rattle.std.proofs.Common.{◌≡◌, ◌≢◌, ◌+◌, ◌<◌, ◌≤◌, ℕ, zero, suc, Bool, true, false, cond, eqb, get_or, true≢false, Some, List, [], ◌∷◌, ◌++◌, length, length-append, refl, sym, ap, subst, ◌∙◌, append-nil, eqb-true, arith}
+use Rattle.std.proofs.Common.{◌≡◌, ◌≢◌, ◌+◌, ◌<◌, ◌≤◌, ℕ, zero, suc, Bool, true, false, cond, eqb, get_or, true≢false, ◌||◌, Some, List, [], ◌∷◌, ◌++◌, length, length-append, refl, sym, ap, subst, ◌∙◌, append-nil, eqb-true, arith}
 use Rattle.std.specs.Prelude.{slice_get, slice_set, map}
 use Rattle.std.specs.List.{list_all, list_any}
 use Rattle.std.proofs.lemmas.Bool.{eqb-false}
@@ -43,6 +43,14 @@ pub none_are : (flags : List Bool) → list_any (λ g. g) (map (λ g. false) fla
 none_are [] = refl
 none_are (g ∷ flags) = none_are flags
 
+-- while no checkpoint is open no channel has given its barrier
+pub none_gave : (a : Alignment) (c : ℕ) → is_open a ≡ false → gave_at a c ≡ false
+none_gave a c shut =
+    elim a.saving as (λ s. (s || list_any (λ g. g) a.gave) ≡ false → gave_at a c ≡ false) [
+      | true ↦ λ e. absurd (true≢false e)
+      | false ↦ λ e. none_any a.gave c e
+    ] shut
+
 replicate_at : (n c : ℕ) → gave_at (unaligned n) c ≡ false
 replicate_at zero c = refl
 replicate_at (suc n) zero = refl
@@ -61,6 +69,7 @@ all_at (false ∷ flags) c low all = absurd (true≢false (sym all))
 pub step_told : (gate : Account) (a : Alignment) (waits told : ℕ → Bool) → ((c : ℕ) → c < gate.channels → waits c ≡ told c) → IsInStepWhere gate a waits → IsInStepWhere gate a told
 step_told gate a waits told same step = record {
   width = step.width;
+  still = step.still;
   barriers = step.barriers;
   resumed = λ c low. step.resumed c low ∙ ap (λ b. gate.resumed c + weight b) (same c low);
 }
@@ -68,6 +77,7 @@ step_told gate a waits told same step = record {
 step_stays : (gate now : Account) (a : Alignment) → IsInStep gate a → now.channels ≡ gate.channels → ((d : ℕ) → now.barriers d ≡ gate.barriers d) → ((d : ℕ) → now.resumed d ≡ gate.resumed d) → IsInStep now a
 step_stays gate now a step same barriers resumed = record {
   width = step.width ∙ sym same;
+  still = step.still;
   barriers = λ d low. ap length (barriers d) ∙ step.barriers d (subst (λ n. d < n) same low);
   resumed = λ d low. ap inlines (barriers d) ∙ step.resumed d (subst (λ n. d < n) same low) ∙ ap (λ n. n + weight (gave_at a d)) (sym (resumed d));
 }
@@ -75,6 +85,7 @@ step_stays gate now a step same barriers resumed = record {
 pub new_are_in_step : NewAreInStep
 new_are_in_step flight gate new = record {
   width = length-replicate gate.channels false;
+  still = refl;
   barriers = λ c low. ap length (new.barriers c) ∙ sym (ap (λ b. 0 + weight b) (replicate_at gate.channels c));
   resumed = λ c low. ap inlines (new.barriers c) ∙ sym (ap (λ n. n + weight (gave_at (unaligned gate.channels) c)) (new.resumed c) ∙ ap (λ b. 0 + weight b) (replicate_at gate.channels c));
 }
@@ -92,7 +103,7 @@ line_is_in_step gate now a c line step same gave = step_stays gate now a step sa
 -- ---- a barrier is given
 
 pub next_is_in_turn : NextIsInTurn
-next_is_in_turn gate now a c k step low next =
+next_is_in_turn gate now a c k kind step low next =
     let here : length (gate.barriers c) ≡ a.closed + weight (gave_at a c) = step.barriers c low in
     let none : gave_at a c ≡ false =
     elim (is_open a) as (λ b. is_open a ≡ b → gave_at a c ≡ false) [
@@ -101,7 +112,7 @@ next_is_in_turn gate now a c k step low next =
           let there : length (gate.barriers held.0) ≡ a.closed + weight (gave_at a held.0) = step.barriers held.0 held.1 in
           let most = weight_low (gave_at a held.0) in
           weight_none (gave_at a c) (omega (arith, here, there, most, next.number, held.2))
-      | false ↦ λ shut. none_any a.gave c shut
+      | false ↦ λ shut. none_gave a c shut
     ] refl in
     let many : length (gate.barriers c) ≡ a.closed + 0 = here ∙ ap (λ b. a.closed + weight b) none in
     record {
@@ -116,10 +127,10 @@ append_inlines ((k, Front) ∷ xs) ys = append_inlines xs ys
 
 -- as the alignment goes on, and as it closes
 abbrev pub going : Alignment → ℕ → Alignment
-going a c = record { closed = a.closed; gave = slice_set a.gave c true }
+going a c = record { closed = a.closed; gave = slice_set a.gave c true; saving = a.saving; saved = a.saved }
 
 abbrev pub closing : Alignment → ℕ → Alignment
-closing a k = record { closed = k; gave = map (λ g. false) a.gave }
+closing a k = record { closed = k; gave = map (λ g. false) a.gave; saving = a.saving; saved = a.saved }
 
 module _ (gate now : Account) (a : Alignment) (c k : ℕ) (step : IsInStep gate a) (same : now.channels ≡ gate.channels) (gave : GaveOf gate now c [] ((k, Inline) ∷ [])) where
   there : (d : ℕ) → d < now.channels → d < gate.channels
@@ -159,17 +170,19 @@ module _ (gate now : Account) (a : Alignment) (c k : ℕ) (step : IsInStep gate 
   step_going : IsInStep now (going a c)
   step_going = record {
     width = length-set a.gave c true ∙ step.width ∙ sym same;
+    still = step.still;
     barriers = λ d low. counted_now d (there d low);
     resumed = λ d low. owed_now d (there d low);
   }
 
   -- with the last one all have given it
-  pub each_gave : is_last a (barrier c k) ≡ true → (d : ℕ) → d < gate.channels → get_or (slice_set a.gave c true) d false ≡ true
+  pub each_gave : is_last a (barrier c k Inline) ≡ true → (d : ℕ) → d < gate.channels → get_or (slice_set a.gave c true) d false ≡ true
   each_gave last d low = all_at (slice_set a.gave c true) d (let wide = step.width in let set = length-set a.gave c true in omega (arith, wide, set, low)) last
 
-  step_closing : is_last a (barrier c k) ≡ true → k ≡ suc a.closed → IsInStepWhere now (closing a k) (λ d. true)
+  step_closing : is_last a (barrier c k Inline) ≡ true → k ≡ suc a.closed → IsInStepWhere now (closing a k) (λ d. true)
   step_closing last number = record {
     width = length-map a.gave (λ (b : Bool). false) ∙ step.width ∙ sym same;
+    still = step.still;
     barriers = λ d low.
         let given : length (now.barriers d) ≡ a.closed + 1 = counted_now d (there d low) ∙ ap (λ b. a.closed + weight b) (each_gave last d (there d low)) in
         (let e : length (now.barriers d) ≡ k + 0 = omega (arith, given, number) in e) ∙ ap (λ b. k + weight b) (sym (none_at a.gave d));
@@ -177,19 +190,19 @@ module _ (gate now : Account) (a : Alignment) (c k : ℕ) (step : IsInStep gate 
   }
 
 -- the alignment behind a barrier
-pub next_going : (a : Alignment) (c k : ℕ) → is_last a (barrier c k) ≡ false → alignment_next a (barrier c k) ≡ going a c
-next_going a c k others = ap (λ b. cond b (record { closed = k; gave = map (λ g. false) a.gave }) (record { closed = a.closed; gave = slice_set a.gave c true })) others
+pub next_going : (a : Alignment) (c k : ℕ) → a.saving ≡ false → is_last a (barrier c k Inline) ≡ false → alignment_next a (barrier c k Inline) ≡ going a c
+next_going a c k still others = ap (λ s. cond s (going a c) (cond (is_last a (barrier c k Inline)) (closing a k) (going a c))) still ∙ ap (λ b. cond b (closing a k) (going a c)) others
 
-pub next_closing : (a : Alignment) (c k : ℕ) → is_last a (barrier c k) ≡ true → alignment_next a (barrier c k) ≡ closing a k
-next_closing a c k last = ap (λ b. cond b (record { closed = k; gave = map (λ g. false) a.gave }) (record { closed = a.closed; gave = slice_set a.gave c true })) last
+pub next_closing : (a : Alignment) (c k : ℕ) → a.saving ≡ false → is_last a (barrier c k Inline) ≡ true → alignment_next a (barrier c k Inline) ≡ closing a k
+next_closing a c k still last = ap (λ s. cond s (going a c) (cond (is_last a (barrier c k Inline)) (closing a k) (going a c))) still ∙ ap (λ b. cond b (closing a k) (going a c)) last
 
 pub block_is_in_step : BlockIsInStep
-block_is_in_step gate now a c k step others same next gave = subst (IsInStep now) (sym (next_going a c k others)) (step_going gate now a c k step same gave)
+block_is_in_step gate now a c k step others same next gave = subst (IsInStep now) (sym (next_going a c k step.still others)) (step_going gate now a c k step same gave)
 
 pub close_is_in_step : CloseIsInStep
 close_is_in_step gate now a c k step last same next gave =
-    let may = next_is_in_turn gate now a c k step gave.within next in
-    subst (λ x. IsInStepWhere now x (λ d. true)) (sym (next_closing a c k last)) (step_closing gate now a c k step same gave last (let number = may.number in omega (arith, number)))
+    let may = next_is_in_turn gate now a c k Inline step gave.within next in
+    subst (λ x. IsInStepWhere now x (λ d. true)) (sym (next_closing a c k step.still last)) (step_closing gate now a c k step same gave last (let number = may.number in omega (arith, number)))
 
 -- ---- channels are resumed
 
@@ -199,6 +212,7 @@ waiting_is_blocked gate a waits c step low waited = step.resumed c low ∙ ap (�
 pub resumed_is_in_step : ResumedIsInStep
 resumed_is_in_step gate now a waits c step waited same by = record {
   width = step.width ∙ sym same;
+  still = step.still;
   barriers = λ d low. ap length (by.barriers d) ∙ step.barriers d (subst (λ n. d < n) same low);
   resumed = λ d low. owed d (subst (λ n. d < n) same low);
 }
@@ -217,11 +231,12 @@ resumed_is_in_step gate now a waits c step waited same by = record {
 pub all_resumed_is_in_step : AllResumedIsInStep
 all_resumed_is_in_step gate now a step aligned same by = record {
   width = step.width ∙ sym same;
+  still = step.still;
   barriers = λ d low. ap length (by.barriers d) ∙ step.barriers d (subst (λ n. d < n) same low);
   resumed = λ d low.
       let in_gate : d < gate.channels = subst (λ n. d < n) same low in
       let before : inlines (gate.barriers d) ≡ gate.resumed d + 1 = step.resumed d in_gate in
       let one = by.resumed d in_gate in
       ap inlines (by.barriers d) ∙ (let e : inlines (gate.barriers d) ≡ now.resumed d + 0 = omega (arith, before, one) in e)
-      ∙ ap (λ b. now.resumed d + weight b) (sym (none_any a.gave d aligned));
+      ∙ ap (λ b. now.resumed d + weight b) (sym (none_gave a d aligned));
 }

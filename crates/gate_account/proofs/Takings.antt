@@ -1,13 +1,14 @@
 -- A task that takes from its gate, answer by answer.
-use Rattle.std.proofs.Common.{◌≡◌, ◌≢◌, ◌+◌, ◌<◌, ℕ, suc, Bool, true, false, cond, get_or, List, [], ◌∷◌, ◌++◌, length, map, refl, sym, ap, subst, ◌∙◌, append-nil, arith}
+use Rattle.std.proofs.Common.{◌≡◌, ◌≢◌, ◌+◌, ◌<◌, ℕ, suc, Bool, true, false, cond, ◌||◌, get_or, List, [], ◌∷◌, ◌++◌, length, map, refl, sym, ap, subst, ◌∙◌, append-nil, arith}
 use Rattle.std.specs.Prelude.{slice_set}
+use Rattle.std.specs.List.{list_any}
 use Rattle.std.proofs.lemmas.List.{get_or-set_same, get_or-set_other}
 use mathlib.Core.Logic.{dite}
 use native.Mathlib.Decide.{ℕ_discrete}
 use Rattle.flow_defs.specs.declared.task.BarrierKind.{BarrierKind}
 use Rattle.flow_defs.specs.declared.task.BarrierKind.TheVariants.{Inline}
 use Rattle.plain_machine.specs.Histories.{of_sender}
-use Rattle.barriers.specs.declared.aligner.Action.TheVariants.{Block, SnapshotInline}
+use Rattle.barriers.specs.declared.aligner.Action.TheVariants.{Nothing, Block, SnapshotInline}
 use Rattle.barriers.specs.Alignments.{Alignment, action, alignment_next, barrier, is_last, is_open, unaligned}
 use Rattle.checkpoint_laws.specs.Chapters.{Chapter}
 use Rattle.checkpoint_laws.specs.Runs.{took_before}
@@ -16,7 +17,7 @@ use Rattle.gate_account.specs.Accounts.{Account, IsNew, Keeps, GaveNothing, Gave
 use Rattle.gate_account.specs.Aligning.{gave_at, weight, IsInStepWhere, IsInStep}
 use Rattle.channel_cut.specs.Takings.{taken_to, TakenOn}
 use Rattle.gate_account.specs.Taking.{AreApart, HasTaken, IsTaking, IsAtSnapshot}
-use Rattle.gate_account.proofs.InStep.{weight_none, none_any, none_are, new_are_in_step, nothing_is_in_step, line_is_in_step, next_is_in_turn, block_is_in_step, close_is_in_step, all_resumed_is_in_step, each_gave, going, closing, next_going, next_closing}
+use Rattle.gate_account.proofs.InStep.{weight_none, none_gave, none_are, new_are_in_step, nothing_is_in_step, line_is_in_step, next_is_in_turn, block_is_in_step, close_is_in_step, all_resumed_is_in_step, each_gave, going, closing, next_going, next_closing}
 use Rattle.channel_cut.proofs.Taking.{Group, many_with, taken_stays, taken_begins, line_is_taken, other_is_taken, barrier_is_given, snapshot_is_taken, snapshot_is_unsent, taken_in_chapters, many_chapters}
 
 -- ---- what a gate shows
@@ -30,11 +31,19 @@ keeps_on shows now later first second c cut shown = second c cut (first c cut sh
 -- ---- what the alignment answers
 
 module _ (a : Alignment) (c k : ℕ) where
-  pub blocks_others : action a (barrier c k) ≡ Block → is_last a (barrier c k) ≡ false
-  blocks_others is = elim (is_last a (barrier c k)) as (λ b. cond b (SnapshotInline k) Block ≡ Block → b ≡ false) [ true ↦ λ e. absurd (cc) | false ↦ λ e. refl ] is
+  pub blocks_others : action a (barrier c k Inline) ≡ Block → is_last a (barrier c k Inline) ≡ false
+  blocks_others is =
+      elim a.saving as (λ s. cond s Nothing (cond (is_last a (barrier c k Inline)) (SnapshotInline k) Block) ≡ Block → is_last a (barrier c k Inline) ≡ false) [
+        | true ↦ λ e. absurd (cc)
+        | false ↦ λ e. elim (is_last a (barrier c k Inline)) as (λ b. cond b (SnapshotInline k) Block ≡ Block → b ≡ false) [ true ↦ λ e. absurd (cc) | false ↦ λ e. refl ] e
+      ] is
 
-  pub snapshots_at_last : (n : ℕ) → action a (barrier c k) ≡ SnapshotInline n → is_last a (barrier c k) ≡ true
-  snapshots_at_last n is = elim (is_last a (barrier c k)) as (λ b. cond b (SnapshotInline k) Block ≡ SnapshotInline n → b ≡ true) [ true ↦ λ e. refl | false ↦ λ e. absurd (cc) ] is
+  pub snapshots_at_last : (n : ℕ) → action a (barrier c k Inline) ≡ SnapshotInline n → is_last a (barrier c k Inline) ≡ true
+  snapshots_at_last n is =
+      elim a.saving as (λ s. cond s Nothing (cond (is_last a (barrier c k Inline)) (SnapshotInline k) Block) ≡ SnapshotInline n → is_last a (barrier c k Inline) ≡ true) [
+        | true ↦ λ e. absurd (cc)
+        | false ↦ λ e. elim (is_last a (barrier c k Inline)) as (λ b. cond b (SnapshotInline k) Block ≡ SnapshotInline n → b ≡ true) [ true ↦ λ e. refl | false ↦ λ e. absurd (cc) ] e
+      ] is
 
 -- ---- what was taken, at any end
 
@@ -155,7 +164,7 @@ module _ (gate now : Account) (shows shown : ℕ → Cut → Type 0) (kept : Kee
     gave = answer.1
 
     number : k ≡ suc a.closed
-    number = let may = next_is_in_turn gate now a c k taking.step gave.within next in let is = may.number in omega (arith, is)
+    number = let may = next_is_in_turn gate now a c k Inline taking.step gave.within next in let is = may.number in omega (arith, is)
 
     had : HasTaken now shown sender groups took (λ d. get_or (slice_set a.gave c true) d false)
     had = has_barrier gate now shows shown kept same sender groups took (gave_at a) taking.has c k (λ d. get_or (slice_set a.gave c true) d false) (number ∙ ap suc (sym taking.counted))
@@ -163,26 +172,26 @@ module _ (gate now : Account) (shows shown : ℕ → Cut → Type 0) (kept : Kee
         (get_or-set_same a.gave c true false (let wide = taking.step.width in let within = gave.within in omega (arith, wide, within)))
 
     -- others are missing: its channel waits
-    pub takes_barrier : is_last a (barrier c k) ≡ false → IsTaking now shown sender (alignment_next a (barrier c k)) groups took
+    pub takes_barrier : is_last a (barrier c k Inline) ≡ false → IsTaking now shown sender (alignment_next a (barrier c k Inline)) groups took
     takes_barrier others =
         let taken : IsTaking now shown sender (going a c) groups took = record {
-          step = subst (IsInStep now) (next_going a c k others) (block_is_in_step gate now a c k taking.step others same next gave);
+          step = subst (IsInStep now) (next_going a c k taking.step.still others) (block_is_in_step gate now a c k taking.step others same next gave);
           has = had;
           counted = taking.counted;
         } in
-        subst (λ x. IsTaking now shown sender x groups took) (sym (next_going a c k others)) taken
+        subst (λ x. IsTaking now shown sender x groups took) (sym (next_going a c k taking.step.still others)) taken
 
     -- it is the last one: the task snapshots
-    pub takes_last_barrier : is_last a (barrier c k) ≡ true → IsAtSnapshot now shown sender (alignment_next a (barrier c k)) (groups ++ took ∷ [])
+    pub takes_last_barrier : is_last a (barrier c k Inline) ≡ true → IsAtSnapshot now shown sender (alignment_next a (barrier c k Inline)) (groups ++ took ∷ [])
     takes_last_barrier last =
         let at : IsAtSnapshot now shown sender (closing a k) (groups ++ took ∷ []) = record {
-          step = subst (λ x. IsInStepWhere now x (λ d. true)) (next_closing a c k last) (close_is_in_step gate now a c k taking.step last same next gave);
-          aligned = none_are a.gave;
+          step = subst (λ x. IsInStepWhere now x (λ d. true)) (next_closing a c k taking.step.still last) (close_is_in_step gate now a c k taking.step last same next gave);
+          aligned = ap (λ s. s || list_any (λ g. g) (map (λ g. false) a.gave)) taking.step.still ∙ none_are a.gave;
           has = λ d low. snapshot_is_taken (shown d) (sender d) (now.lines d) groups took
               (subst (TakenOn (shown d) (now.lines d) (sender d) groups took) (each_gave gate now a c k taking.step same gave last d (subst (λ n. d < n) same low)) (had d low));
           counted = many_with groups took ∙ ap suc taking.counted ∙ sym number;
         } in
-        subst (λ x. IsAtSnapshot now shown sender x (groups ++ took ∷ [])) (sym (next_closing a c k last)) at
+        subst (λ x. IsAtSnapshot now shown sender x (groups ++ took ∷ [])) (sym (next_closing a c k taking.step.still last)) at
 
 -- of each channel the cut at each snapshot
 pub taking_is_cut : (gate : Account) (shows : ℕ → Cut → Type 0) (sender : ℕ → ℕ) (a : Alignment) (groups : List Group) (took : Group) → IsTaking gate shows sender a groups took →
@@ -195,14 +204,14 @@ taking_is_cut gate shows sender a groups took taking c within k low = chapters_a
 pub barriers_at_snapshot : (gate : Account) (shows : ℕ → Cut → Type 0) (sender : ℕ → ℕ) (a : Alignment) (groups : List Group) → IsAtSnapshot gate shows sender a groups →
     (c : ℕ) → c < gate.channels → length (gate.barriers c) ≡ length groups
 barriers_at_snapshot gate shows sender a groups at c low =
-    at.step.barriers c low ∙ ap (λ b. a.closed + weight b) (none_any a.gave c at.aligned) ∙ (let e : a.closed + 0 ≡ a.closed = omega arith in e) ∙ sym at.counted
+    at.step.barriers c low ∙ ap (λ b. a.closed + weight b) (none_gave a c at.aligned) ∙ (let e : a.closed + 0 ≡ a.closed = omega arith in e) ∙ sym at.counted
 
 -- all channels were resumed: the task takes on
 pub goes_on_aligned : (gate now : Account) (shows shown : ℕ → Cut → Type 0) → Keeps shows shown → now.channels ≡ gate.channels → (sender : ℕ → ℕ) (a : Alignment) (groups : List Group) →
     IsAtSnapshot gate shows sender a groups → ResumedAll gate now → IsTaking now shown sender a groups []
 goes_on_aligned gate now shows shown kept same sender a groups at by = record {
   step = all_resumed_is_in_step gate now a at.step at.aligned same by;
-  has = waits_told now shown sender groups [] (λ c. false) (gave_at a) (λ c low. sym (none_any a.gave c at.aligned))
+  has = waits_told now shown sender groups [] (λ c. false) (gave_at a) (λ c low. sym (none_gave a c at.aligned))
       (has_as_before gate now shows shown kept same sender groups [] (λ c. false) at.has by.lines);
   counted = at.counted;
 }

@@ -2,6 +2,7 @@
 -- barriers of all others have come. That the two are compared by how many barriers each channel gave, and how many of them were resumed, is
 -- this project's own choice.
 use Rattle.std.specs.Prelude.{◌≡◌, ℕ, ◌+◌, ◌<◌, ◌==◌, Bool, true, false, List, [], ◌∷◌, length, slice_index_or, if◌then◌else◌}
+use Rattle.flow_defs.specs.declared.task.BarrierKind.{BarrierKind}
 use Rattle.flow_defs.specs.declared.task.BarrierKind.TheVariants.{Inline}
 use Rattle.barriers.specs.Alignments.{Alignment, MayGive, alignment_next, barrier, given_by, is_last, is_open, unaligned}
 use Rattle.gate_account.specs.Accounts.{Account, IsNew, inlines, IsBlocked, GaveNothing, GaveOf, IsNext, Resumed, ResumedAll}
@@ -16,9 +17,11 @@ gave_at a c = slice_index_or a.gave c false
 abbrev pub weight : Bool → ℕ
 weight waits = if waits then 1 else 0
 
--- The alignment counts the barriers that each channel gave, and just these channels wait.
+-- The alignment counts the barriers that each channel gave, and just these channels wait. So far barriers come in line, so the task doesn't
+-- save.
 pub record IsInStepWhere (gate : Account) (a : Alignment) (waits : ℕ → Bool) : Type 0 where
   pub width : length a.gave ≡ gate.channels
+  pub still : a.saving ≡ false
   pub barriers : (c : ℕ) → c < gate.channels → length (gate.barriers c) ≡ given_by a c
   pub resumed : (c : ℕ) → c < gate.channels → inlines (gate.barriers c) ≡ gate.resumed c + weight (waits c)
 
@@ -46,19 +49,20 @@ LineIsInStep =
 -- has not given it.
 abbrev pub NextIsInTurn : Type 0
 NextIsInTurn =
-    (gate now : Account) (a : Alignment) (c k : ℕ) → IsInStep gate a → c < gate.channels → IsNext gate now (is_open a) c k → MayGive a (barrier c k)
+    (gate now : Account) (a : Alignment) (c k : ℕ) (kind : BarrierKind) → IsInStep gate a → c < gate.channels → IsNext gate now (is_open a) c k →
+    MayGive a (barrier c k kind)
 
 -- An inline barrier leaves its channel waiting, where others are missing,
 abbrev pub BlockIsInStep : Type 0
 BlockIsInStep =
-    (gate now : Account) (a : Alignment) (c k : ℕ) → IsInStep gate a → is_last a (barrier c k) ≡ false → now.channels ≡ gate.channels →
-    IsNext gate now (is_open a) c k → GaveOf gate now c [] ((k, Inline) ∷ []) → IsInStep now (alignment_next a (barrier c k))
+    (gate now : Account) (a : Alignment) (c k : ℕ) → IsInStep gate a → is_last a (barrier c k Inline) ≡ false → now.channels ≡ gate.channels →
+    IsNext gate now (is_open a) c k → GaveOf gate now c [] ((k, Inline) ∷ []) → IsInStep now (alignment_next a (barrier c k Inline))
 
 -- and the last one leaves all waiting.
 abbrev pub CloseIsInStep : Type 0
 CloseIsInStep =
-    (gate now : Account) (a : Alignment) (c k : ℕ) → IsInStep gate a → is_last a (barrier c k) ≡ true → now.channels ≡ gate.channels →
-    IsNext gate now (is_open a) c k → GaveOf gate now c [] ((k, Inline) ∷ []) → IsInStepWhere now (alignment_next a (barrier c k)) (λ d. true)
+    (gate now : Account) (a : Alignment) (c k : ℕ) → IsInStep gate a → is_last a (barrier c k Inline) ≡ true → now.channels ≡ gate.channels →
+    IsNext gate now (is_open a) c k → GaveOf gate now c [] ((k, Inline) ∷ []) → IsInStepWhere now (alignment_next a (barrier c k Inline)) (λ d. true)
 
 -- ---- what the task resumes
 

@@ -1,15 +1,14 @@
 -- Nothing waits behind the end.
 use Rattle.std.proofs.Common.{◌≡◌, ℕ, Bool, true, false, true≢false, cond, List, [], ◌∷◌, ◌++◌, refl, sym, ap, subst, ◌∙◌, append-nil, ◌⊎◌, inl, inr}
 use Rattle.std.specs.Prelude.{◌&&◌, option_to_list, drop, None}
-use Rattle.turn_cell.specs.History.{IsHistory}
 use Rattle.turn_cell.proofs.Histories.{history_keeps}
 use Rattle.flow_defs.specs.declared.parcel.Parcel.{Parcel}
 use Rattle.flow_defs.specs.declared.parcel.Parcel.TheVariants.{Data, Barrier, End}
 use Rattle.flow_defs.specs.Parcels.{has_end}
 use Rattle.input_channel.specs.declared.entry.ReceiveEntry.{ReceiveEntry}
-use Rattle.input_channel.specs.declared.entry.ReceiveEntry.TheVariants.{Push, Poll, Returned, Added, Backlog, Credit, Shut, Ask, Resume}
+use Rattle.input_channel.specs.declared.entry.ReceiveEntry.TheVariants.{Push, Poll, Returned, Added, Backlog, Credit, Shut, Ask, Resume, Save, Saved}
 use Rattle.input_channel.specs.Inboxes.{front_waits, first_parcel, first_barrier, without_barrier, due, undue, is_barrier, poll_gives, poll_leaves, Waits, waiting, inbox, received_one, pushed}
-use Rattle.input_channel.specs.Legal.{MayReceive, MayPush}
+use Rattle.input_channel.specs.Legal.{MayReceive}
 use Rattle.input_channel.specs.Theorems.{EndIsGivenLast}
 use Rattle.input_channel.proofs.InboxLaws.{inbox-more, pushed-append, polled-given, polled-waiting, waiting-append}
 
@@ -156,6 +155,8 @@ stands_more room es (Credit given) s may = same_stands es (Credit given) refl re
 stands_more room es Shut s may = same_stands es Shut refl refl s
 stands_more room es Ask s may = same_stands es Ask refl refl s
 stands_more room es Resume s may = same_stands es Resume refl refl s
+stands_more room es (Save k kept) s may = same_stands es (Save k kept) refl refl s
+stands_more room es (Saved k) s may = same_stands es (Saved k) refl refl s
 
 pub end_is_given_last : EndIsGivenLast
 unfolding Stands

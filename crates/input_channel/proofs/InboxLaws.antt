@@ -5,7 +5,7 @@ use Rattle.flow_defs.specs.declared.parcel.Parcel.{Parcel}
 use Rattle.flow_defs.specs.declared.parcel.Parcel.TheVariants.{Data, Barrier, End}
 use Rattle.flow_defs.specs.Parcels.{data_of, barriers_of}
 use Rattle.input_channel.specs.declared.entry.ReceiveEntry.{ReceiveEntry}
-use Rattle.input_channel.specs.declared.entry.ReceiveEntry.TheVariants.{Push, Poll, Returned, Added, Backlog, Credit, Shut, Ask, Resume}
+use Rattle.input_channel.specs.declared.entry.ReceiveEntry.TheVariants.{Push, Poll, Returned, Added, Backlog, Credit, Shut, Ask, Resume, Save, Saved}
 use Rattle.input_channel.specs.Inboxes.{front_waits, first_parcel, first_barrier, without_barrier, due, undue, is_barrier, poll_gives, poll_leaves, Arrived, WasPolled, Waits, parcel_of, waiting, poll_first, poll_barrier, poll_due, Inbox, empty_inbox, polled_one, received_one, received_from, inbox, pushed}
 use Rattle.input_channel.specs.Legal.{inline_in}
 use Rattle.input_channel.specs.Theorems.{ArrivalsArePushed, DataComeInOrder, BarriersComeInOrder}
@@ -80,11 +80,14 @@ poll_barrier-parcels (Waits (Data bytes) ∷ xs) = ap (λ ps. Data bytes ∷ ps)
 poll_barrier-parcels (Waits (Barrier k kind) ∷ xs) = refl
 poll_barrier-parcels (Waits End ∷ xs) = ap (λ ps. End ∷ ps) (poll_barrier-parcels xs)
 
+pub poll_due-parcels : (xs : List Arrived) → map parcel_of (poll_due xs) ≡ map parcel_of xs
+poll_due-parcels xs = elim (front_waits (waiting xs)) as (λ b. map parcel_of (cond b (poll_barrier xs) (poll_first xs)) ≡ map parcel_of xs) [ true ↦ poll_barrier-parcels xs | false ↦ poll_first-parcels xs ]
+
 polled-parcels : (hold : Bool) (i : Inbox) → map parcel_of (polled_one hold i).arrivals ≡ map parcel_of i.arrivals
 polled-parcels hold i =
     elim (hold && is_barrier (due (waiting i.arrivals))) as (λ b. map parcel_of (cond b i (record { arrivals = poll_due i.arrivals; given = i.given ++ option_to_list (due (waiting i.arrivals)) })).arrivals ≡ map parcel_of i.arrivals) [
       | true ↦ refl
-      | false ↦ elim (front_waits (waiting i.arrivals)) as (λ b. map parcel_of (cond b (poll_barrier i.arrivals) (poll_first i.arrivals)) ≡ map parcel_of i.arrivals) [ true ↦ poll_barrier-parcels i.arrivals | false ↦ poll_first-parcels i.arrivals ]
+      | false ↦ poll_due-parcels i.arrivals
     ]
 
 received_from-parcels : (i : Inbox) (es : List ReceiveEntry) → map parcel_of (received_from i es).arrivals ≡ map parcel_of i.arrivals ++ pushed es
@@ -135,6 +138,8 @@ module _ {X : Type 0} (f : List Parcel → List X) (f-append : (ps qs : List Par
   one_more i Shut = none_more i
   one_more i Ask = none_more i
   one_more i Resume = none_more i
+  one_more i (Save k kept) = none_more i
+  one_more i (Saved k) = none_more i
 
   all_from : (i : Inbox) (es : List ReceiveEntry) → in_all (received_from i es) ≡ in_all i ++ f (pushed es)
   all_from i [] = none_more i

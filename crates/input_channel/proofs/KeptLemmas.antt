@@ -3,9 +3,6 @@ use Rattle.std.proofs.Common.{◌≡◌, ℕ, ◌+◌, ◌-◌, eqb, eqb-true, l
 use Rattle.std.specs.Prelude.{count_by, MatchBool}
 use Rattle.circular_buffer.specs.Buffer.{Buffer, buffer}
 use Rattle.std.proofs.lemmas.List.{map-append}
-use Rattle.flow_defs.specs.declared.parcel.Parcel.{Parcel}
-use Rattle.flow_defs.specs.declared.parcel.Parcel.TheVariants.{Data, Barrier, End}
-use Rattle.flow_defs.specs.Parcels.{barriers_of}
 use Rattle.input_channel.specs.declared.held.HeldBuf.{HeldBuf}
 use Rattle.input_channel.specs.Counts.{Counts}
 use Rattle.input_channel.specs.Lines.{kinds_of}
@@ -48,8 +45,8 @@ pub length-kinds : (xs : List HeldBuf) → length (kinds_of xs) ≡ length xs
 length-kinds [] = refl
 length-kinds (x ∷ xs) = let e = length-kinds xs in omega (arith, e)
 
-pub both : {A B C : Type 0} (f : A → B → C) (a c : A) (b d : B) → a ≡ c → b ≡ d → f a b ≡ f c d
-both f a c b d e g = cc
+pub all_three : {A B C D : Type 0} (f : A → B → C → D) (a a' : A) (b b' : B) (c c' : C) → a ≡ a' → b ≡ b' → c ≡ c' → f a b c ≡ f a' b' c'
+all_three f a a' b b' c c' e g h = cc
 
 pub not_lt : (m n : ℕ) → n ≤ m → ltb m n ≡ false
 not_lt m n low = elim (ltb m n) as (λ b. ltb m n ≡ b → b ≡ false) [ true ↦ λ e. absurd (let high : m < n = ltb-true m n e in omega (arith, high, low)) | false ↦ λ e. refl ] refl

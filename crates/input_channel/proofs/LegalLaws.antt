@@ -8,7 +8,7 @@ use Rattle.flow_defs.specs.declared.parcel.Parcel.TheVariants.{Data, Barrier, En
 use Rattle.flow_defs.specs.Parcels.{barriers_of}
 use Rattle.input_channel.specs.declared.entry.Gave.TheVariants.{NoBuffer, Exclusive, Floating}
 use Rattle.input_channel.specs.declared.entry.ReceiveEntry.{ReceiveEntry}
-use Rattle.input_channel.specs.declared.entry.ReceiveEntry.TheVariants.{Push, Poll, Returned, Added, Backlog, Credit, Shut, Ask, Resume}
+use Rattle.input_channel.specs.declared.entry.ReceiveEntry.TheVariants.{Push, Poll, Returned, Added, Backlog, Credit, Shut, Ask, Resume, Save, Saved}
 use Rattle.input_channel.specs.Inboxes.{inbox, pushed, waiting, poll_gives}
 use Rattle.input_channel.specs.Counts.{Counts, free, with_data, with_exclusive, lets_go, told, exclusive_held, gave_by, Numbers, at_opening, numbers_one, numbers_from, numbers}
 use Rattle.turn_cell.specs.History.{IsHistory}
@@ -105,6 +105,8 @@ numbers_step room es (Credit n) agree may = told_agrees (numbers es).counts (num
 numbers_step room es Shut agree may = agree
 numbers_step room es Ask agree may = agree
 numbers_step room es Resume agree may = agree
+numbers_step room es (Save k kept) agree may = agree
+numbers_step room es (Saved k) agree may = agree
 
 pub credit_agrees : CreditAgrees
 credit_agrees room es history =
@@ -121,6 +123,8 @@ told_step room es (Backlog n) same may = omega (arith, same)
 told_step room es Shut same may = omega (arith, same)
 told_step room es Ask same may = omega (arith, same)
 told_step room es Resume same may = omega (arith, same)
+told_step room es (Save k kept) same may = omega (arith, same)
+told_step room es (Saved k) same may = omega (arith, same)
 
 credit_told-more : (es : List ReceiveEntry) (e : ReceiveEntry) → credit_told (es ++ e ∷ []) ≡ credit_told es + credit_of e
 credit_told-more es e = Rattle.std.proofs.lemmas.List.Sums.sum_by-append credit_of es (e ∷ []) ∙ ap (λ n. credit_told es + n) (Rattle.std.proofs.lemmas.List.Sums.sum_by-cons credit_of e [] ∙ Rattle.std.proofs.Common.add-zero (credit_of e))
@@ -154,6 +158,8 @@ shut_one n (Credit k) h = record { shut = h; announced = ap (λ b. n.announced +
 shut_one n Shut h = record { shut = refl; announced = refl }
 shut_one n Ask h = record { shut = h; announced = refl }
 shut_one n Resume h = record { shut = h; announced = refl }
+shut_one n (Save k kept) h = record { shut = h; announced = refl }
+shut_one n (Saved k) h = record { shut = h; announced = refl }
 
 shut_from : (n : Numbers) (es : List ReceiveEntry) → n.counts.shut ≡ true → (numbers_from n es).announced ≡ n.announced
 shut_from n [] h = refl
@@ -284,6 +290,8 @@ two_step room es (Credit n) agree two may = two_stay es (Credit n) two refl refl
 two_step room es Shut agree two may = two_stay es Shut two refl refl refl
 two_step room es Ask agree two may = two_stay es Ask two refl refl refl
 two_step room es Resume agree two may = two_stay es Resume two refl refl refl
+two_step room es (Save k kept) agree two may = two_stay es (Save k kept) two refl refl refl
+two_step room es (Saved k) agree two may = two_stay es (Saved k) two refl refl refl
 
 pub two_always : (room : ℕ) (es : List ReceiveEntry) → IsHistory (MayReceive room) es → AreTwo es
 two_always room es history =

@@ -3,7 +3,14 @@ pub mod EndLaws
 pub mod LineLemmas
 pub mod KeptLemmas
 pub mod PollLemmas
+pub mod TakingLemmas
 pub mod InboxLaws
+pub mod DataLaws
+pub mod BarrierLaws
+pub mod SaveLaws
+pub mod LineLaws
+pub mod ReachLaws
+pub mod SavingLaws
 pub mod LegalLaws
 pub mod StateLaws
 pub mod PassLaws

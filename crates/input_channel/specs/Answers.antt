@@ -15,7 +15,8 @@ use Rattle.input_channel.specs.declared.entry.Gave.TheVariants.{NoBuffer, Exclus
 use Rattle.input_channel.specs.Contents.{content}
 use Rattle.input_channel.specs.Inboxes.{due, is_barrier}
 use Rattle.flow_defs.specs.declared.task.BarrierKind.TheVariants.{Inline, Front}
-use Rattle.input_channel.specs.States.{ChannelState, exclusive_here}
+use Rattle.input_channel.specs.declared.entry.ReceiveEntry.TheVariants.{Saved}
+use Rattle.input_channel.specs.States.{OpenSave, ChannelState, saved_bytes, channel_next, exclusive_here}
 
 -- What arrives, with these bytes where it is a buffer.
 abbrev pub parcel_in : ArrivalKind → List ℕ → Parcel
@@ -79,6 +80,14 @@ given_by (answers.Barrier k kind) = Some (parcels.Barrier k kind)
 given_by answers.End = Some parcels.End
 given_by answers.Empty = None
 given_by answers.Held = None
+
+-- What was saved for barrier k is given, and its save is closed.
+pub record GivesSaved (old : ChannelState) (k : ℕ) (bytes : List ℕ) (new : ChannelState) : Type 0 where
+  pub save : OpenSave
+  pub was_open : old.save ≡ Some save
+  pub number : save.number ≡ k
+  pub bytes_are : bytes ≡ saved_bytes old save
+  pub closed : new ≡ channel_next old (Saved k)
 
 -- What an answer gives can be answered: a buffer may come back, and an inline barrier is owed a resumption.
 abbrev pub IsAnswerable : Polled → ChannelState → Type 0

@@ -7,7 +7,7 @@ use Rattle.flow_defs.specs.declared.parcel.Parcel.TheVariants.{Data, Barrier, En
 use Rattle.input_channel.specs.declared.entry.Gave.{Gave}
 use Rattle.input_channel.specs.declared.entry.Gave.TheVariants.{NoBuffer, Exclusive, Floating}
 use Rattle.input_channel.specs.declared.entry.ReceiveEntry.{ReceiveEntry}
-use Rattle.input_channel.specs.declared.entry.ReceiveEntry.TheVariants.{Push, Poll, Returned, Added, Backlog, Credit, Shut, Ask, Resume}
+use Rattle.input_channel.specs.declared.entry.ReceiveEntry.TheVariants.{Push, Poll, Returned, Added, Backlog, Credit, Shut, Ask, Resume, Save, Saved}
 
 -- The free buffers, exclusive and floating; of each buffer that waits with data, in order, whether it is
 -- exclusive; the credit that is not announced yet; the buffers that the sender's backlog asks for; and
@@ -69,6 +69,8 @@ counts_one c (Credit given) = record c { pending = c.pending - told c }
 counts_one c Shut = record c { shut = true }
 counts_one c Ask = c
 counts_one c Resume = c
+counts_one c (Save k rest) = c
+counts_one c (Saved k) = c
 
 -- The floating buffers that wait with data, and the exclusive ones.
 abbrev pub floating_held : Counts → ℕ

@@ -1,12 +1,13 @@
 -- The receiving end of a channel: what came on it, and what the polls gave. As in Flink's network stack,
 -- buffers and events of a channel wait in one line, in the order in which they came. That a front
 -- barrier is given before the data that wait is FLIP-76's.
-use Rattle.std.specs.Prelude.{Bool, true, false, ◌&&◌, List, [], ◌∷◌, ◌++◌, drop, if◌then◌else◌, Option, Some, None, option_to_list}
+use Rattle.std.specs.Prelude.{◌≡◌, ℕ, Bool, true, false, ◌&&◌, ◌==◌, ◌||◌, List, [], ◌∷◌, ◌++◌, map, drop, if◌then◌else◌, Option, Some, None, option_to_list}
 use Rattle.flow_defs.specs.declared.task.BarrierKind.TheVariants.{Inline, Front}
 use Rattle.flow_defs.specs.declared.parcel.Parcel.{Parcel}
 use Rattle.flow_defs.specs.declared.parcel.Parcel.TheVariants.{Data, Barrier, End}
+use Rattle.flow_defs.specs.Parcels.{data_of}
 use Rattle.input_channel.specs.declared.entry.ReceiveEntry.{ReceiveEntry}
-use Rattle.input_channel.specs.declared.entry.ReceiveEntry.TheVariants.{Push, Poll}
+use Rattle.input_channel.specs.declared.entry.ReceiveEntry.TheVariants.{Push, Poll, Save}
 
 -- ---- what waits
 
@@ -122,3 +123,57 @@ abbrev pub pushed : List ReceiveEntry → List Parcel
 pushed [] = []
 pushed (Push p backlog ∷ es) = p ∷ pushed es
 pushed (e ∷ es) = pushed es
+
+-- ---- what a save tells
+
+-- The bytes that polls gave, in the order of the polls.
+abbrev pub polled_bytes : List ReceiveEntry → List ℕ
+polled_bytes es = data_of (inbox es).given
+
+-- The bytes of the data before barrier k that wait.
+abbrev pub waiting_before : ℕ → List Arrived → List ℕ
+waiting_before k [] = []
+waiting_before k (WasPolled (Data bytes) ∷ xs) = waiting_before k xs
+waiting_before k (Waits (Data bytes) ∷ xs) = bytes ++ waiting_before k xs
+waiting_before k (WasPolled (Barrier j kind) ∷ xs) = if j == k then [] else waiting_before k xs
+waiting_before k (Waits (Barrier j kind) ∷ xs) = if j == k then [] else waiting_before k xs
+waiting_before k (WasPolled End ∷ xs) = waiting_before k xs
+waiting_before k (Waits End ∷ xs) = waiting_before k xs
+
+-- The bytes of all data that were polled, and of those behind barrier k.
+abbrev pub polled_of : List Arrived → List ℕ
+polled_of [] = []
+polled_of (WasPolled (Data bytes) ∷ xs) = bytes ++ polled_of xs
+polled_of (WasPolled (Barrier j kind) ∷ xs) = polled_of xs
+polled_of (WasPolled End ∷ xs) = polled_of xs
+polled_of (Waits p ∷ xs) = polled_of xs
+
+abbrev pub polled_behind : ℕ → List Arrived → List ℕ
+polled_behind k [] = []
+polled_behind k (WasPolled (Data bytes) ∷ xs) = polled_behind k xs
+polled_behind k (Waits (Data bytes) ∷ xs) = polled_behind k xs
+polled_behind k (WasPolled (Barrier j kind) ∷ xs) = if j == k then polled_of xs else polled_behind k xs
+polled_behind k (Waits (Barrier j kind) ∷ xs) = if j == k then polled_of xs else polled_behind k xs
+polled_behind k (WasPolled End ∷ xs) = polled_behind k xs
+polled_behind k (Waits End ∷ xs) = polled_behind k xs
+
+-- What is saved for barrier k: the rest, and then the data before that barrier that waited when the save was opened, or came later.
+abbrev pub saved_from : Inbox → ℕ → List ReceiveEntry → List ℕ
+saved_from i k [] = []
+saved_from i k (Save j rest ∷ es) = if j == k then rest ++ waiting_before k (i.arrivals ++ map Waits (pushed es)) else saved_from i k es
+saved_from i k (e ∷ es) = saved_from (received_one i e) k es
+
+abbrev pub saved : ℕ → List ReceiveEntry → List ℕ
+saved k es = saved_from empty_inbox k es
+
+-- Whether a save was opened for barrier k.
+abbrev pub has_save : ℕ → List ReceiveEntry → Bool
+has_save k [] = false
+has_save k (Save j rest ∷ es) = (j == k) || has_save k es
+has_save k (e ∷ es) = has_save k es
+
+-- The save for barrier k: when it was opened nothing behind that barrier had been polled, and none had been opened for it.
+pub record IsSave (es : List ReceiveEntry) (k : ℕ) (before : List ReceiveEntry) (rest : List ℕ) (after : List ReceiveEntry) : Type 0 where
+  pub whole : es ≡ before ++ Save k rest ∷ after
+  pub once : has_save k before ≡ false
+  pub in_time : polled_behind k (inbox before).arrivals ≡ []

@@ -1,6 +1,6 @@
 -- Which entries the history of a channel's receiving end may have, and which pass makes which. This is
 -- what the calls of an input channel ask and keep, said of histories; it is this project's own choice.
-use Rattle.std.specs.Prelude.{◌≡◌, ℕ, suc, ◌+◌, ◌<◌, ⊤, Bool, true, false, ◌==◌, ◌||◌, List, [], ◌∷◌, map, length, count_by, sum_by}
+use Rattle.std.specs.Prelude.{◌≡◌, ◌⊎◌, ℕ, suc, ◌+◌, ◌<◌, ⊤, Bool, true, false, ◌==◌, ◌||◌, List, [], ◌∷◌, ◌++◌, map, length, count_by, sum_by, Option, Some, None}
 use Rattle.flow_defs.specs.declared.task.BarrierKind.{BarrierKind}
 use Rattle.flow_defs.specs.declared.task.BarrierKind.TheVariants.{Inline, Front}
 use Rattle.flow_defs.specs.declared.parcel.Parcel.{Parcel}
@@ -9,8 +9,9 @@ use Rattle.flow_defs.specs.Parcels.{barriers_of, has_end}
 use Rattle.input_channel.specs.declared.entry.Gave.{Gave}
 use Rattle.input_channel.specs.declared.entry.Gave.TheVariants.{NoBuffer, Exclusive, Floating}
 use Rattle.input_channel.specs.declared.entry.ReceiveEntry.{ReceiveEntry}
-use Rattle.input_channel.specs.declared.entry.ReceiveEntry.TheVariants.{Push, Poll, Returned, Added, Backlog, Credit, Shut, Ask, Resume}
-use Rattle.input_channel.specs.Inboxes.{inbox, pushed, waiting, poll_gives}
+use Rattle.input_channel.specs.declared.entry.ReceiveEntry.TheVariants.{Push, Poll, Returned, Added, Backlog, Credit, Shut, Ask, Resume, Save, Saved}
+use Rattle.flow_defs.specs.Barriers.{has_barrier}
+use Rattle.input_channel.specs.Inboxes.{inbox, pushed, waiting, poll_gives, polled_bytes, polled_behind, has_save}
 use Rattle.input_channel.specs.Counts.{numbers, wants, told, gave_by}
 
 -- The buffers of a kind that polls gave, and those that came back.
@@ -89,6 +90,34 @@ pub record MayPush (es : List ReceiveEntry) (p : Parcel) : Type 0 where
   pub before_end : has_end (pushed es) ≡ false
   pub fits : MayArrive es p
 
+-- The barrier for which a save is open.
+abbrev pub open_from : Option ℕ → List ReceiveEntry → Option ℕ
+open_from now [] = now
+open_from now (Save k rest ∷ es) = open_from (Some k) es
+open_from now (Saved k ∷ es) = open_from None es
+open_from now (e ∷ es) = open_from now es
+
+abbrev pub open_save : List ReceiveEntry → Option ℕ
+open_save es = open_from None es
+
+-- Barrier k is the first, or the one before it was polled.
+abbrev pub IsInTurn : List ReceiveEntry → ℕ → Type 0
+IsInTurn es k = (k ≡ 1) ⊎ ((j : ℕ) × (k ≡ suc j) × (has_barrier j (inbox es).given ≡ true))
+
+-- A save is opened while none is, once for each barrier, in turn, and before anything behind that barrier is polled. What it takes over
+-- was polled last.
+pub record MaySave (es : List ReceiveEntry) (k : ℕ) (rest : List ℕ) : Type 0 where
+  pub none_open : open_save es ≡ None
+  pub once : has_save k es ≡ false
+  pub in_turn : IsInTurn es k
+  pub in_time : polled_behind k (inbox es).arrivals ≡ []
+  pub is_rest : (given : List ℕ) × (polled_bytes es ≡ given ++ rest)
+
+-- It is closed once its barrier has come.
+pub record MayClose (es : List ReceiveEntry) (k : ℕ) : Type 0 where
+  pub opened : open_save es ≡ Some k
+  pub came : has_barrier k (pushed es) ≡ true
+
 -- What may be added to the history of a channel with so much room.
 abbrev pub MayReceive : ℕ → List ReceiveEntry → ReceiveEntry → Type 0
 MayReceive room es (Push p backlog) = MayPush es p
@@ -100,8 +129,10 @@ MayReceive room es (Credit given) = given ≡ told (numbers es).counts
 MayReceive room es Shut = (numbers es).received ≡ (numbers es).announced
 MayReceive room es Ask = asks es < inline_in (inbox es).given
 MayReceive room es Resume = resumes es < asks es
+MayReceive room es (Save k rest) = MaySave es k rest
+MayReceive room es (Saved k) = MayClose es k
 
--- Pass 0, the gate, polls, gives buffers back and asks for resumptions; pass 1, the reader of frames, pushes;
+-- Pass 0, the gate, polls, saves, gives buffers back and asks for resumptions; pass 1, the reader of frames, pushes;
 -- pass 2, the writer of control frames, tells credit and resumes. Both the first two add floating buffers.
 abbrev pub may_receive : ℕ → ReceiveEntry → Bool
 may_receive n (Push p backlog) = n == 1
@@ -113,6 +144,8 @@ may_receive n (Credit given) = n == 2
 may_receive n Shut = n == 1
 may_receive n Ask = n == 0
 may_receive n Resume = n == 2
+may_receive n (Save k rest) = n == 0
+may_receive n (Saved k) = n == 0
 
 -- A pass adds an entry of its own that may be added.
 abbrev pub MayReceiveAs : ℕ → List (ℕ × ReceiveEntry) → ℕ × ReceiveEntry → Type 0

@@ -1,20 +1,23 @@
 -- The laws of a channel's receiving end.
-use Rattle.std.specs.Prelude.{◌≡◌, ℕ, ◌+◌, ◌<◌, true, Bool, List, [], ◌∷◌, ◌++◌, map, length, option_to_list, None}
+use Rattle.std.specs.Prelude.{◌≡◌, ℕ, ◌+◌, ◌<◌, true, false, Bool, List, [], ◌∷◌, ◌++◌, map, length, option_map, option_to_list, Some, None}
+use Rattle.flow_defs.specs.declared.task.BarrierKind.{BarrierKind}
+use Rattle.flow_defs.specs.declared.parcel.Parcel.TheVariants.{Barrier}
 use Rattle.flow_defs.specs.Parcels.{data_of, barriers_of, has_end}
+use Rattle.flow_defs.specs.Barriers.{data_before, has_barrier}
 use Rattle.turn_cell.specs.History.{by}
 use Rattle.input_channel.specs.declared.entry.Gave.{Gave}
 use Rattle.input_channel.specs.declared.entry.ReceiveEntry.{ReceiveEntry}
-use Rattle.input_channel.specs.declared.entry.ReceiveEntry.TheVariants.{Push, Poll}
+use Rattle.input_channel.specs.declared.entry.ReceiveEntry.TheVariants.{Push, Poll, Save}
 use Rattle.input_channel.specs.declared.arrival.Arrival.{Arrival}
 use Rattle.input_channel.specs.declared.fault.AcceptFault.TheVariants.{OverCredit}
 use Rattle.input_channel.specs.Answers.{IsFault, refused, parcel_in, gave_of, given_by, IsAnswer}
 use Rattle.input_channel.specs.declared.polled.Polled.{Polled}
-use Rattle.input_channel.specs.Inboxes.{inbox, pushed, waiting, parcel_of, poll_gives}
+use Rattle.input_channel.specs.Inboxes.{inbox, pushed, waiting, parcel_of, poll_gives, polled_bytes, polled_behind, saved, has_save, IsSave}
 use Rattle.input_channel.specs.Counts.{free, numbers}
 use Rattle.turn_cell.specs.History.{IsHistory, entries_of}
 use Rattle.std.specs.List.{range_with_len}
-use Rattle.input_channel.specs.Legal.{MayReceive, MayReceiveAs, ReceivedByPasses, returned, polled_with, asks, credit_told}
-use Rattle.input_channel.specs.States.{ChannelState, opening, channel_next, ChannelStandsFor, Allows, exclusive_here}
+use Rattle.input_channel.specs.Legal.{MayReceive, MayReceiveAs, ReceivedByPasses, returned, polled_with, asks, credit_told, open_save}
+use Rattle.input_channel.specs.States.{OpenSave, ChannelState, opening, saved_bytes, channel_next, ChannelStandsFor, Allows, exclusive_here}
 
 -- ---- of every history
 
@@ -33,6 +36,33 @@ BarriersComeInOrder = (es : List ReceiveEntry) → barriers_of (inbox es).given 
 -- Once a channel was shut, nothing more is announced.
 abbrev pub ShutAnnouncesNothing : Type 0
 ShutAnnouncesNothing = (es more : List ReceiveEntry) → (numbers es).counts.shut ≡ true → (numbers (es ++ more)).announced ≡ (numbers es).announced
+
+-- ---- of the saves of every history
+
+-- What was polled before a save but for the rest, and then what is saved, are the data that came before the barrier.
+abbrev pub SavedCompletesPolled : Type 0
+SavedCompletesPolled =
+    (es before after : List ReceiveEntry) (k : ℕ) (rest kept : List ℕ) →
+    IsSave es k before rest after → polled_bytes before ≡ kept ++ rest → kept ++ saved k es ≡ data_before k (pushed es)
+
+-- A save is in time while its barrier was not polled, and once it was, while nothing was polled since.
+abbrev pub NotPolledIsInTime : Type 0
+NotPolledIsInTime = (es : List ReceiveEntry) (k : ℕ) → has_barrier k (inbox es).given ≡ false → polled_behind k (inbox es).arrivals ≡ []
+
+abbrev pub has_poll : List ReceiveEntry → Bool
+has_poll [] = false
+has_poll (Poll hold gave ∷ es) = true
+has_poll (e ∷ es) = has_poll es
+
+abbrev pub JustPolledIsInTime : Type 0
+JustPolledIsInTime =
+    (es more : List ReceiveEntry) (hold : Bool) (gave : Gave) (k : ℕ) (kind : BarrierKind) →
+    has_barrier k (inbox es).given ≡ false → poll_gives hold (waiting (inbox es).arrivals) ≡ Some (Barrier k kind) → has_poll more ≡ false →
+    polled_behind k (inbox (es ++ Poll hold gave ∷ more)).arrivals ≡ []
+
+-- What is saved stays once the barrier has come.
+abbrev pub SavedStays : Type 0
+SavedStays = (es more : List ReceiveEntry) (k : ℕ) → has_save k es ≡ true → has_barrier k (pushed es) ≡ true → saved k (es ++ more) ≡ saved k es
 
 -- ---- of every legal history
 
@@ -54,6 +84,11 @@ ArrivalsAreNumbered = (room : ℕ) (es : List ReceiveEntry) → IsHistory (MayRe
 abbrev pub EndIsGivenLast : Type 0
 EndIsGivenLast = (room : ℕ) (es : List ReceiveEntry) → IsHistory (MayReceive room) es → has_end (inbox es).given ≡ true →
     (waiting (inbox es).arrivals ≡ []) × (has_end (pushed es) ≡ true)
+
+-- An entry that opens a save is the save for its barrier.
+abbrev pub SavesAreLegal : Type 0
+SavesAreLegal =
+    (room : ℕ) (es before after : List ReceiveEntry) (k : ℕ) (rest : List ℕ) → IsHistory (MayReceive room) es → es ≡ before ++ Save k rest ∷ after → IsSave es k before rest after
 
 -- ---- of a channel and the history for which it stands
 
@@ -82,6 +117,13 @@ CallsAddEntries = (c : ChannelState) (pairs : List (ℕ × ReceiveEntry)) (n : �
 abbrev pub PollTells : Type 0
 PollTells = (c : ChannelState) (pairs : List (ℕ × ReceiveEntry)) (hold : Bool) (gave : Gave) → ChannelStandsFor c pairs →
     (inbox (entries_of pairs ++ Poll hold gave ∷ [])).given ≡ (inbox (entries_of pairs)).given ++ option_to_list (poll_gives hold c.queue)
+
+-- What an open save comes to is what the history saves; and which save is open is what the history tells.
+abbrev pub SavedTells : Type 0
+SavedTells = (c : ChannelState) (pairs : List (ℕ × ReceiveEntry)) (save : OpenSave) → ChannelStandsFor c pairs → c.save ≡ Some save → saved_bytes c save ≡ saved save.number (entries_of pairs)
+
+abbrev pub OpenSaveIsTold : Type 0
+OpenSaveIsTold = (c : ChannelState) (pairs : List (ℕ × ReceiveEntry)) → ChannelStandsFor c pairs → open_save (entries_of pairs) ≡ option_map (λ save. save.number) c.save
 
 -- An exclusive buffer that was given and has not come back is not there.
 abbrev pub ReturnFits : Type 0
@@ -122,6 +164,14 @@ pub record IsToldByGate (pairs : List (ℕ × ReceiveEntry)) : Type 0 where
 
 abbrev pub GateTellsBuffers : Type 0
 GateTellsBuffers = (pairs : List (ℕ × ReceiveEntry)) → ReceivedByPasses pairs → IsToldByGate pairs
+
+-- So are the saves that were opened, and the one that is open.
+pub record AreSavesTold (pairs : List (ℕ × ReceiveEntry)) : Type 0 where
+  pub saved : (k : ℕ) → has_save k (entries_of pairs) ≡ has_save k (by 0 pairs)
+  pub now : open_save (entries_of pairs) ≡ open_save (by 0 pairs)
+
+abbrev pub GateTellsSaves : Type 0
+GateTellsSaves = (pairs : List (ℕ × ReceiveEntry)) → ReceivedByPasses pairs → AreSavesTold pairs
 
 -- The credit that was told is told by those of pass 2.
 abbrev pub WriterTellsCredit : Type 0

@@ -1,26 +1,26 @@
 // The receiving end of a channel.
-ghost use Rattle.std.specs.Prelude.{◌≡◌, ◌+◌, ◌<◌, ◌≤◌, ◌^◌, ◌==◌, ◌↔◌, suc, true, false, [], ◌∷◌, length, Some, None, nat_lt, IsOk, IsSome, IfOk, IfErr, IfSome, OnOk, MatchBool};
+ghost use Rattle.std.specs.Prelude.{◌≡◌, ◌+◌, ◌<◌, ◌≤◌, ◌^◌, ◌==◌, ◌↔◌, suc, true, false, [], ◌∷◌, length, Some, None, option_map, is_some, nat_lt, IsOk, IsSome, IsNone, IfOk, IfErr, IfSome, IfNone, OnOk, OnErr, MatchBool};
 ghost use Rattle.circular_buffer.specs.Buffer.{buffer};
 ghost use Rattle.input_channel.specs.declared.entry.ReceiveEntry.TheVariants as entries;
 ghost use Rattle.input_channel.specs.Inboxes.{front_waits};
 ghost use Rattle.input_channel.specs.Counts.{free, floating_held, wants, told, lets_go};
 ghost use Rattle.input_channel.specs.Legal.{owes};
 ghost use Rattle.input_channel.specs.Kept.{empty_parts};
-ghost use Rattle.input_channel.specs.States.{opening, channel_next, exclusive_here, segments_here};
+ghost use Rattle.input_channel.specs.States.{opening, channel_next, exclusive_here, segments_here, polled_barriers, AllowsSave, IsOpen};
 ghost use Rattle.input_channel.specs.declared.arrival.ArrivalKind.TheVariants as kinds;
-ghost use Rattle.input_channel.specs.Answers.{parcel_in, kind_refused, refused, IsFault, gave_of, IsAnswer, IsAnswerable};
+ghost use Rattle.input_channel.specs.Answers.{parcel_in, kind_refused, refused, IsFault, gave_of, IsAnswer, GivesSaved, IsAnswerable};
 ghost use Rattle.input_channel.specs.Steps.{with_data_in, with_barrier_in, IsBarrierFault};
 
 use crate::arrival::{Arrival, ArrivalKind};
 use crate::entry::ReceiveEntry;
 use crate::fault::AcceptFault;
 use crate::held::HeldBuf;
-use crate::parts::Parts;
+use crate::parts::{Parts, Saving};
 use crate::polled::Polled;
 use crate::queue::Queue;
 use crate::segments::Segments;
 use circular_buffer::HeapCircularBuffer;
-use flow_defs::BarrierKind;
+use flow_defs::{BarrierKind, Bytes};
 use segment_pool::Segment;
 use std::alloc::{AllocError, Global};
 use std::marker::Model;
@@ -36,8 +36,9 @@ pub struct NoRoom {
 /// The receiving end of a channel, with its buffers and its credit.
 ///
 /// Contracts see it as a `ChannelState`. All its segments have one length. `accept` of a buffer or the
-/// end, `poll` and `recycle` take constant time and no memory; a barrier takes constant time over many
-/// calls. A front barrier is found without a walk past the data before it.
+/// end and `recycle` take constant time and no memory; a barrier and `poll` take constant time over many
+/// calls, but for the copy of the data that an open save gains. A front barrier is found without a walk
+/// past the data before it.
 #[derive(Drop)]
 pub struct InputChannel {
     parts: Box<Parts>,
@@ -64,6 +65,8 @@ fn empty_parts(alloc: Global, size: u32, room: u32) -> Result<Box<Parts>, AllocE
     let floating = HeapCircularBuffer::with_capacity(alloc, room as usize)?;
     let parts = Parts {
         queue,
+        reached: 0,
+        save: None,
         exclusive,
         floating,
         pending: 0,
@@ -243,9 +246,11 @@ impl InputChannel {
     }
 
     /// Gives what is due: the first barrier where that is front, and else what came first. With `hold`
-    /// barriers are held back. It never asks for memory.
+    /// barriers are held back. It takes memory only while a save is open, for data that came before the
+    /// barrier of that; where there is none, nothing changes.
     pub fn poll(&mut self, hold: bool) -> Result<Polled, AllocError>
-        ensures answered { IsOk result }
+        ensures answered { self.old.save ≡ None → IsOk result }
+        ensures kept { OnErr result (self.new ≡ self.old) }
         ensures answer { IfOk result (λ polled. IsAnswer hold self.old polled) }
         ensures answerable { IfOk result (λ polled. IsAnswerable polled self.new) }
         ensures channel { IfOk result (λ polled. self.new ≡ channel_next self.old (entries.Poll hold (gave_of polled))) }
@@ -259,7 +264,7 @@ impl InputChannel {
             parts.owed += owes(kind);
             return Ok(Polled::Barrier { k, kind });
         }
-        if let Some(buf) = parts.queue.pop_data() {
+        if let Some(buf) = parts.take_data()? {
             return Ok(Polled::Buffer(buf));
         }
         if parts.end_waits {
@@ -275,6 +280,80 @@ impl InputChannel {
     {
         let parts = &*self.parts;
         parts.queue.front_waits()
+    }
+
+    /// Begins to save, for barrier k, the data that came before it and were not polled: those that wait,
+    /// and those that come until the barrier does. `rest` is what was polled last of a record that is not
+    /// whole, in bytes; it stands first in what is saved. Saving beside what goes on is FLIP-76's.
+    ///
+    /// It copies the rest alone. The data are copied when they are polled, or by `saved`.
+    pub fn save(&mut self, alloc: Global, k: u64, rest: &[u8]) -> Result<(), AllocError>
+        requires { AllowsSave self.old k }
+        ensures saved { OnOk result (self.new ≡ channel_next self.old (entries.Save k rest.now)) }
+        ensures kept { OnErr result (self.new ≡ self.old) }
+    {
+        let bytes = Bytes::of(alloc, rest)?;
+        let parts = &mut *self.parts;
+        parts.save = Some(Saving { number: k, bytes });
+        Ok(())
+    }
+
+    /// What was saved for barrier k, once that has come, and `None` before. It closes the save. The data
+    /// that wait before the barrier are copied, and stay to be polled: for n bytes and m barriers in the
+    /// line it takes some n + m steps. An `Err` changes nothing.
+    pub fn saved(&mut self, alloc: Global, k: u64) -> Result<Option<Bytes>, AllocError>
+        requires { IsOpen self.old k }
+        ensures not_yet { IfOk result (λ bytes. IsNone bytes ↔ (self.old.last < k)) }
+        ensures none { IfOk result (λ bytes. IfNone bytes (self.new ≡ self.old)) }
+        ensures some { IfOk result (λ bytes. IfSome bytes (λ piece. GivesSaved self.old k piece.items self.new)) }
+        ensures kept { OnErr result (self.new ≡ self.old) }
+    {
+        let parts = &mut *self.parts;
+        if parts.last < k {
+            return Ok(None);
+        }
+        let bytes = parts.close(alloc, k)?;
+        Ok(Some(bytes))
+    }
+
+    /// Whether a save is open.
+    pub fn is_saving(&self) -> bool
+        ensures { result ≡ is_some self.now.save }
+    {
+        self.parts.save.is_some()
+    }
+
+    /// The barrier for which a save is open.
+    pub fn open_number(&self) -> Option<u64>
+        ensures { result ≡ option_map (λ save. save.number) self.now.save }
+    {
+        match &self.parts.save {
+            Some(saving) => Some(saving.number),
+            None => None,
+        }
+    }
+
+    /// How many barriers came before the data that were polled last. So a save for one of a higher number
+    /// is in time.
+    pub fn reached(&self) -> u64
+        ensures { result ≡ self.now.reached }
+    {
+        self.parts.reached
+    }
+
+    /// How many barriers were polled. They are the first ones that came.
+    pub fn polled_barriers(&self) -> u64
+        ensures { result ≡ polled_barriers self.now }
+    {
+        let parts = &*self.parts;
+        parts.last - parts.queue.waiting_barriers() as u64
+    }
+
+    /// The number of the last barrier that came, which is how many did.
+    pub fn last(&self) -> u64
+        ensures { result ≡ self.now.last }
+    {
+        self.parts.last
     }
 
     /// The length of the channel's segments, in bytes.

@@ -1,6 +1,7 @@
 // The entries that the history of a channel's receiving end is made of.
 
 use flow_defs::Parcel;
+use std::collections::LinkedList;
 use std::marker::Brand;
 use turn_cell::Named;
 
@@ -30,6 +31,10 @@ pub enum ReceiveEntry {
     Ask,
     /// A resumption was taken.
     Resume,
+    /// A save was opened for barrier k. `rest` is what was polled last of a record that is not whole.
+    Save { k: u64, rest: LinkedList<u8> },
+    /// The save for barrier k was closed.
+    Saved(u64),
 }
 
 impl Named<ReceiveEntry> for Brand {

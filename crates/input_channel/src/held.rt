@@ -25,6 +25,8 @@ fn put_first(whole: &mut [u8], bytes: &[u8])
 }
 
 impl HeldBuf {
+    ghost use Rattle.input_channel.specs.Contents.{content};
+
     // A buffer with these bytes in it.
     pub(crate) fn filled(mut segment: Segment, exclusive: bool, bytes: &[u8]) -> HeldBuf
         requires { length bytes.now ≤ length segment }
@@ -39,5 +41,12 @@ impl HeldBuf {
             len: len as u32,
             exclusive,
         }
+    }
+
+    // The data in it.
+    pub(crate) fn data(&self) -> &[u8]
+        ensures { result.now ≡ content self.now }
+    {
+        &self.segment.bytes()[..self.len as usize]
     }
 }

@@ -13,7 +13,7 @@ use Rattle.flow_defs.specs.Records.{all_encoded, IsShort}
 use Rattle.flow_defs.specs.declared.cause.Cause.{Cause}
 use Rattle.flow_defs.proofs.Lists.{head_same, tail_same}
 use Rattle.conn_parts.specs.Shares.{AreOwn, AreNew, seen_at, mine_at}
-use Rattle.input_channel.specs.Legal.{polled_with, returned, asks, inline_in, adds}
+use Rattle.input_channel.specs.Legal.{polled_with, returned, asks, inline_in, adds, open_save}
 use Rattle.outside.specs.declared.stop.StopEntry.{StopEntry}
 use Rattle.outside.specs.Stops.{first_met}
 use Rattle.input_gate.specs.declared.gate.GateItem.{GateItem}
@@ -116,7 +116,7 @@ module _ (size : ℕ) (c : InputCell) (p : InputPass) (l : Lane) (f : IsFreshLan
 
   pub lane_fresh : IsLane size l
   lane_fresh = record {
-    pass = (subst (λ cell. IsPassOf cell l.pass) (sym f.cell_is) (subst (IsPassOf c) (sym f.pass_is) pass), ap number f.pass_is ∙ first);
+    pass = (subst (λ cell. IsPassOf cell l.pass) (sym f.cell_is) (subst (IsPassOf c) (sym f.pass_is) pass), ap number f.pass_is ∙ first, ap open_save mine_none);
     size_is = ap (λ (cell : InputCell). (opened_with cell).size) f.cell_is ∙ fits;
     read = read_told _ _ _ read_none;
     count = f.barriers_are ∙ ap (λ ps. length (barriers_of ps)) (sym given_none);

@@ -13,7 +13,7 @@ use Rattle.flow_defs.specs.declared.task.BarrierKind.{BarrierKind}
 use Rattle.flow_defs.specs.declared.task.BarrierKind.TheVariants.{Inline, Front}
 use Rattle.flow_defs.specs.Parcels.{barriers_of}
 use Rattle.input_channel.specs.declared.entry.ReceiveEntry.{ReceiveEntry}
-use Rattle.input_channel.specs.declared.entry.ReceiveEntry.TheVariants.{Push, Poll, Returned, Added, Backlog, Credit, Shut, Ask, Resume}
+use Rattle.input_channel.specs.declared.entry.ReceiveEntry.TheVariants.{Push, Poll, Returned, Added, Backlog, Credit, Shut, Ask, Resume, Save, Saved}
 use Rattle.input_channel.specs.declared.entry.Gave.{Gave}
 use Rattle.input_channel.specs.declared.held.HeldBuf.{HeldBuf}
 use Rattle.input_channel.specs.declared.polled.Polled.{Polled}
@@ -21,10 +21,11 @@ use Rattle.input_channel.specs.declared.polled.Polled.TheVariants as answers
 use Rattle.input_channel.specs.Answers.{given_by, IsAnswer}
 use Rattle.input_channel.specs.Counts.{Counts, Numbers, at_opening, numbers, numbers_one, numbers_from, lets_go, frees, freed, freed_from}
 use Rattle.input_channel.specs.Inboxes.{inbox, Inbox, received_one, waiting, front_waits, due, first_barrier, poll_gives}
-use Rattle.input_channel.specs.Legal.{may_receive, ReceivedByPasses, polled_with, returned, asks, inline_in}
+use Rattle.input_channel.specs.Legal.{may_receive, ReceivedByPasses, open_from, open_save, polled_with, returned, asks, inline_in}
 use Rattle.input_channel.specs.States.{ChannelState, ChannelStandsFor, Allows, channel_next}
 use Rattle.input_channel.specs.Theorems.{CallsAreLegal, CallsAddEntries, PassesAreKept, EntriesAreLegal, PollTells, GivenStays, GateTellsBuffers, BarriersComeInOrder, ArrivalsAreNumbered, AnswerIsGiven}
 use Rattle.input_channel.proofs.InboxLaws.{inbox-more}
+use Rattle.input_channel.proofs.PassLaws.{none_saving, stays_closed}
 use Rattle.flow_defs.proofs.ParcelLemmas.{barriers_of-append}
 use Rattle.input_gate.specs.Segments.{freed_by}
 use Rattle.input_gate.specs.Turning.{InputPass, IsLater, EndsInPoll, given_in, given_to, looks_of, Fits, NoFront, Looked}
@@ -68,6 +69,8 @@ frees_none n c (Credit k) may apart = refl
 frees_none n c Shut may apart = refl
 frees_none n c Ask may apart = refl
 frees_none n c Resume may apart = refl
+frees_none n c (Save k rest) may apart = refl
+frees_none n c (Saved k) may apart = refl
 
 none_freed : (from : Numbers) (more : List (ℕ × ReceiveEntry)) → ReceivedByPasses more → by 0 more ≡ [] → freed_from from (entries_of more) ≡ 0
 none_freed from [] passes none = refl
@@ -110,6 +113,14 @@ pub record Begun (p t : InputPass) (state : ChannelState) : Type 0 where
 module _ (p t : InputPass) (state : ChannelState) (b : Begun p t state) where
   own_seen : by 0 (seen t) ≡ mine p
   own_seen = ap (λ n. by n (seen t)) (sym (b.same.0 ∙ b.first)) ∙ b.own ∙ b.same.1
+
+  -- No save is open, where the pass has none open.
+  pub begun_closed : open_save (mine p) ≡ None → state.save ≡ None
+  begun_closed none = none_saving state (seen t) b.stands (ap open_save own_seen ∙ none)
+
+  -- Nor behind an entry that opens none.
+  pub still_closed : (q : InputPass) (e : ReceiveEntry) → HasEntered e t q → open_save (mine p) ≡ None → open_from None (e ∷ []) ≡ None → open_save (mine q) ≡ None
+  still_closed q e h none quiet = ap open_save (h.2 ∙ ap (λ es. es ++ e ∷ []) b.same.1) ∙ stays_closed (mine p) e none quiet
 
   pub begun_given : GivenStays → PassesAreKept → given_in (seen t) ≡ given_in (seen p)
   begun_given stays kept = same_given stays (seen p) (seen t) (mine p) (kept state (seen t) b.stands) (ap (λ n. by n (seen p)) (sym b.first) ∙ b.own_before) own_seen b.later

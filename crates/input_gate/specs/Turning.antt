@@ -1,10 +1,10 @@
 -- What a turn of a gate at a channel does to its pass. Polls, and buffers that come back, are those of Flink's input channels; that they are
 -- told by the pass's own lists is this project's own choice.
-use Rattle.std.specs.Prelude.{◌≡◌, ℕ, zero, suc, Bool, false, List, [], ◌∷◌, ◌++◌, length}
+use Rattle.std.specs.Prelude.{◌≡◌, ℕ, zero, suc, Bool, false, List, [], ◌∷◌, ◌++◌, length, None}
 use Rattle.turn_cell.specs.declared.cell.TurnCell.{TurnCell}
 use Rattle.turn_cell.specs.declared.pass.Pass.{Pass}
 use Rattle.turn_cell.specs.History.{IsHistory, StartsWith, entries_of}
-use Rattle.turn_cell.specs.Passes.{IsPassOf, number, seen, sights}
+use Rattle.turn_cell.specs.Passes.{IsPassOf, mine, number, seen, sights}
 use Rattle.flow_defs.specs.declared.parcel.Parcel.{Parcel}
 use Rattle.flow_defs.specs.Parcels.{barriers_of}
 use Rattle.input_channel.specs.declared.entry.Gave.{Gave}
@@ -13,7 +13,7 @@ use Rattle.input_channel.specs.declared.entry.ReceiveEntry.TheVariants.{Poll}
 use Rattle.input_channel.specs.declared.polled.Polled.{Polled}
 use Rattle.input_channel.specs.declared.polled.Polled.TheVariants.{Buffer, Barrier, End, Empty, Held}
 use Rattle.input_channel.specs.Inboxes.{inbox, waiting, front_waits}
-use Rattle.input_channel.specs.Legal.{MayReceive, polled_with, returned}
+use Rattle.input_channel.specs.Legal.{MayReceive, open_save, polled_with, returned}
 use Rattle.input_channel.specs.States.{ChannelState}
 
 -- An input channel's cell, and a pass of it.
@@ -30,9 +30,9 @@ given_in history = (inbox (entries_of history)).given
 abbrev pub given_to : InputPass → List Parcel
 given_to pass = given_in (seen pass)
 
--- The gate's pass of the cell.
+-- The gate's pass of the cell. It has no save open.
 abbrev pub IsGatePass : InputCell → InputPass → Type 0
-IsGatePass cell pass = IsPassOf cell pass × (number pass ≡ 0)
+IsGatePass cell pass = IsPassOf cell pass × (number pass ≡ 0) × (open_save (mine pass) ≡ None)
 
 -- What a pass has seen, and what it saw at each of its looks.
 abbrev pub Looks : Type 0

@@ -5,7 +5,7 @@ use Rattle.input_channel.specs.declared.arrival.Arrival.{Arrival}
 use Rattle.input_channel.specs.declared.arrival.ArrivalKind.{ArrivalKind}
 use Rattle.input_channel.specs.declared.arrival.ArrivalKind.TheVariants as kinds
 use Rattle.input_channel.specs.declared.entry.ReceiveEntry.{ReceiveEntry}
-use Rattle.input_channel.specs.declared.entry.ReceiveEntry.TheVariants.{Push, Poll, Returned, Added, Backlog, Credit, Shut, Ask, Resume}
+use Rattle.input_channel.specs.declared.entry.ReceiveEntry.TheVariants.{Push, Poll, Returned, Added, Backlog, Credit, Shut, Ask, Resume, Save, Saved}
 use Rattle.input_channel.specs.declared.fault.AcceptFault.{AcceptFault}
 use Rattle.input_channel.specs.declared.fault.AcceptFault.TheVariants.{WrongSequence, AfterEnd, OverCredit, OverSize, WrongBarrier}
 use Rattle.input_channel.specs.Answers.{kind_refused, refused}
@@ -76,6 +76,8 @@ one_more n (Credit given) = omega arith
 one_more n Shut = omega arith
 one_more n Ask = omega arith
 one_more n Resume = omega arith
+one_more n (Save k rest) = omega arith
+one_more n (Saved k) = omega arith
 
 grows : (n : Numbers) (es : List ReceiveEntry) → n.announced ≤ (numbers_from n es).announced
 grows n [] = omega arith

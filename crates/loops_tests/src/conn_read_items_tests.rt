@@ -165,33 +165,42 @@ fn leave_poll<E: Named<ReceiveEntry>>(turn: Turn<InputChannel>, polled: &Polled)
 }
 
 // Polls in a turn of the gate.
-fn poll_one<R: Wait>(rt: &R, cell: &TurnCell<InputChannel>, pass: &mut Pass<InputChannel>) -> Seen
+fn poll_one<R: Wait>(
+    rt: &R,
+    cell: &TurnCell<InputChannel>,
+    pass: &mut Pass<InputChannel>,
+) -> Result<Seen, AllocError>
     requires { IsPassOf cell.now pass.old × (number pass.old ≡ 0) }
     ensures { IsPassOf cell.now pass.new × (number pass.new ≡ 0) }
 {
     channels_stand_for_histories();
     answers_tell();
     let mut turn = cell.enter(rt, pass);
-    let Ok(polled) = turn.state().poll(false) else {
-        unreachable!()
-    };
-    leave_poll::<Brand>(turn, &polled);
-    see(polled)
+    match turn.state().poll(false) {
+        Ok(polled) => {
+            leave_poll::<Brand>(turn, &polled);
+            Ok(see(polled))
+        }
+        Err(want) => {
+            turn.leave_as_is();
+            Err(want)
+        }
+    }
 }
 
 fn poll_five<R: Wait>(
     rt: &R,
     cell: &TurnCell<InputChannel>,
     pass: &mut Pass<InputChannel>,
-) -> [Seen; 5]
+) -> Result<[Seen; 5], AllocError>
     requires { IsPassOf cell.now pass.old × (number pass.old ≡ 0) }
 {
-    let first = poll_one(rt, cell, pass);
-    let second = poll_one(rt, cell, pass);
-    let third = poll_one(rt, cell, pass);
-    let fourth = poll_one(rt, cell, pass);
-    let fifth = poll_one(rt, cell, pass);
-    [first, second, third, fourth, fifth]
+    let first = poll_one(rt, cell, pass)?;
+    let second = poll_one(rt, cell, pass)?;
+    let third = poll_one(rt, cell, pass)?;
+    let fourth = poll_one(rt, cell, pass)?;
+    let fifth = poll_one(rt, cell, pass)?;
+    Ok([first, second, third, fourth, fifth])
 }
 
 // How many floating segments the channel wants still.
@@ -367,7 +376,7 @@ fn run<R: Wait + Abort>(
         ended,
         wants,
         credit,
-        seen: poll_five(rt, &inputs[0], &mut gate),
+        seen: poll_five(rt, &inputs[0], &mut gate)?,
     })
 }
 

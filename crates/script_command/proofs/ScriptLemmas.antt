@@ -7,7 +7,7 @@ use Rattle.std.proofs.lemmas.List.{reverse-append, reverse-reverse}
 use Rattle.script_text.specs.declared.event.Event.{Event}
 use Rattle.script_text.specs.declared.event.Script.{Script}
 use Rattle.script_text.specs.declared.reply.Reply.{Reply}
-use Rattle.script_text.specs.declared.reply.Reply.TheVariants.{Refused, Full, Done, Nothing, Absent, Queued, Frame, Announced, Accepted, Backlog, Credit, Granted, Resumed, Empty, Held, Barrier, SavedOut, End, Data, Pool}
+use Rattle.script_text.specs.declared.reply.Reply.TheVariants.{Refused, Full, Done, Nothing, Absent, Queued, Frame, Announced, Accepted, Backlog, Credit, Granted, Resumed, Empty, Held, Barrier, SavedOut, End, Data, NotYet, SavedIn, Pool}
 use Rattle.script_text.specs.Scripts.{IsEvent, IsOpening, line_of}
 use Rattle.script_text.specs.Replies.{printed, reply_lines, record_line, replies_text}
 use Rattle.exchange_world.specs.Worlds.{World, opened}
@@ -48,6 +48,8 @@ bare_lines (Held c) = refl
 bare_lines (Barrier c k kind) = refl
 bare_lines (SavedOut c k bytes) = refl
 bare_lines (End c) = refl
+bare_lines (NotYet c k) = refl
+bare_lines (SavedIn c k bytes) = refl
 bare_lines (Pool free lent) = refl
 
 -- ---- the events, in order

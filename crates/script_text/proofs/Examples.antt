@@ -4,11 +4,11 @@ use Rattle.std.specs.Prelude.{codes}
 use Rattle.std.specs.Fmt.{digits}
 use Rattle.flow_defs.specs.Items.{Items}
 use Rattle.flow_defs.specs.Lines.{lines}
-use Rattle.script_text.specs.declared.event.Event.TheVariants.{Emit, Barrier, Pool}
+use Rattle.script_text.specs.declared.event.Event.TheVariants.{Emit, Barrier, Save, Saved, Pool}
 use Rattle.flow_defs.specs.declared.task.BarrierKind.TheVariants.{Inline, Front}
 use Rattle.hex.specs.Hex.{encode_with}
 use Rattle.credit_reader.specs.declared.reader.SentKind.TheVariants as sent
-use Rattle.script_text.specs.declared.reply.Reply.TheVariants.{Queued, Frame, SavedOut, Data}
+use Rattle.script_text.specs.declared.reply.Reply.TheVariants.{Queued, Frame, SavedOut, Data, NotYet, SavedIn}
 use Rattle.script_text.specs.Scripts.{open_line, event_line}
 use Rattle.script_text.specs.ScriptFaults.{IsFirstBadLine}
 use Rattle.script_text.specs.Replies.{replies_text}
@@ -35,9 +35,13 @@ front_barrier : event_line (Barrier 3 1 Front) ≡ codes "barrier 3 1 front"
 unfolding digits
 front_barrier = refl
 
+saves : event_line (Save 3 1) ∷ event_line (Saved 3 18446744073709551615) ∷ [] ≡ codes "save 3 1" ∷ codes "saved 3 18446744073709551615" ∷ []
+unfolding digits
+saves = refl
+
 -- ---- first bad lines
 
-whole : bad_line (lines (codes "open 1 64 4\nfill 1 0\nbarrier 1 1 inline\nbarrier 1 2 front")) ≡ None
+whole : bad_line (lines (codes "open 1 64 4\nfill 1 0\nbarrier 1 1 inline\nbarrier 1 2 front\nsave 1 2\nsaved 1 2")) ≡ None
 unfolding digits
 whole = refl
 
@@ -52,6 +56,10 @@ leading_zero : IsFirstBadLine (codes "open 1 64 4\npool\npoll 01\npool\n") 3
 unfolding digits
 leading_zero = first_bad_found (codes "open 1 64 4\npool\npoll 01\npool\n") 3 refl
 
+checkpoint_0 : IsFirstBadLine (codes "open 1 64 4\nsave 1 1\nsaved 1 0\n") 3
+unfolding digits
+checkpoint_0 = first_bad_found (codes "open 1 64 4\nsave 1 1\nsaved 1 0\n") 3 refl
+
 few_bytes : IsFirstBadLine (codes "open 1 63 4\n") 1
 unfolding digits
 few_bytes = first_bad_found (codes "open 1 63 4\n") 1 refl
@@ -62,6 +70,7 @@ printed_replies : replies_text (Queued 1 3 ∷ Frame 1 0 sent.Buffer 5 2 ∷ Dat
 unfolding digits
 printed_replies = refl
 
-saved_bytes : replies_text (SavedOut 1 2 (bytes (0 ∷ 10 ∷ 255 ∷ [])) ∷ SavedOut 1 3 (bytes []) ∷ []) ≡ codes "saved_out 1 2 000aff\nsaved_out 1 3 -\n"
+saved_bytes : replies_text (SavedOut 1 2 (bytes (0 ∷ 10 ∷ 255 ∷ [])) ∷ SavedOut 1 3 (bytes []) ∷ NotYet 1 2 ∷ SavedIn 1 2 (bytes (10 ∷ [])) ∷ SavedIn 1 3 (bytes []) ∷ [])
+    ≡ codes "saved_out 1 2 000aff\nsaved_out 1 3 -\nnot yet 1 2\nsaved_in 1 2 0a\nsaved_in 1 3 -\n"
 unfolding digits encode_with
 saved_bytes = refl

@@ -9,7 +9,7 @@ use Rattle.script_text.specs.declared.event.TheConstants.{CHANNELS_MAX, SIZE_MIN
 use Rattle.flow_defs.specs.declared.task.BarrierKind.{BarrierKind}
 use Rattle.flow_defs.specs.declared.task.BarrierKind.TheVariants.{Inline, Front}
 use Rattle.script_text.specs.declared.event.Event.{Event}
-use Rattle.script_text.specs.declared.event.Event.TheVariants.{Emit, Fill, Barrier, Finish, Send, Announce, Deliver, Credit, Resume, Control, Poll, Hold, Pool}
+use Rattle.script_text.specs.declared.event.Event.TheVariants.{Emit, Fill, Barrier, Finish, Send, Announce, Deliver, Credit, Resume, Control, Poll, Hold, Save, Saved, Pool}
 use Rattle.script_text.specs.declared.lines.Opening.{Opening}
 use Rattle.script_text.specs.Scripts.{IsText, IsChannel, IsEvent, IsOpening, open_line, kind_word, event_line, contents}
 use Rattle.script_text.specs.Reading.{cut, number_of, is_text, bare_event, channel_event, emit_event, kind_of, barrier_event, long_event, event_behind, event_rest, event_of, opening_by, opening_behind, opening_rest, opening_of}
@@ -135,8 +135,26 @@ module _ (channels : ℕ) (word : List ℕ) (c : ℕ) (rest : List ℕ) (e : Eve
         ]
   ]
 
+  abbrev Spells : List ℕ → (ℕ → Event) → ℕ → Type 0
+  Spells text event k = IsEvent channels (event k) × (text ++ 32 ∷ (decimal c ++ 32 ∷ decimal k) ≡ event_line (event k))
+
+  checkpoint_known : (text : List ℕ) (event : ℕ → Event) → ((k : ℕ) → 1 ≤ k → k < 2 ^ 64 → Spells text event k) → word ≡ text → option_map event (number_of 1 (2 ^ 64 - 1) rest) ≡ Some e → Known e
+  checkpoint_known text event spells is found = elim (number_cases (number_of 1 (2 ^ 64 - 1) rest)) [
+    | inl none ↦ none_left Known word e (ap (option_map event) (sym none) ∙ found)
+    | inr some ↦
+        let known = number_known 1 (2 ^ 64 - 1) some.0 rest some.1 in
+        let high = known.2 in
+        let spelled = spells some.0 known.1 (omega (arith, high)) in
+        this_one Known word e text (event some.0) (spelled.0, on text (decimal some.0) is known.0 ∙ spelled.1) (ap (option_map event) (sym some.1) ∙ found)
+  ]
+
   long_known : long_event word c rest ≡ Some e → Known e
-  long_known = either Known word e (codes "emit") _ _ emit_known (either Known word e (codes "fill") _ _ fill_known (either Known word e (codes "barrier") _ _ (λ is. barrier_known is (cut rest).0 (cut rest).1 (sym (joined_cut rest))) (none_left Known word e)))
+  long_known =
+      either Known word e (codes "emit") _ _ emit_known
+      (either Known word e (codes "fill") _ _ fill_known
+      (either Known word e (codes "barrier") _ _ (λ is. barrier_known is (cut rest).0 (cut rest).1 (sym (joined_cut rest)))
+      (either Known word e (codes "save") _ _ (checkpoint_known (codes "save") (λ k. Save c k) (λ k low high. ((channel, low, high), refl)))
+      (either Known word e (codes "saved") _ _ (checkpoint_known (codes "saved") (λ k. Saved c k) (λ k low high. ((channel, low, high), refl))) (none_left Known word e)))))
 
 -- ---- any line
 
@@ -200,6 +218,8 @@ module _ (channels : ℕ) (few : channels ≤ CHANNELS_MAX) where
   event_spelled Control is = refl
   event_spelled (Poll c) is = with_channel (codes "poll") refl c is
   event_spelled (Hold c) is = with_channel (codes "hold") refl c is
+  event_spelled (Save c k) is = let fits = is.2 in with_rest (codes "save") refl c is.0 (decimal k) ∙ ap (option_map (λ n. Save c n)) (number_spelled 1 (2 ^ 64 - 1) k fits is.1 (omega (arith, fits)))
+  event_spelled (Saved c k) is = let fits = is.2 in with_rest (codes "saved") refl c is.0 (decimal k) ∙ ap (option_map (λ n. Saved c n)) (number_spelled 1 (2 ^ 64 - 1) k fits is.1 (omega (arith, fits)))
   event_spelled Pool is = refl
 
 -- ---- the first line

@@ -8,7 +8,7 @@ use Rattle.flow_defs.specs.declared.task.BarrierKind.TheVariants.{Inline, Front}
 use Rattle.script_text.specs.Limits.{text_max, channels_max}
 use Rattle.flow_defs.specs.Limits.{segment_min, segment_max, segments_max, record_max}
 use Rattle.script_text.specs.declared.event.Event.{Event}
-use Rattle.script_text.specs.declared.event.Event.TheVariants.{Emit, Fill, Barrier, Finish, Send, Announce, Deliver, Credit, Resume, Control, Poll, Hold, Pool}
+use Rattle.script_text.specs.declared.event.Event.TheVariants.{Emit, Fill, Barrier, Finish, Send, Announce, Deliver, Credit, Resume, Control, Poll, Hold, Save, Saved, Pool}
 use Rattle.script_text.specs.declared.fault.ScriptFault.{ScriptFault}
 use Rattle.script_text.specs.declared.fault.ScriptFault.TheVariants.{Line, Memory}
 use Rattle.script_text.specs.declared.lines.EventLine.{EventLine}
@@ -99,6 +99,8 @@ long_event word c rest =
     if bytes_eq word (codes "emit") then emit_event c rest
     else if bytes_eq word (codes "fill") then option_map (λ n. Fill c n) (number_of 0 record_max rest)
     else if bytes_eq word (codes "barrier") then barrier_event c (cut rest).0 (cut rest).1
+    else if bytes_eq word (codes "save") then option_map (λ k. Save c k) (number_of 1 (2 ^ 64 - 1) rest)
+    else if bytes_eq word (codes "saved") then option_map (λ k. Saved c k) (number_of 1 (2 ^ 64 - 1) rest)
     else None
 
 abbrev pub event_behind : List ℕ → Option ℕ → Option (List ℕ) → Option Event

@@ -1,12 +1,12 @@
 -- The lines that tell replies. Their texts are this project's own choice; what they tell of, frames,
--- backlog, credit and barriers, is Flink's credit-based flow control.
+-- backlog, credit and barriers, is Flink's credit-based flow control, and what is saved is FLIP-76's.
 use Rattle.std.specs.Prelude.{ℕ, List, [], ◌∷◌, ◌++◌, length, map, flat_map, codes, decimal}
 use Rattle.flow_defs.specs.Items.{Items}
 use Rattle.hex.specs.Hex.{encode_lower}
 use Rattle.credit_reader.specs.declared.reader.SentKind.{SentKind}
 use Rattle.credit_reader.specs.declared.reader.SentKind.TheVariants as sent
 use Rattle.script_text.specs.declared.reply.Reply.{Reply}
-use Rattle.script_text.specs.declared.reply.Reply.TheVariants.{Refused, Full, Done, Nothing, Absent, Queued, Frame, Announced, Accepted, Backlog, Credit, Granted, Resumed, Empty, Held, Barrier, SavedOut, End, Data, Pool}
+use Rattle.script_text.specs.declared.reply.Reply.TheVariants.{Refused, Full, Done, Nothing, Absent, Queued, Frame, Announced, Accepted, Backlog, Credit, Granted, Resumed, Empty, Held, Barrier, SavedOut, End, Data, NotYet, SavedIn, Pool}
 use Rattle.script_text.specs.Scripts.{line_of, kind_word}
 
 -- How what a frame carries is spelled.
@@ -42,6 +42,8 @@ reply_words (Barrier c k kind) = codes "barrier" ∷ decimal c ∷ decimal k ∷
 reply_words (SavedOut c k bytes) = codes "saved_out" ∷ decimal c ∷ decimal k ∷ bytes_word bytes.items ∷ []
 reply_words (End c) = codes "end" ∷ decimal c ∷ []
 reply_words (Data c len records) = codes "data" ∷ decimal c ∷ decimal len ∷ decimal (length records.items) ∷ []
+reply_words (NotYet c k) = codes "not yet" ∷ decimal c ∷ decimal k ∷ []
+reply_words (SavedIn c k bytes) = codes "saved_in" ∷ decimal c ∷ decimal k ∷ bytes_word bytes.items ∷ []
 reply_words (Pool free lent) = codes "pool" ∷ decimal free ∷ decimal lent ∷ []
 
 -- The line of a record that became whole on a channel.

@@ -8,7 +8,7 @@ use Rattle.flow_defs.specs.declared.task.BarrierKind.TheVariants.{Inline, Front}
 use Rattle.script_text.specs.Limits.{channels_max, text_max}
 use Rattle.flow_defs.specs.Limits.{segment_min, segment_max, segments_max, record_max}
 use Rattle.script_text.specs.declared.event.Event.{Event}
-use Rattle.script_text.specs.declared.event.Event.TheVariants.{Emit, Fill, Barrier, Finish, Send, Announce, Deliver, Credit, Resume, Control, Poll, Hold, Pool}
+use Rattle.script_text.specs.declared.event.Event.TheVariants.{Emit, Fill, Barrier, Finish, Send, Announce, Deliver, Credit, Resume, Control, Poll, Hold, Save, Saved, Pool}
 use Rattle.script_text.specs.declared.event.Script.{Script}
 
 -- The line of these words: there is one space between two of them.
@@ -40,6 +40,8 @@ event_words (Resume c) = codes "resume" ∷ decimal c ∷ []
 event_words Control = codes "control" ∷ []
 event_words (Poll c) = codes "poll" ∷ decimal c ∷ []
 event_words (Hold c) = codes "hold" ∷ decimal c ∷ []
+event_words (Save c k) = codes "save" ∷ decimal c ∷ decimal k ∷ []
+event_words (Saved c k) = codes "saved" ∷ decimal c ∷ decimal k ∷ []
 event_words Pool = codes "pool" ∷ []
 
 -- The line of an event.
@@ -80,6 +82,8 @@ IsEvent channels (Resume c) = IsChannel channels c
 IsEvent channels Control = Unit {0}
 IsEvent channels (Poll c) = IsChannel channels c
 IsEvent channels (Hold c) = IsChannel channels c
+IsEvent channels (Save c k) = IsChannel channels c × (1 ≤ k) × (k < 2 ^ 64)
+IsEvent channels (Saved c k) = IsChannel channels c × (1 ≤ k) × (k < 2 ^ 64)
 IsEvent channels Pool = Unit {0}
 
 -- The text is of this script: it has the script's lines, the last of them with or without its newline,

@@ -50,6 +50,11 @@ pub enum Event {
     Poll { c: u32 },
     /// The receiver takes an item of a channel, unless it is a barrier.
     Hold { c: u32 },
+    /// The receiver begins to save for checkpoint k what comes on a channel before its barrier and was in no
+    /// record so far.
+    Save { c: u32, k: u64 },
+    /// The receiver asks for what it has saved of a channel for checkpoint k.
+    Saved { c: u32, k: u64 },
     /// The segments are counted.
     Pool,
 }

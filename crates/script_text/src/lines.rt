@@ -122,6 +122,12 @@ fn long_event<'a>(word: &[u8], c: u32, rest: &'a [u8]) -> Option<EventLine<'a>>
         Event::Fill { c, n }
     } else if is(word, "barrier") {
         barrier_event(c, rest)?
+    } else if is(word, "save") {
+        let k = long_number_of(rest, 1, u64::MAX)?;
+        Event::Save { c, k }
+    } else if is(word, "saved") {
+        let k = long_number_of(rest, 1, u64::MAX)?;
+        Event::Saved { c, k }
     } else {
         return None;
     };

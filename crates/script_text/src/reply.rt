@@ -96,6 +96,17 @@ pub enum Reply {
         len: u32,
         records: ListOf<Bytes>,
     },
+    /// Checkpoint k's barrier has not come, so what is saved for it is not all there.
+    NotYet {
+        c: u32,
+        k: u64,
+    },
+    /// These bytes were saved of the channel for checkpoint k.
+    SavedIn {
+        c: u32,
+        k: u64,
+        bytes: Bytes,
+    },
     /// So many segments are free, and so many lent.
     Pool {
         free: u32,
@@ -195,6 +206,20 @@ fn add_reply(reply: &Reply, out: &mut ListOf<u8>) -> Result<(), AllocError>
         ),
         Reply::End { c } => add_line(out, "end", &[number(*c)]),
         Reply::Data { c, len, records } => add_data(out, *c, *len, records.as_slice()),
+        Reply::NotYet { c, k } => {
+            add_line(out, "not yet", &[number(*c), Part::Number { number: *k }])
+        }
+        Reply::SavedIn { c, k, bytes } => add_line(
+            out,
+            "saved_in",
+            &[
+                number(*c),
+                Part::Number { number: *k },
+                Part::Saved {
+                    bytes: bytes.as_slice(),
+                },
+            ],
+        ),
         Reply::Pool { free, lent } => add_line(out, "pool", &[number(*free), number(*lent)]),
     }
 }

@@ -15,7 +15,7 @@ use Rattle.subpartition.specs.declared.item.Item.TheVariants.{Buffer, Barrier, E
 use Rattle.turn_cell.specs.History.{IsHistory, entries_of}
 use Rattle.turn_cell.proofs.Histories.{history_nil, history_more, entries_of-append}
 use Rattle.flow_defs.specs.Parcels.{data_of}
-use Rattle.subpartition.specs.Barriers.{is_barrier, up_to_last, behind_last}
+use Rattle.flow_defs.specs.Barriers.{is_barrier, up_to_last, behind_last}
 use Rattle.subpartition.specs.Sending.{Outbox, overtaken, with_front, take_first, sent_one, outbox, barriers_put, is_finished, filled_to, MaySend, may_send, MaySendAs}
 use Rattle.subpartition.specs.Queues.{Queue, HasLength, bytes_of, parcel_of, is_mark, data_in, overtaken_in, with_buffer, with_barrier, with_front_barrier, with_end, without_first, filling_to}
 use Rattle.subpartition.specs.Standing.{QueueStandsFor}

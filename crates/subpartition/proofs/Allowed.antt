@@ -8,7 +8,7 @@ use Rattle.flow_defs.specs.declared.parcel.Parcel.{Parcel}
 use Rattle.flow_defs.specs.declared.parcel.Parcel.TheVariants.{Data, Barrier, End}
 use Rattle.flow_defs.specs.Parcels.{barriers_of, has_end}
 use Rattle.std.specs.List.{list_any}
-use Rattle.subpartition.specs.Barriers.{has_barrier}
+use Rattle.flow_defs.specs.Barriers.{has_barrier}
 use Rattle.flow_defs.proofs.Lists.{count-next}
 use Rattle.subpartition.specs.declared.entry.SendEntry.{SendEntry}
 use Rattle.subpartition.specs.declared.entry.SendEntry.TheVariants.{Put, PutInline, PutFront, Finish, Take, Size}

@@ -6,7 +6,7 @@ use Rattle.std.proofs.lemmas.Bool.{lt-ltb}
 use Rattle.std.proofs.Math.Seq.{take-append_seam, drop-append_seam}
 use Rattle.circular_buffer.specs.Buffer.{Buffer, buffer}
 use Rattle.std.proofs.lemmas.Option.{same_Some}
-use Rattle.subpartition.specs.Barriers.{up_to_last, behind_last}
+use Rattle.flow_defs.specs.Barriers.{up_to_last, behind_last}
 
 module _ {X : Type 0} (test : X → Bool) where
   pub or_true : (b : Bool) → (b || true) ≡ true

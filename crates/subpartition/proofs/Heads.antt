@@ -12,7 +12,7 @@ use Rattle.flow_defs.proofs.Lists.{cancel_nil}
 use Rattle.flow_defs.proofs.ParcelLemmas.{has_end-append}
 use Rattle.subpartition.specs.declared.entry.SendEntry.{SendEntry}
 use Rattle.subpartition.specs.declared.entry.SendEntry.TheVariants.{Put, PutInline, PutFront, Finish, Take, Size}
-use Rattle.subpartition.specs.Barriers.{is_barrier, up_to_last, behind_last}
+use Rattle.flow_defs.specs.Barriers.{is_barrier, up_to_last, behind_last}
 use Rattle.subpartition.specs.Sending.{Outbox, with_front, sent_one, outbox, is_finished, MaySend, may_send, MaySendAs}
 use Rattle.subpartition.specs.Theorems.{FirstStays, FirstItemStays}
 use Rattle.subpartition.proofs.Travelling.{empty_outbox, sent_from-append, end_travels}

@@ -1,6 +1,5 @@
 pub mod Items
 pub mod Fronts
-pub mod BarrierLemmas
 pub mod Travelling
 pub mod Allowed
 pub mod Telling

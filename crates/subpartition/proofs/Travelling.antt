@@ -10,10 +10,10 @@ use Rattle.flow_defs.proofs.ParcelLemmas.{data_of-append, barriers_of-append, ha
 use Rattle.turn_cell.specs.History.{StartsWith}
 use Rattle.subpartition.specs.declared.entry.SendEntry.{SendEntry}
 use Rattle.subpartition.specs.declared.entry.SendEntry.TheVariants.{Put, PutInline, PutFront, Finish, Take, Size}
-use Rattle.subpartition.specs.Barriers.{data_before, has_barrier, is_barrier, up_to_last, behind_last, kind_of}
+use Rattle.flow_defs.specs.Barriers.{data_before, has_barrier, is_barrier, up_to_last, behind_last, kind_of}
 use Rattle.subpartition.specs.Sending.{Outbox, with_front, take_first, sent_one, sent_from, outbox, taken, parcels_put, put, put_before, barriers_put, overtaken, overtaken_from, is_finished}
 use Rattle.subpartition.specs.Theorems.{DataTravelInOrder, DataAreTakenOrLeft, BarrierSplitsData, InlineOvertakesNothing, PutStays, BarriersTravelInOrder, EndTravels, TakenGrows}
-use Rattle.subpartition.proofs.BarrierLemmas.{has_barrier-append, data_before-past, data_before-within, data_before-none, bare-has_barrier, bare-barriers_of}
+use Rattle.flow_defs.proofs.BarrierLemmas.{has_barrier-append, data_before-past, data_before-within, data_before-none, bare-has_barrier, bare-barriers_of}
 use Rattle.subpartition.proofs.Fronts.{cut_in_two, none_behind}
 
 abbrev pub empty_outbox : Outbox

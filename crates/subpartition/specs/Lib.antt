@@ -1,4 +1,3 @@
-pub mod Barriers
 pub mod Sending
 pub mod Queues
 pub mod Standing

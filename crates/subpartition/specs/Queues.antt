@@ -7,7 +7,7 @@ use Rattle.flow_defs.specs.declared.task.Head.TheVariants.{Nothing, Buffer as Bu
 use Rattle.flow_defs.specs.declared.parcel.Parcel.{Parcel}
 use Rattle.flow_defs.specs.declared.parcel.Parcel.TheVariants.{Data, Barrier, End}
 use Rattle.flow_defs.specs.Parcels.{data_of}
-use Rattle.subpartition.specs.Barriers.{is_barrier, up_to_last, behind_last}
+use Rattle.flow_defs.specs.Barriers.{is_barrier, up_to_last, behind_last}
 use Rattle.subpartition.specs.declared.item.Filled.{Filled}
 use Rattle.subpartition.specs.declared.item.Item.{Item}
 use Rattle.subpartition.specs.declared.item.Item.TheVariants.{Buffer, Barrier as BarrierItem, End as EndItem}

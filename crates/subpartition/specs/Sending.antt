@@ -11,7 +11,7 @@ use Rattle.flow_defs.specs.Limits.{segment_min}
 use Rattle.flow_defs.specs.Parcels.{data_of, barriers_of, has_end}
 use Rattle.subpartition.specs.declared.entry.SendEntry.{SendEntry}
 use Rattle.subpartition.specs.declared.entry.SendEntry.TheVariants.{Put, PutInline, PutFront, Finish, Take, Size}
-use Rattle.subpartition.specs.Barriers.{data_before, is_barrier, up_to_last, behind_last}
+use Rattle.flow_defs.specs.Barriers.{data_before, is_barrier, up_to_last, behind_last}
 use Rattle.turn_cell.specs.History.{entries_of}
 
 -- What was taken, in order, and what is left.

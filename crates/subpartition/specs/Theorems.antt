@@ -8,7 +8,7 @@ use Rattle.turn_cell.specs.History.{by, StartsWith}
 use Rattle.flow_defs.specs.Limits.{segment_min}
 use Rattle.subpartition.specs.declared.entry.SendEntry.{SendEntry}
 use Rattle.subpartition.specs.declared.entry.SendEntry.TheVariants.{Put, PutInline, PutFront, Finish, Take, Size}
-use Rattle.subpartition.specs.Barriers.{data_before, has_barrier, kind_of}
+use Rattle.flow_defs.specs.Barriers.{data_before, has_barrier, kind_of}
 use Rattle.subpartition.specs.declared.item.Filled.{Filled}
 use Rattle.subpartition.specs.declared.item.Item.{Item}
 use Rattle.turn_cell.specs.History.{IsHistory, entries_of}

@@ -1,7 +1,7 @@
 // What stands to be sent on a channel.
 ghost use Rattle.std.specs.Prelude.{◌≡◌, ◌≤◌, ◌<◌, [], ◌∷◌, ◌++◌, length, take, drop, IfOk};
 ghost use Rattle.circular_buffer.specs.Buffer.{buffer};
-ghost use Rattle.subpartition.specs.Barriers.{behind_last};
+ghost use Rattle.flow_defs.specs.Barriers.{behind_last};
 ghost use Rattle.subpartition.specs.Queues.{data_in, is_mark};
 
 use crate::item::{Filled, Item};

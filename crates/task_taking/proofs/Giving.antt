@@ -6,7 +6,7 @@ use Rattle.channel_cut.specs.Cuts.{Cut}
 use Rattle.channel_cut.proofs.Taking.{many_with}
 use Rattle.gate_account.specs.Accounts.{Account}
 use Rattle.gate_account.specs.Aligning.{gave_at, weight}
-use Rattle.gate_account.proofs.InStep.{none_any}
+use Rattle.gate_account.proofs.InStep.{none_gave}
 use Rattle.gate_account.proofs.Takings.{has_unsent, barriers_at_snapshot}
 use Rattle.task_taking.specs.Takings.{Taking, Gave, HasTaken, IsAtBarrier, start_of}
 use Rattle.task_taking.specs.Endings.{EachTold}
@@ -28,5 +28,5 @@ module _ (job : Job) (e b : ℕ) (gate : Account) (shows : ℕ → Cut → Type 
 
   pub resumed_is_told : HasTaken job e b gate shows t (groups ++ took ∷ []) [] → is_open t.alignment ≡ false → EachTold gate (suc (length groups))
   resumed_is_told has closed c low =
-      has.taking.step.barriers c low ∙ ap (λ w. t.alignment.closed + weight w) (none_any t.alignment.gave c closed) ∙ (let e : t.alignment.closed + 0 ≡ t.alignment.closed = omega arith in e)
+      has.taking.step.barriers c low ∙ ap (λ w. t.alignment.closed + weight w) (none_gave t.alignment c closed) ∙ (let e : t.alignment.closed + 0 ≡ t.alignment.closed = omega arith in e)
       ∙ sym has.taking.counted ∙ many_with groups took

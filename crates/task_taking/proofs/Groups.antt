@@ -107,9 +107,9 @@ module _ (job : Job) (e b : ℕ) (before after : Account) (shows shown : ℕ →
 
   -- ---- a barrier
 
-  module _ (c k : ℕ) (answer : GaveBarrier before after shown (is_open t.alignment) c k Inline) (now : t'.alignment ≡ alignment_next t.alignment (barrier c k)) (runs : t'.runs ≡ t.runs) where
+  module _ (c k : ℕ) (answer : GaveBarrier before after shown (is_open t.alignment) c k Inline) (now : t'.alignment ≡ alignment_next t.alignment (barrier c k Inline)) (runs : t'.runs ≡ t.runs) where
     -- others of its checkpoint are to come
-    pub taken_block : is_last t.alignment (barrier c k) ≡ false → HasTaken job e b after shown t' groups took
+    pub taken_block : is_last t.alignment (barrier c k Inline) ≡ false → HasTaken job e b after shown t' groups took
     taken_block others = record {
       takes_for = for_same job e b before after t t' channels same was.takes_for;
       taking = subst (λ (a : Alignment). IsTaking after shown start a groups took) (sym now) (takes_barrier before after shows shown kept channels start t.alignment groups took was.taking c k answer others);
@@ -117,7 +117,7 @@ module _ (job : Job) (e b : ℕ) (before after : Account) (shows shown : ℕ →
     }
 
     -- it is the last one of its checkpoint
-    pub at_barrier : is_last t.alignment (barrier c k) ≡ true → IsAtBarrier job e b after shown t' groups took
+    pub at_barrier : is_last t.alignment (barrier c k Inline) ≡ true → IsAtBarrier job e b after shown t' groups took
     at_barrier last = record {
       takes_for = for_same job e b before after t t' channels same was.takes_for;
       at = subst (λ (a : Alignment). IsAtSnapshot after shown start a (groups ++ took ∷ [])) (sym now) (takes_last_barrier before after shows shown kept channels start t.alignment groups took was.taking c k answer last);

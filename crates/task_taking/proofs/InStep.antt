@@ -29,14 +29,14 @@ module _ (before after : Account) (t t' : Taking) (channels : after.channels ≡
   }
 
   -- a barrier
-  module _ (was : IsInStep before t) (c k : ℕ) (next : IsNext before after (is_open t.alignment) c k) (gave : GaveOf before after c [] ((k, Inline) ∷ [])) (now : t'.alignment ≡ alignment_next t.alignment (barrier c k)) where
-    pub step_block : is_last t.alignment (barrier c k) ≡ false → IsInStep after t'
+  module _ (was : IsInStep before t) (c k : ℕ) (next : IsNext before after (is_open t.alignment) c k) (gave : GaveOf before after c [] ((k, Inline) ∷ [])) (now : t'.alignment ≡ alignment_next t.alignment (barrier c k Inline)) where
+    pub step_block : is_last t.alignment (barrier c k Inline) ≡ false → IsInStep after t'
     step_block others = record {
       channels = many was.channels;
       step = subst (λ (a : Alignment). aligning.IsInStep after a) (sym now) (block_is_in_step before after t.alignment c k was.step others channels next gave);
     }
 
-    pub all_blocked : is_last t.alignment (barrier c k) ≡ true → is_open t'.alignment ≡ false → AllBlocked after t'
+    pub all_blocked : is_last t.alignment (barrier c k Inline) ≡ true → is_open t'.alignment ≡ false → AllBlocked after t'
     all_blocked last closed = record {
       channels = many was.channels;
       step = subst (λ (a : Alignment). IsInStepWhere after a (λ d. true)) (sym now) (close_is_in_step before after t.alignment c k was.step last channels next gave);
@@ -44,8 +44,8 @@ module _ (before after : Account) (t t' : Taking) (channels : after.channels ≡
     }
 
 -- a barrier that the gate gives is one that the alignment waits for
-pub may_give : (before after : Account) (t : Taking) → IsInStep before t → (c k : ℕ) → c < before.channels → IsNext before after (is_open t.alignment) c k → MayGive t.alignment (barrier c k)
-may_give before after t was c k within next = next_is_in_turn before after t.alignment c k was.step within next
+pub may_give : (before after : Account) (t : Taking) → IsInStep before t → (c k : ℕ) → c < before.channels → IsNext before after (is_open t.alignment) c k → MayGive t.alignment (barrier c k Inline)
+may_give before after t was c k within next = next_is_in_turn before after t.alignment c k Inline was.step within next
 
 -- ---- at a resumption
 

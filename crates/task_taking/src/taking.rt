@@ -120,9 +120,16 @@ impl TaskTaking {
                 Ok(Some(Taken::Line(line)))
             }
             Ok(GateItem::Barrier { channel, k, kind }) => match kind {
-                BarrierKind::Inline => match self.aligner.on_barrier(channel, k) {
+                BarrierKind::Inline => match self
+                    .aligner
+                    .on_barrier(channel, k, BarrierKind::Inline)
+                {
                     Action::Block => Ok(None),
                     Action::SnapshotInline { k } => Ok(Some(Taken::Checkpoint { k })),
+                    // (the task never saves)
+                    Action::Nothing => unreachable!(),
+                    Action::SnapshotFront { .. } => unreachable!(),
+                    Action::Done { .. } => unreachable!(),
                 },
                 BarrierKind::Front => Err(Cause::Peer {
                     fault: PeerFault::Barrier,

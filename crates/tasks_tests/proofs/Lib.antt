@@ -4,3 +4,4 @@ mod CountingJob
 mod OneChannel
 mod RaisingJob
 mod OneRow
+mod Flags

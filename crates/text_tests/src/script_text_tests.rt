@@ -181,16 +181,45 @@ const TEXTS: &[(&[u8], u8, usize, &[u8], &str)] = &[
         b"",
         "script line 2: bad line",
     ),
-    // Lines that are no events.
     (
-        b"open 1 64 4\nsave 1 1",
+        b"open 1 64 4\nsave 1 18446744073709551615\nsaved 1 18446744073709551615",
+        0,
+        0,
+        b"",
+        "",
+    ),
+    (
+        b"open 1 64 4\nsave 1 18446744073709551616",
         0,
         0,
         b"",
         "script line 2: bad line",
     ),
     (
-        b"open 1 64 4\nsaved 1 1",
+        b"open 1 64 4\nsave 1 0",
+        0,
+        0,
+        b"",
+        "script line 2: bad line",
+    ),
+    (
+        b"open 1 64 4\nsaved 1 0",
+        0,
+        0,
+        b"",
+        "script line 2: bad line",
+    ),
+    (
+        b"open 1 64 4\nsaved 2 1",
+        0,
+        0,
+        b"",
+        "script line 2: bad line",
+    ),
+    // Lines that are no events.
+    (b"open 1 64 4\nsave 1", 0, 0, b"", "script line 2: bad line"),
+    (
+        b"open 1 64 4\nsaved 1 1 front",
         0,
         0,
         b"",
@@ -278,6 +307,8 @@ const EVENTS: &[(&str, &str)] = &[
     ("control", "Control"),
     ("poll 2", "Poll { c: 2 }"),
     ("hold 3", "Hold { c: 3 }"),
+    ("save 2 1", "Save { c: 2, k: 1 }"),
+    ("saved 2 7", "Saved { c: 2, k: 7 }"),
     ("pool", "Pool"),
 ];
 
@@ -371,6 +402,21 @@ fn replies_are_printed(rt: HostRuntime) -> Result<(), Fail> {
             },
             "barrier 2 1 front\n",
         ),
+        (Reply::End { c: 2 }, "end 2\n"),
+        (Reply::NotYet { c: 3, k: 7 }, "not yet 3 7\n"),
+        (Reply::Pool { free: 33, lent: 7 }, "pool 33 7\n"),
+    ] {
+        let mut out = ListOf::new(alloc);
+        write_reply(&reply, &mut out)?;
+        assert_eq!(rt; out.as_slice(), text.as_bytes());
+    }
+    Ok(())
+}
+
+#[test]
+fn saved_pieces_are_printed(rt: HostRuntime) -> Result<(), Fail> {
+    let alloc = rt.alloc();
+    for (reply, text) in [
         (
             Reply::SavedOut {
                 c: 2,
@@ -387,8 +433,22 @@ fn replies_are_printed(rt: HostRuntime) -> Result<(), Fail> {
             },
             "saved_out 2 1 -\n",
         ),
-        (Reply::End { c: 2 }, "end 2\n"),
-        (Reply::Pool { free: 33, lent: 7 }, "pool 33 7\n"),
+        (
+            Reply::SavedIn {
+                c: 2,
+                k: 18446744073709551615,
+                bytes: Bytes::of(alloc, &[0, 9, 10, 160, 255])?,
+            },
+            "saved_in 2 18446744073709551615 00090aa0ff\n",
+        ),
+        (
+            Reply::SavedIn {
+                c: 2,
+                k: 1,
+                bytes: Bytes::new(alloc),
+            },
+            "saved_in 2 1 -\n",
+        ),
     ] {
         let mut out = ListOf::new(alloc);
         write_reply(&reply, &mut out)?;

@@ -1,9 +1,10 @@
-use Rattle.std.proofs.Common.{◌≡◌, ◌<◌, [], ◌∷◌, ◌++◌, refl, ap, ◌∙◌, rules}
+use Rattle.std.proofs.Common.{◌≡◌, ◌<◌, [], ◌∷◌, ◌++◌, None, refl, ap, ◌∙◌, rules}
 use Rattle.turn_cell.specs.Passes.{number, seen, mine}
 use Rattle.input_channel.specs.declared.entry.ReceiveEntry.TheVariants.{Added}
 use Rattle.input_channel.specs.Counts.{wants}
-use Rattle.input_channel.specs.Legal.{polled_with, returned}
+use Rattle.input_channel.specs.Legal.{open_save, polled_with, returned}
 use Rattle.input_channel.specs.States.{ChannelState}
+use Rattle.input_channel.proofs.PassLaws.{stays_closed}
 use Rattle.conn_harness.proofs.Channels.{stands_after}
 use Rattle.conn_harness.proofs.InletLaws.{even_same, even_added}
 use Rattle.conn_harness.proofs.inlet.add_in_turn.Goals as goal
@@ -32,3 +33,17 @@ returns-clause-even g c even kind =
     let told : polled_with kind (mine pass) ≡ returned kind (mine pass) =
     even_added (mine c.args.pass.now) (mine pass) (c.leave.ensures.entered.2 ∙ ap (λ es. es ++ Added ∷ []) c.enter-turn.ensures.pass.0.1) even kind in
     search (rules, told)
+
+pub returns-then-wants-eq0-clause-closed : goal.returns-then-wants-eq0-clause-closed
+returns-then-wants-eq0-clause-closed g c closed =
+    let pass = c.leave_as_is.new.self.1.0 in
+    let same : mine pass ≡ mine c.args.pass.now = search rules in
+    let still : open_save (mine pass) ≡ None = ap open_save same ∙ closed in
+    search (rules, still)
+
+pub returns-clause-closed : goal.returns-clause-closed
+returns-clause-closed g c closed =
+    let pass = c.leave.new.self.1.0 in
+    let still : open_save (mine pass) ≡ None =
+    ap open_save (c.leave.ensures.entered.2 ∙ ap (λ es. es ++ Added ∷ []) c.enter-turn.ensures.pass.0.1) ∙ stays_closed (mine c.args.pass.now) Added closed refl in
+    search (rules, still)

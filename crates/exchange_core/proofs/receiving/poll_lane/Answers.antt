@@ -1,17 +1,18 @@
-use Rattle.std.proofs.Common.{rules, ◌≡◌, ◌+◌, ◌++◌, cond, Some, refl, ap, subst, ◌∙◌, arith}
+use Rattle.std.proofs.Common.{rules, ◌≡◌, ◌+◌, ◌++◌, cond, true, [], Some, None, refl, ap, subst, ◌∙◌, arith}
 use Rattle.input_channel.specs.declared.entry.ReceiveEntry.TheVariants as entries
 use Rattle.input_channel.specs.declared.entry.Gave.TheVariants as gaves
 use Rattle.flow_defs.specs.declared.parcel.Parcel.TheVariants as parcels
 use Rattle.input_channel.specs.Answers.{IsBufferOf}
 use Rattle.input_channel.specs.Contents.{content}
 use Rattle.input_channel.specs.Counts.{gave_by}
-use Rattle.input_channel.specs.Inboxes.{poll_gives}
+use Rattle.input_channel.specs.Inboxes.{due, is_barrier, poll_gives}
+use Rattle.input_channel.proofs.PollLemmas.{polled_empty, polled_held}
 use Rattle.input_channel.specs.States.{ChannelState, channel_next}
 use Rattle.local_pool.specs.Locals.{lent_of, limit_of}
 use Rattle.exchange_world.specs.Lanes.{floating_here, behind_records}
 use Rattle.exchange_core.specs.declared.lane.Lane.{Lane}
 use Rattle.exchange_core.specs.Inlets.{GateFollows, with_floats, floating_out, lent_then, polled_back, polled_inbox}
-use Rattle.exchange_core.proofs.Polling.{data_given, gave_is, exclusive_is, floating_polled, follows_again, lane_made}
+use Rattle.exchange_core.proofs.Polling.{data_given, gave_is, exclusive_is, floating_polled, follows_again, lane_made, lane_kept, no_line, none_given}
 use Rattle.exchange_core.proofs.receiving.poll_lane.Goals as goal
 
 pub returns-in_ok-records-in-Buffer-clause-lane : goal.returns-in_ok-records-in-Buffer-clause-lane
@@ -57,3 +58,23 @@ returns-in_ok-records-in-Buffer-clause-gate g c =
     follows_again c.args.pool.now c.args.gate.now c.take_back.new.gate c.ask_floats.new.gate (floating_here lane.inbox) (floating_here c.take_back.new.inbox) (floating_here c.ask_floats.new.inbox)
     (subst (λ n. GateFollows c.args.pool.now c.args.gate.now c.take_back.new.gate n (floating_here c.take_back.new.inbox)) out c.take_back.ensures.gate)
     c.ask_floats.ensures.gate
+
+pub returns-in-Empty-clause-lane : goal.returns-in-Empty-clause-lane
+returns-in-Empty-clause-lane g c =
+    let lane : Lane = c.args.lane.now in
+    let hold = c.args.hold in
+    let none : lane.inbox.queue ≡ [] = search rules in
+    let polled : c.poll.new.self ≡ channel_next lane.inbox (entries.Poll hold gaves.NoBuffer) = search rules in
+    let same : c.poll.new.self ≡ lane.inbox = polled ∙ polled_empty lane.inbox hold none (no_line lane.inbox.line (c.requires.line.0 ∙ none) c.requires.line.1) in
+    lane_kept (limit_of c.args.gate.now) (lent_of c.args.gate.now) hold lane c.poll.new.self (poll_gives hold lane.inbox.queue) same (ap (poll_gives hold) none ∙ none_given hold) c.requires.owed
+
+pub returns-in-Held-clause-lane : goal.returns-in-Held-clause-lane
+returns-in-Held-clause-lane g c =
+    let lane : Lane = c.args.lane.now in
+    let hold = c.args.hold in
+    let stands : is_barrier (due lane.inbox.queue) ≡ true = search rules in
+    let holds : hold ≡ true = search rules in
+    let polled : c.poll.new.self ≡ channel_next lane.inbox (entries.Poll hold gaves.NoBuffer) = search rules in
+    let same : c.poll.new.self ≡ lane.inbox = polled ∙ polled_held lane.inbox hold holds stands c.requires.line.0 in
+    let none : poll_gives hold lane.inbox.queue ≡ None = ap (λ h. poll_gives h lane.inbox.queue) holds ∙ ap (λ b. cond b None (due lane.inbox.queue)) stands in
+    lane_kept (limit_of c.args.gate.now) (lent_of c.args.gate.now) hold lane c.poll.new.self (poll_gives hold lane.inbox.queue) same none c.requires.owed

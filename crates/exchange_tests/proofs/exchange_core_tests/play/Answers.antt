@@ -33,3 +33,13 @@ pub events-preserved-in_ok-write_reply-3 : goal.events-preserved-in_ok-write_rep
 events-preserved-in_ok-write_reply-3 g c =
     played c.args.channels c.events.exchange.world c.step.new.self.world c.events.events.items c.pop.new.self.items c.in-Some.event
     c.connections_stay_sound.ensures.steps c.events.invariant c.in-Some.ensures.items c.in_ok-reply.ensures.world.0
+
+pub events-preserved-in_ok-write_reply-4 : goal.events-preserved-in_ok-write_reply-4
+events-preserved-in_ok-write_reply-4 g c =
+    played c.args.channels c.events.exchange.world c.step.new.self.world c.events.events.items c.pop.new.self.items c.in-Some.event
+    c.connections_stay_sound.ensures.steps c.events.invariant c.in-Some.ensures.items c.in_ok-reply.ensures.world.0
+
+pub events-preserved-in_ok-write_reply-5 : goal.events-preserved-in_ok-write_reply-5
+events-preserved-in_ok-write_reply-5 g c =
+    played c.args.channels c.events.exchange.world c.step.new.self.world c.events.events.items c.pop.new.self.items c.in-Some.event
+    c.connections_stay_sound.ensures.steps c.events.invariant c.in-Some.ensures.items c.in_ok-reply.ensures.world.0

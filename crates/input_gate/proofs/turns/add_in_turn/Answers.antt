@@ -1,11 +1,12 @@
-use Rattle.std.proofs.Common.{rules, ◌≡◌, ◌<◌, ◌++◌, refl, ◌∙◌, ap}
-use Rattle.turn_cell.specs.Passes.{seen, sights}
+use Rattle.std.proofs.Common.{rules, ◌≡◌, ◌<◌, ◌++◌, refl, ◌∙◌, ap, None}
+use Rattle.turn_cell.specs.Passes.{seen, sights, mine}
 use Rattle.input_channel.specs.declared.entry.ReceiveEntry.TheVariants.{Added}
 use Rattle.input_channel.specs.Counts.{wants}
 use Rattle.input_channel.specs.States.{ChannelState}
+use Rattle.input_channel.specs.Legal.{open_save}
 use Rattle.input_gate.specs.Segments.{freed_by}
 use Rattle.input_gate.specs.Turning.{given_to}
-use Rattle.input_gate.proofs.TurnLaws.{Begun, rested_freed, still_freed, state_after, more, rested, rested_given, entered_given}
+use Rattle.input_gate.proofs.TurnLaws.{Begun, rested_freed, still_freed, state_after, more, rested, rested_given, entered_given, still_closed}
 use Rattle.input_gate.proofs.turns.add_in_turn.Goals as goal
 
 pub leave-requires-clause-state : goal.leave-requires-clause-state
@@ -69,3 +70,10 @@ returns-clause-freed g c =
     let q = c.leave.new.self.1.0 in
     let f : freed_by q ≡ freed_by p = still_freed p t c.enter-turn.result.state b kept q Added c.leave.ensures.entered (λ counts. refl) in
     search (rules, f)
+
+pub returns-clause-pass : goal.returns-clause-pass
+returns-clause-pass g c =
+    let p = c.args.pass.now in let t = c.enter-turn.result.pass.now in let e = c.enter-turn.ensures in
+    let b : Begun p t c.enter-turn.result.state = record { first = c.requires.pass.1; same = e.pass.0; later = e.seen; looked = e.looked; own_before = c.requires.pass.0.0.5; own = e.turn.0.0.5; stands = e.state.0 } in
+    let closed : open_save (mine c.leave.new.self.1.0) ≡ None = still_closed p t c.enter-turn.result.state b c.leave.new.self.1.0 Added c.leave.ensures.entered c.requires.pass.2 refl in
+    search (rules, closed)

@@ -1,13 +1,14 @@
-use Rattle.std.proofs.Common.{rules, ◌≡◌, [], ◌∷◌, ◌++◌, refl, ◌∙◌, sym, ap, subst}
+use Rattle.std.proofs.Common.{rules, true≢false, ◌≡◌, [], ◌∷◌, ◌++◌, refl, ◌∙◌, sym, ap, subst, None}
 use Rattle.std.specs.Prelude.{option_to_list}
 use Rattle.turn_cell.specs.History.{entries_of}
-use Rattle.turn_cell.specs.Passes.{opened_with, seen, sights}
+use Rattle.turn_cell.specs.Passes.{opened_with, seen, sights, mine}
 use Rattle.input_channel.specs.declared.entry.ReceiveEntry.TheVariants.{Poll}
 use Rattle.input_channel.specs.Answers.{gave_of, given_by}
 use Rattle.input_channel.specs.States.{ChannelState, ChannelStandsFor}
+use Rattle.input_channel.specs.Legal.{open_save}
 use Rattle.input_gate.specs.Segments.{freed_by}
 use Rattle.input_gate.specs.Turning.{given_to, InputCell}
-use Rattle.input_gate.proofs.TurnLaws.{Begun, ends_in_poll, still_freed, state_after, more, polled_given, next_number, fits}
+use Rattle.input_gate.proofs.TurnLaws.{Begun, begun_closed, ends_in_poll, still_freed, state_after, more, polled_given, next_number, fits, still_closed}
 use Rattle.input_gate.proofs.turns.poll_in_turn.Goals as goal
 
 pub leave_polled-requires-clause-state : goal.leave_polled-requires-clause-state
@@ -64,3 +65,17 @@ returns-clause-ends g c =
     let f = ends_in_poll p t c.enter-turn.result.state b c.passes_tell.ensures.given laws.passes laws.legal c.leave_polled.new.turn.1.0 c.args.hold (gave_of c.in-Ok.polled) c.leave_polled.ensures.entered in
     let last : entries_of (seen c.leave_polled.new.turn.1.0) ≡ f.entries ++ Poll c.args.hold (gave_of c.in-Ok.polled) ∷ [] = f.ends in
     record { entries = f.entries; room = f.room; legal = f.legal; given = f.given; ends = search (rules, last) }
+
+pub returns-clause-pass : goal.returns-clause-pass
+returns-clause-pass g c =
+    let p = c.args.pass.now in let t = c.enter-turn.result.pass.now in let e = c.enter-turn.ensures in
+    let b : Begun p t c.enter-turn.result.state = record { first = c.requires.1; same = e.pass.0; later = e.seen; looked = e.looked; own_before = c.requires.0.0.5; own = e.turn.0.0.5; stands = e.state.0 } in
+    let closed : open_save (mine c.leave_polled.new.turn.1.0) ≡ None = still_closed p t c.enter-turn.result.state b c.leave_polled.new.turn.1.0 (Poll c.args.hold (gave_of c.in-Ok.polled)) c.leave_polled.ensures.entered c.requires.2 refl in
+    search (rules, closed)
+
+pub unreachable-requires : goal.unreachable-requires
+unreachable-requires g c =
+    let p = c.args.pass.now in let t = c.enter-turn.result.pass.now in let e = c.enter-turn.ensures in
+    let b : Begun p t c.enter-turn.result.state = record { first = c.requires.1; same = e.pass.0; later = e.seen; looked = e.looked; own_before = c.requires.0.0.5; own = e.turn.0.0.5; stands = e.state.0 } in
+    let none = ap (λ (channel : ChannelState). channel.save) c.state.ensures.value ∙ begun_closed p t c.enter-turn.result.state b c.requires.2 in
+    true≢false (sym (c.in_default.ensures.answered none))

@@ -1,14 +1,14 @@
-use Rattle.std.proofs.Common.{rules, ◌≡◌, ◌<◌, ◌+◌, ◌++◌, length, refl, ◌∙◌, sym, ap, subst}
+use Rattle.std.proofs.Common.{rules, ◌≡◌, ◌<◌, ◌+◌, ◌++◌, length, refl, ◌∙◌, sym, ap, subst, None}
 use Rattle.std.specs.Prelude.{option_to_list}
 use Rattle.turn_cell.specs.History.{entries_of}
-use Rattle.turn_cell.specs.Passes.{seen, sights}
+use Rattle.turn_cell.specs.Passes.{seen, sights, mine}
 use Rattle.input_channel.specs.declared.entry.ReceiveEntry.TheVariants.{Returned}
-use Rattle.input_channel.specs.Legal.{polled_with, returned}
+use Rattle.input_channel.specs.Legal.{polled_with, returned, open_save}
 use Rattle.input_channel.specs.States.{ChannelState, ChannelStandsFor}
 use Rattle.input_channel.specs.Counts.{frees}
 use Rattle.input_gate.specs.Segments.{freed_by}
 use Rattle.input_gate.specs.Turning.{given_to}
-use Rattle.input_gate.proofs.TurnLaws.{Begun, entered_freed, frees_answer, state_after, more, out_here, entered_given}
+use Rattle.input_gate.proofs.TurnLaws.{Begun, entered_freed, frees_answer, state_after, more, out_here, entered_given, still_closed}
 use Rattle.input_gate.proofs.turns.return_in_turn.Goals as goal
 
 pub recycle-free-requires-clause-given : goal.recycle-free-requires-clause-given
@@ -53,3 +53,10 @@ returns-clause-freed g c =
     ∙ ap (λ (s : ChannelState). freed_by p + frees s.counts (Returned c.args.buf.exclusive)) (sym c.state.ensures.value)
     ∙ ap (λ n. freed_by p + n) (frees_answer old.counts c.args.buf.exclusive c.args.buf.segment c.recycle-free.result c.recycle-free.ensures.floating c.recycle-free.ensures.exclusive) in
     search (rules, f)
+
+pub returns-clause-pass : goal.returns-clause-pass
+returns-clause-pass g c =
+    let p = c.args.pass.now in let t = c.enter-turn.result.pass.now in let e = c.enter-turn.ensures in
+    let b : Begun p t c.enter-turn.result.state = record { first = c.requires.pass.1; same = e.pass.0; later = e.seen; looked = e.looked; own_before = c.requires.pass.0.0.5; own = e.turn.0.0.5; stands = e.state.0 } in
+    let closed : open_save (mine c.leave_returned.new.turn.1.0) ≡ None = still_closed p t c.enter-turn.result.state b c.leave_returned.new.turn.1.0 (Returned c.args.buf.exclusive) c.leave_returned.ensures.entered c.requires.pass.2 refl in
+    search (rules, closed)

@@ -1,7 +1,7 @@
-use Rattle.std.proofs.Common.{rules, ◌≡◌, ◌∷◌, [], ◌++◌, false, true, refl, ◌∙◌, sym, ap, subst}
+use Rattle.std.proofs.Common.{rules, true≢false, ◌≡◌, ◌∷◌, [], ◌++◌, false, true, refl, ◌∙◌, sym, ap, subst, None}
 use Rattle.std.specs.Prelude.{option_to_list}
 use Rattle.turn_cell.specs.History.{entries_of}
-use Rattle.turn_cell.specs.Passes.{number, seen, sights}
+use Rattle.turn_cell.specs.Passes.{number, seen, sights, mine}
 use Rattle.flow_defs.specs.declared.parcel.Parcel.TheVariants as parcels
 use Rattle.flow_defs.specs.declared.task.BarrierKind.TheVariants.{Front}
 use Rattle.input_channel.specs.declared.entry.Gave.TheVariants.{NoBuffer}
@@ -9,9 +9,10 @@ use Rattle.input_channel.specs.declared.entry.ReceiveEntry.TheVariants.{Poll}
 use Rattle.input_channel.specs.Answers.{gave_of, given_by}
 use Rattle.input_channel.specs.Inboxes.{front_waits}
 use Rattle.input_channel.specs.States.{ChannelState, ChannelStandsFor, channel_next}
+use Rattle.input_channel.specs.Legal.{open_save}
 use Rattle.input_gate.specs.Segments.{freed_by}
 use Rattle.input_gate.specs.Turning.{given_to}
-use Rattle.input_gate.proofs.TurnLaws.{Begun, rested_freed, still_freed, state_after, more, rested_given, polled_given, next_number, front_answer, not_buffer, not_end}
+use Rattle.input_gate.proofs.TurnLaws.{Begun, begun_closed, rested_freed, still_freed, state_after, more, rested_given, polled_given, next_number, front_answer, not_buffer, not_end, still_closed}
 use Rattle.input_gate.proofs.turns.take_front.Goals as goal
 
 pub returns-then-not-front_waits-clause-given : goal.returns-then-not-front_waits-clause-given
@@ -107,3 +108,17 @@ returns-clause-freed g c =
     let q = c.leave.new.self.1.0 in
     let f : freed_by q ≡ freed_by p = still_freed p t c.enter-turn.result.state b kept q (Poll false NoBuffer) c.leave.ensures.entered (λ counts. refl) in
     search (rules, f)
+
+pub returns-clause-pass : goal.returns-clause-pass
+returns-clause-pass g c =
+    let p = c.args.pass.now in let t = c.enter-turn.result.pass.now in let e = c.enter-turn.ensures in
+    let b : Begun p t c.enter-turn.result.state = record { first = c.requires.1; same = e.pass.0; later = e.seen; looked = e.looked; own_before = c.requires.0.0.5; own = e.turn.0.0.5; stands = e.state.0 } in
+    let closed : open_save (mine c.leave.new.self.1.0) ≡ None = still_closed p t c.enter-turn.result.state b c.leave.new.self.1.0 (Poll false NoBuffer) c.leave.ensures.entered c.requires.2 refl in
+    search (rules, closed)
+
+pub unreachable-requires : goal.unreachable-requires
+unreachable-requires g c =
+    let p = c.args.pass.now in let t = c.enter-turn.result.pass.now in let e = c.enter-turn.ensures in
+    let b : Begun p t c.enter-turn.result.state = record { first = c.requires.1; same = e.pass.0; later = e.seen; looked = e.looked; own_before = c.requires.0.0.5; own = e.turn.0.0.5; stands = e.state.0 } in
+    let none = ap (λ (channel : ChannelState). channel.save) (c.state-2.ensures.value ∙ c.state.ensures.value) ∙ begun_closed p t c.enter-turn.result.state b c.requires.2 in
+    true≢false (sym (c.in_default.ensures.answered none))

@@ -1,24 +1,23 @@
-use Rattle.std.proofs.Common.{rules, ◌≡◌, ℕ, Bool, true, false, List, [], ◌∷◌, length, vec_len, refl, sym, ap, ◌∙◌}
-use Rattle.std.specs.Prelude.{replicate}
-use Rattle.std.specs.List.{list_any}
-use Rattle.barriers.specs.Alignments.{Alignment}
+use Rattle.std.proofs.Common.{rules, ◌≡◌, true, length, vec_len, ap, ◌∙◌}
+use Rattle.std.specs.Prelude.{slice_set}
+use Rattle.barriers.specs.Alignments.{Alignment, none_of}
+use Rattle.tasks_tests.proofs.Flags.{none_filled}
 use Rattle.tasks_tests.proofs.barriers_tests.give.Goals as goal
-
--- where none has given, all have not
-none_given : (gave : List Bool) → list_any (λ g. g) gave ≡ false → gave ≡ replicate (length gave) false
-none_given [] none = refl
-none_given (true ∷ gave) none = absurd (cc)
-none_given (false ∷ gave) none = ap (λ l. false ∷ l) (none_given gave none)
-
-abbrev stands : ℕ → List Bool → Alignment
-stands closed gave = record { closed = closed; gave = gave }
 
 pub invariant_of-watched-in-SnapshotInline : goal.invariant_of-watched-in-SnapshotInline
 invariant_of-watched-in-SnapshotInline c =
-    let answers = c.in-SnapshotInline.ensures.answers in let new = c.on_barrier-action.new.self in
-    let channels = c.on_barrier-action.ensures.given.channels ∙ ap (λ (a : Alignment). length a.gave) c.args.watched.now.same in
-    let many : length c.args.watched.now.gave.items ≡ vec_len c.args.watched.now.gave = search rules in
+    let old = c.args.watched.now in
+    let many : length old.gave.items ≡ vec_len old.gave = search rules in
     record {
-      same = ap (λ n. stands n new.gave) answers.1
-          ∙ ap (λ l. stands c.in-SnapshotInline.k l) (none_given new.gave answers.2 ∙ ap (λ n. replicate n false) (channels ∙ many) ∙ sym (c.fill.ensures.items (λ y is. is)));
+      same = c.in-SnapshotInline.ensures.answers.2 ∙ ap (λ (a : Alignment). record a { closed = c.in-SnapshotInline.k; gave = none_of a.gave }) old.same ∙
+          ap (λ gave. record { closed = c.in-SnapshotInline.k; gave = gave; saving = old.saving; saved = old.saved.items }) (none_filled old.gave.items c.fill.new.self.items (vec_len old.gave) many (c.fill.ensures.items (λ y is. is)));
+    }
+
+pub invariant_of-watched-in-SnapshotFront : goal.invariant_of-watched-in-SnapshotFront
+invariant_of-watched-in-SnapshotFront c =
+    let old = c.args.watched.now in
+    let many : length old.saved.items ≡ vec_len old.saved = search rules in
+    record {
+      same = c.in-SnapshotFront.ensures.answers.2 ∙ ap (λ (a : Alignment). record a { gave = slice_set a.gave c.args.channel true; saving = true; saved = none_of a.saved }) old.same ∙
+          ap (λ saved. record { closed = old.closed; gave = slice_set old.gave.items c.args.channel true; saving = true; saved = saved }) (none_filled old.saved.items c.fill-in-SnapshotFront.new.self.items (vec_len old.saved) many (c.fill-in-SnapshotFront.ensures.items (λ y is. is)));
     }

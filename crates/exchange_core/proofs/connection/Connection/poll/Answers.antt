@@ -12,7 +12,7 @@ use Rattle.exchange_world.specs.Steps.{polls, polls_item}
 use Rattle.exchange_core.specs.declared.lane.Lane.{Lane}
 use Rattle.exchange_core.specs.Exchanges.{world_of, world_lane, IsLaneOf}
 use Rattle.exchange_core.specs.Inlets.{with_inbox, polled_inbox, polled_rest, polled_reply}
-use Rattle.exchange_core.proofs.Inlets.{old_is, old_lane, lane_now, lane_with, put_as, put_world, acts_as, inbox_size, owed_few, lent_enough}
+use Rattle.exchange_core.proofs.Inlets.{old_is, old_lane, lane_now, lane_with, put_as, put_world, acts_as, inbox_size, inbox_line, owed_few, lent_enough}
 use Rattle.exchange_core.proofs.InletSteps.{polls_is, polls_sound}
 use Rattle.exchange_core.proofs.connection.Connection.poll.Goals as goal
 
@@ -36,6 +36,14 @@ poll_lane-requires-clause-few g c =
     let high = c.requires.channel.1 in
     let few = owed_few b c.args.c (get_or c.as_mut_slice.result.now i c.index-as_mut_slice-c.result) low high (old_is b.lanes.items c.as_mut_slice.result.now i c.index-as_mut_slice-c.result c.as_mut_slice.ensures.value (omega (arith, low, high))) c.requires.whole in
     omega (arith, few)
+
+pub poll_lane-requires-clause-line : goal.poll_lane-requires-clause-line
+poll_lane-requires-clause-line g c =
+    let b = c.args.self.now in
+    let i = c.args.c - 1 in
+    let low = c.requires.channel.0 in
+    let high = c.requires.channel.1 in
+    inbox_line b c.args.c (get_or c.as_mut_slice.result.now i c.index-as_mut_slice-c.result) low high (old_is b.lanes.items c.as_mut_slice.result.now i c.index-as_mut_slice-c.result c.as_mut_slice.ensures.value (omega (arith, low, high))) c.requires.whole
 
 pub poll_lane-requires-clause-lent : goal.poll_lane-requires-clause-lent
 poll_lane-requires-clause-lent g c =

@@ -7,12 +7,15 @@ use Rattle.input_channel.specs.Counts.{Counts, with_data}
 use Rattle.input_channel.specs.States.{ChannelState}
 use Rattle.input_channel.specs.Steps.{with_data_in}
 use Rattle.input_channel.specs.Lines.{Line, kinds_of}
-use Rattle.input_channel.specs.Kept.{AreOfLength, counts_of, queue_of, ArePartsKept, state_of}
+use Rattle.input_channel.specs.Lines.{parcels as line_parcels}
+use Rattle.input_channel.specs.Kept.{AreOfLength, counts_of, queue_of, line_of, ArePartsKept, state_of}
 use Rattle.input_channel.specs.Contents.{content}
 use Rattle.input_channel.proofs.CountLemmas.{count-snoc}
 use Rattle.input_channel.proofs.PollLemmas.{accepts_data}
-use Rattle.input_channel.proofs.KeptLemmas.{free_taken, kinds-all, kinds-more, length-kinds, buffers-more, both, no_end, same_counts}
-use Rattle.flow_defs.proofs.ParcelLemmas.{barriers_of-append}
+use Rattle.input_channel.proofs.KeptLemmas.{free_taken, kinds-all, kinds-more, length-kinds, buffers-more, all_three, no_end, same_counts}
+use Rattle.input_channel.specs.Inboxes.{Arrived, Waits, waiting}
+use Rattle.input_channel.proofs.InboxLaws.{waiting-append}
+use Rattle.input_channel.proofs.TakingLemmas.{data_more}
 use Rattle.input_channel.proofs.channel.InputChannel.accept_data.Goals as goal
 
 pub push_data-requires : goal.push_data-requires
@@ -37,8 +40,10 @@ invariant_of-self-2 c =
     ap kinds_of held ∙ kinds-more f.queue.buffers buf ∙ ap (λ b. kinds_of f.queue.buffers ++ b ∷ []) c.filled.ensures.kind in
     let exs = ap (λ bs. Rattle.std.specs.Prelude.count_by (λ x. x) bs) kinds ∙ count-snoc (λ x. x) (kinds_of f.queue.buffers) t.result.1 in
     let fls = ap (λ bs. Rattle.std.specs.Prelude.count_by Rattle.std.proofs.Common.not bs) kinds ∙ count-snoc Rattle.std.proofs.Common.not (kinds_of f.queue.buffers) t.result.1 in
-    let parcels_are : c.push_data.new.self.parcels ≡ f.queue.parcels ++ parcels.Data (content buf) ∷ [] = ap (λ (l : Line). l.parcels) c.push_data.ensures in
-    let barriers = ap (λ ps. length (Rattle.flow_defs.specs.Parcels.barriers_of ps)) parcels_are ∙ ap length (barriers_of-append f.queue.parcels (parcels.Data (content buf) ∷ [])) ∙ ap length (Rattle.std.proofs.Common.append-nil _) in
+    let arrived : c.push_data.new.self.arrived ≡ f.queue.arrived ++ Waits (parcels.Data (content buf)) ∷ [] = ap (λ (l : Line). l.arrived) c.push_data.ensures in
+    let more = data_more (content buf) f.queue.arrived c.push_data.new.self.arrived arrived in
+    let all = more.all in
+    let waits = more.waits in
     let size : length buf.segment ≡ f.size = c.filled.ensures.size ∙ taken.segment_size in
     let one : cond t.result.1 1 0 + cond (Rattle.std.proofs.Common.not t.result.1) 1 0 ≡ 1 = elim t.result.1 as (λ b. cond b 1 0 + cond (Rattle.std.proofs.Common.not b) 1 0 ≡ 1) [ true ↦ refl | false ↦ refl ] in
     let ex_less = taken.exclusive_less in
@@ -54,7 +59,8 @@ invariant_of-self-2 c =
       exclusive_sizes = taken.exclusive_sizes;
       floating_sizes = taken.floating_sizes;
       queue_sizes = subst (AreOfLength f.size) (sym held) (buffers-more f.size f.queue.buffers buf is.queue_sizes size);
-      resumptions = omega (arith, barriers, is.resumptions);
+      barriers = omega (arith, all, is.barriers);
+      resumptions = omega (arith, waits, is.resumptions);
       announced = is.announced;
       received = omega arith;
       last = is.last;
@@ -74,15 +80,18 @@ returns-clause-accepted c =
     let held : c.push_data.new.self.buffers ≡ f.queue.buffers ++ buf ∷ [] = ap (λ (l : Line). l.buffers) c.push_data.ensures in
     let marks_are : kinds_of c.push_data.new.self.buffers ≡ kinds_of f.queue.buffers ++ Rattle.std.proofs.Common.eqb (length f.floating.items) 0 ∷ [] =
     ap kinds_of held ∙ kinds-more f.queue.buffers buf ∙ ap (λ b. kinds_of f.queue.buffers ++ b ∷ []) (c.filled.ensures.kind ∙ t.ensures.kind) in
-    let parcels_are : c.push_data.new.self.parcels ≡ f.queue.parcels ++ parcels.Data bytes ∷ [] =
-    ap (λ (l : Line). l.parcels) c.push_data.ensures ∙ ap (λ bs. f.queue.parcels ++ parcels.Data bs ∷ []) c.filled.ensures.content in
+    let arrived : c.push_data.new.self.arrived ≡ f.queue.arrived ++ Waits (parcels.Data bytes) ∷ [] =
+    ap (λ (l : Line). l.arrived) c.push_data.ensures ∙ ap (λ bs. f.queue.arrived ++ Waits (parcels.Data bs) ∷ []) c.filled.ensures.content in
+    let parcels_are : line_parcels c.push_data.new.self ≡ line_parcels f.queue ++ parcels.Data bytes ∷ [] = ap waiting arrived ∙ waiting-append f.queue.arrived (Waits (parcels.Data bytes) ∷ []) in
     let closed : f.ended ≡ false = ap (λ (s : ChannelState). s.ended) view_is ∙ c.requires in
     let none : f.end_waits ≡ false = no_end f.end_waits f.ended is.end closed in
     let queue_is : queue_of c.push_data.new.self f.end_waits ≡ queue_of f.queue f.end_waits ++ parcels.Data bytes ∷ [] =
     ap (queue_of c.push_data.new.self) none ∙ parcels_are ∙ ap (λ b. queue_of f.queue b ++ parcels.Data bytes ∷ []) (sym none) in
+    let line_is : line_of c.push_data.new.self f.end_waits ≡ line_of f.queue f.end_waits ++ Waits (parcels.Data bytes) ∷ [] =
+    ap (line_of c.push_data.new.self) none ∙ arrived ∙ ap (λ b. line_of f.queue b ++ Waits (parcels.Data bytes) ∷ []) (sym none) in
     let counts_are : counts_of t.new.exclusive.items t.new.floating.items c.push_data.new.self f.pending f.required f.is_shut ≡ with_data v.counts =
     same_counts v.counts _ _ _ _ _ _ taken.exclusive_is taken.floating_is marks_are in
     let after : ChannelState = with_data_in v bytes in (
       subst (λ (s : ChannelState). kind_refused s kinds.Buffer bytes ≡ None) view_is (accepts_data v bytes c.if-parts-eq0.false c.if-bytes-parts.false),
-      both (λ (q : List Parcel) (k : Counts). record after { queue = q; counts = k }) _ _ _ _ queue_is counts_are ∙ ap (λ (s : ChannelState). with_data_in s bytes) view_is,
+      all_three (λ (q : List Parcel) (l : List Arrived) (k : Counts). record after { queue = q; line = l; counts = k }) _ _ _ _ _ _ queue_is line_is counts_are ∙ ap (λ (s : ChannelState). with_data_in s bytes) view_is,
     )

@@ -31,6 +31,7 @@ invariant_of-self c =
       exclusive_sizes = is.exclusive_sizes;
       floating_sizes = subst (HaveLength f.size) (sym held) (lengths-more f.size f.floating.items c.args.segment is.floating_sizes size);
       queue_sizes = is.queue_sizes;
+      barriers = is.barriers;
       resumptions = is.resumptions;
       announced = is.announced;
       received = is.received;

@@ -4,7 +4,7 @@ use Rattle.flow_defs.specs.Limits.{credit_max}
 use Rattle.flow_defs.specs.declared.task.BarrierKind.TheVariants.{Front}
 use Rattle.subpartition.specs.declared.item.Item.{Item}
 use Rattle.subpartition.specs.declared.item.Item.TheVariants.{Barrier}
-use Rattle.subpartition.specs.Barriers.{up_to_last, behind_last}
+use Rattle.flow_defs.specs.Barriers.{up_to_last, behind_last}
 use Rattle.subpartition.specs.Queues.{Queue, backlog_of, data_in, is_mark, overtaken_in, with_front_barrier}
 use Rattle.subpartition.proofs.Fronts.{back_is, cut_in_two, put_between}
 use Rattle.subpartition.proofs.Items.{backlog_with_barrier_in}

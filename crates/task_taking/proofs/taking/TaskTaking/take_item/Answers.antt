@@ -6,7 +6,7 @@ use Rattle.flow_defs.specs.declared.task.BarrierKind.TheVariants.{Inline}
 use Rattle.flow_defs.specs.Jobs.{exchange, is_channel}
 use Rattle.plain_machine.specs.Histories.{run_senders}
 use Rattle.plain_machine.specs.Images.{AreRuns}
-use Rattle.barriers.specs.Alignments.{Answers, barrier}
+use Rattle.barriers.specs.Alignments.{Alignment, Answers, barrier}
 use Rattle.record_writer.specs.Writers.{sender_at}
 use Rattle.gate_account.specs.Accounts.{GaveBarrier}
 use Rattle.gate_account.proofs.Takings.{blocks_others, snapshots_at_last}
@@ -83,16 +83,16 @@ returns-after-on_barrier-clause-goes_on g c =
     let closed_is : s.aligner.closed ≡ c.args.self.now.alignment.closed = ap (λ (x : Taking). x.alignment.closed) c.self.view_is in
     elim c.match-on_barrier.branch [
       | in-Block w ↦
-          let answers = subst (λ action. Answers (barrier i k) s.aligner action c.on_barrier.new.self) w.in-Block.is c.on_barrier.ensures.answers in
+          let answers = subst (λ action. Answers (barrier i k Inline) s.aligner action c.on_barrier.new.self) w.in-Block.is c.on_barrier.ensures.answers in
           subst (GoesOnFrom after c.args.self.now t') (sym w.result-is)
-          (step_block before after t t' c.next.ensures.same.1 (record { exchange = refl; index = refl; channels = refl }) in_step i k gave.0 gave.1 c.on_barrier.ensures.after (blocks_others s.aligner i k (sym c.on_barrier.ensures.action ∙ w.in-Block.is)), answers.0 ∙ closed_is)
+          (step_block before after t t' c.next.ensures.same.1 (record { exchange = refl; index = refl; channels = refl }) in_step i k gave.0 gave.1 c.on_barrier.ensures.after (blocks_others s.aligner i k (sym c.on_barrier.ensures.action ∙ w.in-Block.is)), ap (λ (a : Alignment). a.closed) answers.1 ∙ closed_is)
       | in-SnapshotInline w ↦
-          let answers = subst (λ action. Answers (barrier i k) s.aligner action c.on_barrier.new.self) w.in-SnapshotInline.is c.on_barrier.ensures.answers in
+          let answers = subst (λ action. Answers (barrier i k Inline) s.aligner action c.on_barrier.new.self) w.in-SnapshotInline.is c.on_barrier.ensures.answers in
           let n = w.in-SnapshotInline.k in
-          let told : n ≡ k = answers.0 in
+          let told : n ≡ k = answers.1 in
           let number : k ≡ s.aligner.closed + 1 = may.number in
           subst (GoesOnFrom after c.args.self.now t') (sym w.result-is)
-          (all_blocked before after t t' c.next.ensures.same.1 (record { exchange = refl; index = refl; channels = refl }) in_step i k gave.0 gave.1 c.on_barrier.ensures.after (snapshots_at_last s.aligner i k n (sym c.on_barrier.ensures.action ∙ w.in-SnapshotInline.is)) answers.2, answers.1, omega (arith, told, number, closed_is))
+          (all_blocked before after t t' c.next.ensures.same.1 (record { exchange = refl; index = refl; channels = refl }) in_step i k gave.0 gave.1 c.on_barrier.ensures.after (snapshots_at_last s.aligner i k n (sym c.on_barrier.ensures.action ∙ w.in-SnapshotInline.is)) answers.3, ap (λ (a : Alignment). a.closed) answers.2, omega (arith, told, number, closed_is))
     ]
 
 pub returns-after-on_barrier-clause-took : goal.returns-after-on_barrier-clause-took
@@ -115,9 +115,9 @@ returns-after-on_barrier-clause-took g c = λ job e b groups took has.
           (taken_block job e b before after shows shown c.next.ensures.kept t t' groups took c.next.ensures.same.1 (record { exchange = refl; index = refl; channels = refl }) was i k gave c.on_barrier.ensures.after c.make_room.ensures.same
           (blocks_others s.aligner i k (sym c.on_barrier.ensures.action ∙ w.in-Block.is)))
       | in-SnapshotInline w ↦
-          let answers = subst (λ action. Answers (barrier i k) s.aligner action c.on_barrier.new.self) w.in-SnapshotInline.is c.on_barrier.ensures.answers in
+          let answers = subst (λ action. Answers (barrier i k Inline) s.aligner action c.on_barrier.new.self) w.in-SnapshotInline.is c.on_barrier.ensures.answers in
           let n = w.in-SnapshotInline.k in
-          let told : n ≡ k = answers.0 in
+          let told : n ≡ k = answers.1 in
           let number : k ≡ s.aligner.closed + 1 = may.number in
           let closed : length groups ≡ s.aligner.closed = was.taking.counted in
           subst (TookItem job e b after shown t' groups took) (sym w.result-is) (

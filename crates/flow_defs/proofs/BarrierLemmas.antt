@@ -4,7 +4,7 @@ use Rattle.std.specs.List.{list_any}
 use Rattle.flow_defs.specs.declared.parcel.Parcel.{Parcel}
 use Rattle.flow_defs.specs.declared.parcel.Parcel.TheVariants.{Data, Barrier, End}
 use Rattle.flow_defs.specs.Parcels.{data_of, barriers_of}
-use Rattle.subpartition.specs.Barriers.{data_before, has_barrier, is_barrier}
+use Rattle.flow_defs.specs.Barriers.{data_before, has_barrier, is_barrier}
 
 or_assoc : (a b c : Bool) → (a || (b || c)) ≡ ((a || b) || c)
 or_assoc true b c = refl

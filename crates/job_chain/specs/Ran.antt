@@ -31,31 +31,45 @@ use Rattle.stage_task.specs.Stages.{StageAccount}
 use Rattle.aggregate_task.specs.Aggregates.{AggregateAccount}
 use Rattle.collecting_worker.specs.Laws.{AreCollected}
 
+-- ---- what is told
+
+-- What is told of the tasks of a job, by stage and task: from where they went on, the bytes of its sources, the passes by which the tasks sent
+-- and those of their gates, and the snapshots that they sent.
+pub record TasksRan : Type 0 where
+  pub job : Job
+  pub size : ℕ
+  pub start : Start
+  pub every : Option ℕ
+  pub bytes : ℕ → List ℕ
+  pub own : ℕ → ℕ → List SendPass
+  pub gate : ℕ → ℕ → List InputPass
+  pub sent : ℕ → ℕ → List Snapshot
+
 -- ---- what each did, whatever its cause
 
--- A source of these bytes, by its passes and its snapshots.
-pub record SourceDid (job : Job) (a size : ℕ) (start : Start) (every : Option ℕ) (bytes : List ℕ) (own : List SendPass) (sent : List Snapshot) : Type 0 where
+-- A source, by its passes and its snapshots.
+pub record SourceDid (all : TasksRan) (a : ℕ) : Type 0 where
   pub history : List (ℕ × Stored)
   pub fell : ℕ
   pub rose : ℕ
   pub cause : Cause
-  pub account : SourceAccount job a size start every own sent history (Some bytes) fell rose cause
+  pub account : SourceAccount all.job a all.size all.start all.every (all.own 0 a) (all.sent 0 a) history (Some (all.bytes a)) fell rose cause
 
 -- A stateless task, by the passes of its gate besides, which show how its channels were cut.
-pub record StageDid (job : Job) (e b size : ℕ) (start : Start) (every : Option ℕ) (gate : List InputPass) (own : List SendPass) (sent : List Snapshot) : Type 0 where
+pub record StageDid (all : TasksRan) (e b : ℕ) : Type 0 where
   pub gate_account : Account
   pub history : List (ℕ × Stored)
   pub takes : List TakeRun
   pub cause : Cause
-  pub account : StageAccount job e b size start every gate_account (shows_at gate) own sent history takes cause
+  pub account : StageAccount all.job e b all.size all.start all.every gate_account (shows_at (all.gate e b)) (all.own (suc e) b) (all.sent (suc e) b) history takes cause
 
 -- A task of the aggregate.
-pub record AggregateDid (job : Job) (b : ℕ) (start : Start) (every : Option ℕ) (gate : List InputPass) (sent : List Snapshot) : Type 0 where
+pub record AggregateDid (all : TasksRan) (b : ℕ) : Type 0 where
   pub gate_account : Account
   pub history : List (ℕ × Stored)
   pub takes : List TakeRun
   pub cause : Cause
-  pub account : AggregateAccount job b start every gate_account (shows_at gate) sent history takes cause
+  pub account : AggregateAccount all.job b all.start all.every gate_account (shows_at (all.gate (last_edge all.job) b)) (all.sent (suc (last_edge all.job)) b) history takes cause
 
 -- The channel from task a to task b is number `way` of those on which a sends, and number `lane` of those from which b takes. Both cells were
 -- closed, and the pass of a has its own entries in what it has seen.
@@ -73,23 +87,11 @@ pub record EndsAt (job : Job) (e a b : ℕ) (own : List SendPass) (gate : List I
 
 -- ---- the run
 
--- What is told of the tasks of a job, by stage and task: from where they went on, the bytes of its sources, the passes by which the tasks sent
--- and those of their gates, and the snapshots that they sent.
-pub record TasksRan : Type 0 where
-  pub job : Job
-  pub size : ℕ
-  pub start : Start
-  pub every : Option ℕ
-  pub bytes : ℕ → List ℕ
-  pub own : ℕ → ℕ → List SendPass
-  pub gate : ℕ → ℕ → List InputPass
-  pub sent : ℕ → ℕ → List Snapshot
-
 -- All workers of a job ran so, and these images were stored behind the base.
 pub record JobRan (all : TasksRan) (base : Image) (images : List Image) : Type 0 where
-  pub sources : (a : ℕ) → a < tasks all.job 0 → SourceDid all.job a all.size all.start all.every (all.bytes a) (all.own 0 a) (all.sent 0 a)
-  pub stages : (e b : ℕ) → e < last_edge all.job → b < tasks all.job (suc e) → StageDid all.job e b all.size all.start all.every (all.gate e b) (all.own (suc e) b) (all.sent (suc e) b)
-  pub aggregates : (b : ℕ) → b < tasks all.job (suc (last_edge all.job)) → AggregateDid all.job b all.start all.every (all.gate (last_edge all.job) b) (all.sent (suc (last_edge all.job)) b)
+  pub sources : (a : ℕ) → a < tasks all.job 0 → SourceDid all a
+  pub stages : (e b : ℕ) → e < last_edge all.job → b < tasks all.job (suc e) → StageDid all e b
+  pub aggregates : (b : ℕ) → b < tasks all.job (suc (last_edge all.job)) → AggregateDid all b
   pub channels : (e a b : ℕ) → is_channel all.job e a b ≡ true → EndsAt all.job e a b (all.own e a) (all.gate e b)
   pub snapshot : ℕ → ℕ → ℕ → Snapshot
   pub collected : AreCollected all.job all.every base images all.sent snapshot

@@ -5,6 +5,7 @@ use Rattle.std.specs.List.{AllByRecursion, last_or}
 use Rattle.std.proofs.lemmas.Bool.{cases_lt}
 use Rattle.turn_cell.specs.Passes.{mine, seen}
 use Rattle.flow_defs.specs.Lines.{lines}
+use Rattle.flow_defs.specs.declared.cause.Cause.{Cause}
 use Rattle.flow_defs.specs.declared.image.Image.{Image}
 use Rattle.flow_defs.specs.declared.image.Saved.{Saved}
 use Rattle.flow_defs.specs.declared.image.Snapshot.{Snapshot}
@@ -13,6 +14,7 @@ use Rattle.flow_defs.specs.Jobs.{last_edge, tasks}
 use Rattle.plain_machine.specs.Chains.{Chain}
 use Rattle.plain_machine.proofs.Channels.{ends_of}
 use Rattle.plain_machine.specs.Spelling.{CanSpell}
+use Rattle.outside.specs.declared.stop.StopEntry.{StopEntry}
 use Rattle.job_start.specs.declared.start.Start.{Start}
 use Rattle.checkpoint_laws.specs.Chapters.{task_at}
 use Rattle.checkpoint_laws.specs.Collecting.{Collected, piece}
@@ -31,12 +33,12 @@ use Rattle.job_chain.proofs.Tasks.{contained, source_none, stage_none, aggregate
 use Rattle.job_workers.specs.declared.collecting.CollectTask.{CollectTask}
 use Rattle.job_workers.specs.declared.place.Place.{Place}
 use Rattle.job_workers.specs.declared.place.Place.TheVariants.{Ended}
-use Rattle.job_ends.specs.Ended.{own_at, gate_at, snapshots_at}
+use Rattle.job_ends.specs.Ended.{snapshots_at}
 use Rattle.job_outcome.specs.Outcomes.{AreTold}
 use Rattle.job_outcome.specs.Storing.{StoredFrom, TooLargeFrom}
 use Rattle.job_outcome.specs.Theorems.{HaveRun, Run, start_of, bases_of, AreSettledWith, StoredImagesAreChain, KeeperGotImages}
 use Rattle.job_outcome.specs.Words.{WorldWords}
-use Rattle.job_outcome.proofs.Jobs.{source_did, stage_did, aggregate_did}
+use Rattle.job_outcome.proofs.Jobs.{tasks_ran, source_did, stage_did, aggregate_did}
 
 -- ---- nothing is in flight
 
@@ -102,26 +104,17 @@ interval_of every h n is = subst (λ (o : Option ℕ). IfSome o (λ (m : ℕ). 1
 pub same_end : (place : Place CollectTask CollectEnd) (x y : CollectEnd) → place ≡ Ended x → place ≡ Ended y → x ≡ y
 same_end place x y e f = cc
 
--- What is told of the tasks of a run over these bytes.
-abbrev pub tasks_ran : {S O I : Type 0} → Run S O I → (ℕ → List ℕ) → TasksRan
-tasks_ran run bytes = record {
-  job = run.job;
-  size = run.size;
-  start = start_of run.snapshots;
-  every = run.every;
-  bytes = bytes;
-  own = own_at run.rows;
-  gate = gate_at run.rows;
-  sent = snapshots_at run.rows;
-}
-
 module _ {S O I L N : Type 0} {words : WorldWords S O I L N} {run : Run S O I} (ran : HaveRun words run) where
   open run use {job, every, snapshots, inputs, before, after, fell, rose, rows, collected}
 
   module _ (end : CollectEnd) (is : collected ≡ Ended end) where
-    -- The account of the worker that collected, of this job and interval.
+    -- What the worker that collected tells of itself, of this job and interval, by the faults that it counted, what it met and its cause.
+    abbrev TellsOf : Job → Start → Option ℕ → CollectEnd → ℕ → ℕ → List (ℕ × StopEntry) → Cause → Type 0
+    TellsOf j s n x = CollectAccount j s n (received_by x.collecting) before after (mine x.last_pass) x.last
+
+    -- Its account.
     abbrev AccountOf : Job → Start → Option ℕ → CollectEnd → Type 0
-    AccountOf j s n x = CollectAccount j s n (received_by x.collecting) before after (mine x.last_pass) x.last fell rose (seen x.stop_pass) x.cause
+    AccountOf j s n x = TellsOf j s n x fell rose (seen x.stop_pass) x.cause
 
     pub account_of : AccountOf job (start_of snapshots) every end
     account_of =
@@ -145,8 +138,8 @@ module _ {S O I L N : Type 0} {words : WorldWords S O I L N} {run : Run S O I} (
           ((snapshot : ℕ → ℕ → ℕ → Snapshot) × AreCollected job every base images (snapshots_at rows) snapshot) → JobRan (tasks_ran run bytes) base images
       ran_behind base images c = record {
         sources = λ a low. (source_did ran bytes told a low).0;
-        stages = stage_did ran;
-        aggregates = aggregate_did ran;
+        stages = stage_did ran bytes;
+        aggregates = aggregate_did ran bytes;
         channels = λ e a b channel. settled.edges e (ends_of job e a b channel).edge a b channel;
         snapshot = c.0;
         collected = c.1;
@@ -160,8 +153,9 @@ module _ {S O I L N : Type 0} {words : WorldWords S O I L N} {run : Run S O I} (
         -- What all workers did.
         pub job_ran : (base : Image) → Bases base → JobRan (tasks_ran run bytes) base account_of.images
         job_ran base may =
-            let collected_are = collects job (start_of snapshots) every base (received_by end.collecting) before after (mine end.last_pass) account_of.images in
-            ran_behind base account_of.images (collected_are (snapshots_at rows) may.is_base account_of.stored beginnings)
+            let collected_by = collects job (start_of snapshots) every base (received_by end.collecting) before after in
+            let collected_are = collected_by (mine end.last_pass) account_of.images (snapshots_at rows) may.is_base account_of.stored beginnings in
+            ran_behind base account_of.images collected_are
 
         has_stored : RanIsChain → (base : Image) → Bases base → StoredFrom Bases job (λ a. lines (bytes a)) every before after
         has_stored chains base may = record {
@@ -217,7 +211,9 @@ module _ {S O I L N : Type 0} {words : WorldWords S O I L N} {run : Run S O I} (
       AreTold words.left inputs bytes → AreSettledWith job rows end →
       (stored : StoredFrom (bases_of run bytes) job (λ a. lines (bytes a)) every before after) × (end.last ≡ last_or None stored.images)
   unfolding has_stored
-  stored_by collects chains end bytes base may is told settled = (has_stored end is bytes told settled collects chains base may, (account_of end is).last_is)
+  stored_by collects chains end bytes base may is told settled =
+      let stored = has_stored end is bytes told settled in
+      (stored collects chains base may, (account_of end is).last_is)
 
 -- ---- the laws
 

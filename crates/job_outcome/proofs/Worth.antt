@@ -28,8 +28,8 @@ use Rattle.snapshot_channel.specs.Snapshots.{has_ended}
 use Rattle.job_outcome.specs.Theorems.{HaveRun, Run, start_of, bases_of, AreSettledWith, DoneWorkersHaveWorth, DoneCollectorHasLast}
 use Rattle.job_outcome.specs.Words.{WorldWords}
 use Rattle.job_outcome.proofs.Running.{source_at}
-use Rattle.job_outcome.proofs.Jobs.{source_did}
-use Rattle.job_outcome.proofs.Chaining.{account_of, interval_of, tasks_ran, job_ran}
+use Rattle.job_outcome.proofs.Jobs.{tasks_ran, source_did}
+use Rattle.job_outcome.proofs.Chaining.{account_of, interval_of, job_ran}
 
 -- ---- lines and images
 
@@ -103,7 +103,8 @@ module _ {S O I L N : Type 0} {words : WorldWords S O I L N} {run : Run S O I} (
         AreTold words.left inputs bytes → bases_of run bytes base → AreSettledWith job rows end → join job.agg image.tables.items ≡ worth job (λ a. lines (bytes a)) (cut_of job base)
     worth_is {end = end} {image = image} is is_done last bytes base told may settled =
         let same = last_stored end is is_done image last base in
-        let did = job_ran ran end is bytes told settled collects base may in
+        let did_behind = job_ran ran end is bytes told settled collects in
+        let did = did_behind base may in
         let worth_of = worths (tasks_ran run bytes) base (account_of ran end is).images ran.is_job (interval_of every ran.interval) may did in
         subst (λ (x : Image). join job.agg x.tables.items ≡ worth job (λ a. lines (bytes a)) (cut_of job base)) same
         (worth_of (subst (λ (x : Image). x.final_one ≡ true) (sym same) (final end is is_done image last)))

@@ -217,7 +217,9 @@ module _ {S O I L N : Type 0} {words : WorldWords S O I L N} {run : Run S O I} (
     chained : (end : CollectEnd) → collected ≡ Ended end → LinksTell words.sent words.got → (bytes : ℕ → List ℕ) → AreTold words.left inputs bytes →
         (base : Image) → bases_of run bytes base →
         (stored : StoredFrom (bases_of run bytes) job (λ a. lines (bytes a)) every run.before run.after) × (end.last ≡ last_or None stored.images)
-    chained end is tell bytes told base may = laws.are_chain run end bytes base ran may is told (wound.settled tell end is)
+    chained end is tell bytes told base may =
+        let are_chain = laws.are_chain run end bytes base ran in
+        are_chain may is told (wound.settled tell end is)
 
     -- A worker that was done has marked it so.
     done_final : (end : CollectEnd) (image : Image) → collected ≡ Ended end → end.last ≡ Some image → AllDone rows loops collected → image.final_one ≡ true
@@ -246,8 +248,8 @@ module _ {S O I L N : Type 0} {words : WorldWords S O I L N} {run : Run S O I} (
         record {
           worth_is = λ tell bytes told base may.
               let joined = answer.table.1 in
-              let worth_of = laws.done_worth run joined.end bytes base joined.table_of.image ran may joined.end_is joined.table_of.image_is in
-              let both = worth_of answer.table.0 told (wound.settled tell joined.end joined.end_is) in
+              let worth_of = laws.done_worth run joined.end bytes base joined.table_of.image ran may in
+              let both = worth_of joined.end_is joined.table_of.image_is answer.table.0 told (wound.settled tell joined.end joined.end_is) in
               (both.1, joined.table_of.table_is ∙ both.0);
           cause = tt;
           inputs = come;
